@@ -1,0 +1,15 @@
+use Rattle.matter.specs.All.{all}
+use Rattle.color.specs.Form.{colorForm}
+use borrow.Author.Needs.{needs}
+use Rattle.color.proofs.Color.in_form.Statement.{statement}
+use Rattle.color.proofs.Color.in_form.Tie as tie
+
+modes-agree-requires : tie.Need-modes-agree-requires
+modes-agree-requires c κs = search needs
+
+returns : tie.Need-returns
+unfolding colorForm all
+returns c = simp (c .before .before .before .before .before .before .before .before .before .modes-agree .ensures)
+
+pub in-form-spec : {M : Type 1} → statement M
+in-form-spec = tie.close (tie.spec modes-agree-requires returns)

@@ -1,0 +1,35 @@
+use Rattle.color.specs.Setters.{setHue}
+use borrow.Author.Needs.{needs}
+use Rattle.color.proofs.Color.set_hue.Statement.{statement}
+use Rattle.color.proofs.Color.set_hue.Tie as tie
+
+returns : tie.Need-returns
+unfolding setHue
+returns c = simp (c .if1 .taken)
+
+is-due-requires : tie.Need-is-due-requires
+is-due-requires c κs = search needs
+
+stamp-at-requires : tie.Need-stamp-at-requires
+stamp-at-requires c κs = search needs
+
+hue-mode-requires : tie.Need-hue-mode-requires
+hue-mode-requires c κs = search needs
+
+tell-change-requires : tie.Need-tell-change-requires
+tell-change-requires c κs = search needs
+
+returns-2 : tie.Need-returns-2
+unfolding setHue
+returns-2 c = simp (c .tell-change .ensures, c .before .hue-mode .ensures, c .before .before .stamp-at .ensures, c .before .before .before .is-due .ensures, c .before .before .before .before .before .if1 .left)
+
+pub set-hue-spec : {M : Type 1} → statement M
+set-hue-spec =
+    tie.close
+    (tie.spec
+    returns
+    is-due-requires
+    stamp-at-requires
+    hue-mode-requires
+    tell-change-requires
+    returns-2)

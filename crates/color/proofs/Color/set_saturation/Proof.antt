@@ -1,0 +1,35 @@
+use Rattle.color.specs.Setters.{setSaturation}
+use borrow.Author.Needs.{needs}
+use Rattle.color.proofs.Color.set_saturation.Statement.{statement}
+use Rattle.color.proofs.Color.set_saturation.Tie as tie
+
+returns : tie.Need-returns
+unfolding setSaturation
+returns c = simp (c .if1 .taken)
+
+is-due-requires : tie.Need-is-due-requires
+is-due-requires c κs = search needs
+
+stamp-at-requires : tie.Need-stamp-at-requires
+stamp-at-requires c κs = search needs
+
+kept-hue-mode-requires : tie.Need-kept-hue-mode-requires
+kept-hue-mode-requires c κs = search needs
+
+tell-change-requires : tie.Need-tell-change-requires
+tell-change-requires c κs = search needs
+
+returns-2 : tie.Need-returns-2
+unfolding setSaturation
+returns-2 c = simp (c .tell-change .ensures, c .before .kept-hue-mode .ensures, c .before .before .stamp-at .ensures, c .before .before .before .is-due .ensures, c .before .before .before .before .before .if1 .left)
+
+pub set-saturation-spec : {M : Type 1} → statement M
+set-saturation-spec =
+    tie.close
+    (tie.spec
+    returns
+    is-due-requires
+    stamp-at-requires
+    kept-hue-mode-requires
+    tell-change-requires
+    returns-2)

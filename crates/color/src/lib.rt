@@ -1,0 +1,273 @@
+// The colour: hue, saturation, mireds, the two modes, and when each was last told. Its making and its form, and the
+// setters with what they tell: document 01, leaves 4 and 5.
+// Carried over from project-chip/rs-matter, commit 43f61585a4 (Apache-2.0, see NOTICE), and changed.
+use matter::Bounds;
+use matter::ColorModeEnum;
+use matter::EnhancedColorModeEnum;
+use matter::color_mode_of;
+use matter::default_color_mode;
+use notices::Notices;
+use progress::brought_within;
+ghost use mathlib.Core.Path.{_≡_};
+ghost use mathlib.Core.Bool.{cond};
+ghost use mathlib.Core.List.{_∷_};
+ghost use Rattle.notices.specs.Notices.{only, pushedAll};
+ghost use Rattle.notices.specs.Names.{EnhancedCurrentHue};
+ghost use Rattle.color.specs.Setters.{due, changeNotices, hueMode, keptHueMode, setHue, setSaturation, setColorTemperature};
+ghost use Rattle.color.specs.Form.{modesAgree, colorForm};
+ghost use Rattle.color.specs.Making.{newColor};
+
+// The clocks at which each attribute was last told.
+pub struct Stamps {
+    pub hue: u64,
+    pub saturation: u64,
+    pub mireds: u64,
+}
+
+// EnhancedCurrentHue, CurrentSaturation, ColorTemperatureMireds, ColorMode, EnhancedColorMode, and their stamps.
+pub struct Color {
+    pub hue: u16,
+    pub saturation: u8,
+    pub mireds: u16,
+    pub mode: ColorModeEnum,
+    pub emode: EnhancedColorModeEnum,
+    pub stamps: Stamps,
+}
+
+// The colour after a setter, and the list with what the setter tells.
+pub struct ColorSet {
+    pub color: Color,
+    pub notices: Notices,
+}
+
+// Whether an attribute is told: at an end, or one second or more after it last was. A stamp after the clock is never
+// a second old.
+fn is_due(is_end: bool, stamp: u64, clock: u64) -> bool
+    ensures { λ r. ⌜ r ≡ due «is_end» stamp clock ⌝ }
+{
+    if is_end {
+        return true;
+    }
+    if clock < stamp {
+        return false;
+    }
+    1000 <= clock - stamp
+}
+
+// The stamp of an attribute that is told, or not, at this clock.
+fn stamp_at(told: bool, clock: u64, stamp: u64) -> u64
+    ensures { λ r. ⌜ r ≡ cond told clock stamp ⌝ }
+{
+    if told { clock } else { stamp }
+}
+
+// What a change tells: persistence first, unless the loop is active; where it is due the attribute, with an enhanced
+// hue that too, and both modes; scenes last.
+fn tell_change(
+    list: Notices,
+    loop_active: bool,
+    told: bool,
+    attribute: u8,
+    is_enhanced: bool,
+) -> Notices
+    ensures { λ r. ⌜ r ≡ pushedAll list (changeNotices «loop_active» told (attribute ∷ only «is_enhanced» EnhancedCurrentHue)) ⌝ }
+{
+    list.push_if(!loop_active, notices::MARKED_DIRTY)
+        .push_if(told, attribute)
+        .push_if(told & is_enhanced, notices::ENHANCED_CURRENT_HUE)
+        .push_if(told, notices::COLOR_MODE)
+        .push_if(told, notices::ENHANCED_COLOR_MODE)
+        .push(notices::SCENES_TOLD)
+}
+
+fn hue_mode(is_enhanced: bool) -> EnhancedColorModeEnum
+    ensures { λ r. ⌜ r ≡ hueMode «is_enhanced» ⌝ }
+{
+    if is_enhanced {
+        EnhancedColorModeEnum::EnhancedCurrentHueAndCurrentSaturation
+    } else {
+        EnhancedColorModeEnum::CurrentHueAndCurrentSaturation
+    }
+}
+
+// The enhanced mode after a saturation is set: a hue one stays.
+fn kept_hue_mode(emode: EnhancedColorModeEnum) -> EnhancedColorModeEnum
+    ensures { λ r. ⌜ r ≡ keptHueMode emode ⌝ }
+{
+    match emode {
+        EnhancedColorModeEnum::CurrentHueAndCurrentSaturation => {
+            EnhancedColorModeEnum::CurrentHueAndCurrentSaturation
+        }
+        EnhancedColorModeEnum::CurrentXAndCurrentY => {
+            EnhancedColorModeEnum::CurrentHueAndCurrentSaturation
+        }
+        EnhancedColorModeEnum::ColorTemperatureMireds => {
+            EnhancedColorModeEnum::CurrentHueAndCurrentSaturation
+        }
+        EnhancedColorModeEnum::EnhancedCurrentHueAndCurrentSaturation => {
+            EnhancedColorModeEnum::EnhancedCurrentHueAndCurrentSaturation
+        }
+    }
+}
+
+fn modes_agree(mode: ColorModeEnum, emode: EnhancedColorModeEnum) -> bool
+    ensures { λ r. ⌜ r ≡ modesAgree mode emode ⌝ }
+{
+    mode.number() == color_mode_of(emode).number()
+}
+
+impl Color {
+    // The colour of a fresh lamp with these features and bounds.
+    pub fn new(feature_map: u32, bounds: Bounds) -> Self
+        ensures { λ r. ⌜ r ≡ newColor «feature_map» bounds ⌝ }
+    {
+        let emode = default_color_mode(feature_map);
+        Color {
+            hue: 0,
+            saturation: 0,
+            mireds: brought_within(bounds.min, bounds.max, 250, 0),
+            mode: color_mode_of(emode),
+            emode: emode,
+            stamps: Stamps {
+                hue: 0,
+                saturation: 0,
+                mireds: 0,
+            },
+        }
+    }
+
+    // Sets the hue, and tells it as plain or enhanced.
+    pub fn set_hue(
+        self,
+        list: Notices,
+        new_eh: u16,
+        is_end: bool,
+        is_enhanced: bool,
+        clock: u64,
+        loop_active: bool,
+    ) -> ColorSet
+        ensures { λ r. ⌜ r ≡ setHue self list «new_eh» «is_end» «is_enhanced» clock «loop_active» ⌝ }
+    {
+        if (self.hue == new_eh) & !is_end {
+            return ColorSet {
+                color: self,
+                notices: list,
+            };
+        }
+        let stamps = self.stamps;
+        let told = is_due(is_end, stamps.hue, clock);
+        let stamp = stamp_at(told, clock, stamps.hue);
+        let emode = hue_mode(is_enhanced);
+        let next = tell_change(list, loop_active, told, notices::CURRENT_HUE, is_enhanced);
+        ColorSet {
+            color: Color {
+                hue: new_eh,
+                mode: ColorModeEnum::CurrentHueAndCurrentSaturation,
+                emode: emode,
+                stamps: Stamps {
+                    hue: stamp,
+                    ..stamps
+                },
+                ..self
+            },
+            notices: next,
+        }
+    }
+
+    // Sets the saturation.
+    pub fn set_saturation(
+        self,
+        list: Notices,
+        new_sat: u8,
+        is_end: bool,
+        clock: u64,
+        loop_active: bool,
+    ) -> ColorSet
+        ensures { λ r. ⌜ r ≡ setSaturation self list «new_sat» «is_end» clock «loop_active» ⌝ }
+    {
+        if (self.saturation == new_sat) & !is_end {
+            return ColorSet {
+                color: self,
+                notices: list,
+            };
+        }
+        let stamps = self.stamps;
+        let told = is_due(is_end, stamps.saturation, clock);
+        let stamp = stamp_at(told, clock, stamps.saturation);
+        let old = self.emode;
+        let emode = kept_hue_mode(old);
+        let next = tell_change(list, loop_active, told, notices::CURRENT_SATURATION, false);
+        ColorSet {
+            color: Color {
+                saturation: new_sat,
+                mode: ColorModeEnum::CurrentHueAndCurrentSaturation,
+                emode: emode,
+                stamps: Stamps {
+                    saturation: stamp,
+                    ..stamps
+                },
+                ..self
+            },
+            notices: next,
+        }
+    }
+
+    // Sets the mireds.
+    pub fn set_color_temperature(
+        self,
+        list: Notices,
+        new_mireds: u16,
+        is_end: bool,
+        clock: u64,
+        loop_active: bool,
+    ) -> ColorSet
+        ensures { λ r. ⌜ r ≡ setColorTemperature self list «new_mireds» «is_end» clock «loop_active» ⌝ }
+    {
+        if (self.mireds == new_mireds) & !is_end {
+            return ColorSet {
+                color: self,
+                notices: list,
+            };
+        }
+        let stamps = self.stamps;
+        let told = is_due(is_end, stamps.mireds, clock);
+        let stamp = stamp_at(told, clock, stamps.mireds);
+        let next = tell_change(
+            list,
+            loop_active,
+            told,
+            notices::COLOR_TEMPERATURE_MIREDS,
+            false,
+        );
+        ColorSet {
+            color: Color {
+                mireds: new_mireds,
+                mode: ColorModeEnum::ColorTemperatureMireds,
+                emode: EnhancedColorModeEnum::ColorTemperatureMireds,
+                stamps: Stamps {
+                    mireds: stamp,
+                    ..stamps
+                },
+                ..self
+            },
+            notices: next,
+        }
+    }
+
+    // Whether a lamp with this colour, these bounds and this clock can be in form.
+    pub fn in_form(self, bounds: Bounds, clock: u64) -> bool
+        ensures { λ r. ⌜ r ≡ colorForm self bounds clock ⌝ }
+    {
+        let mode = self.mode;
+        let emode = self.emode;
+        let agree = modes_agree(mode, emode);
+        (self.saturation <= 254)
+            & (bounds.min <= self.mireds)
+            & (self.mireds <= bounds.max)
+            & (bounds.min <= bounds.max)
+            & agree
+            & (self.stamps.hue <= clock)
+            & (self.stamps.saturation <= clock)
+            & (self.stamps.mireds <= clock)
+    }
+}

@@ -1,0 +1,37 @@
+-- Hues on their circle: document 01, leaf 1, "The arithmetic of a step" and the shown hue.
+-- A hue is a number below 65,536; sums of hues and ways are over the integers, modulo 65,536.
+-- Assumes nothing.
+use Prim.Native.Nat.{ℕ, _-_, _/_, _%_}
+use mathlib.Core.Bool.{cond}
+use lib.Dec.{leb, ltb}
+use lib.IntN.{ℤ, pos, negsuc, negℤ, _+ℤ_, _-ℤ_}
+use Rattle.matter.specs.declared.DirectionEnum.{DirectionEnum}
+
+-- an integer modulo 65,536: the one of 0 to 65,535 that differs from it by whole turns
+abbrev pub modulo : ℤ → ℕ
+modulo (pos n) = n % 65536
+modulo (negsuc n) = 65535 - n % 65536
+
+-- how far up it is from one hue to another. "Up is (target − current) modulo 65,536, down is (current − target)
+-- modulo 65,536", so the distance down from current to target is the distance up from target to current
+unfoldable pub distance : ℕ → ℕ → ℕ
+distance from to = modulo (pos to -ℤ pos from)
+
+-- "Up gives +up, Down −down; Shortest +up if up ≤ down, else −down; Longest +up if up > down, else −down"
+abbrev pub chosen : DirectionEnum → ℕ → ℕ → ℤ
+chosen DirectionEnum.Up up down = pos up
+chosen DirectionEnum.Down up down = negℤ (pos down)
+chosen DirectionEnum.Shortest up down = cond (leb up down) (pos up) (negℤ (pos down))
+chosen DirectionEnum.Longest up down = cond (ltb down up) (pos up) (negℤ (pos down))
+
+-- leaf 1's answer: the way from current to target
+unfoldable pub pathDelta : ℕ → ℕ → DirectionEnum → ℤ
+pathDelta current target direction = chosen direction (distance current target) (distance target current)
+
+-- "The hue is the start plus the part, and wraps past 65,535 to 0 on purpose"
+unfoldable pub movedHue : ℕ → ℤ → ℕ
+movedHue start part = modulo (pos start +ℤ part)
+
+-- "the one-byte shown hue, the stored one divided by 256, rounded down"
+abbrev pub shownHue : ℕ → ℕ
+shownHue hue = hue / 256

@@ -1,0 +1,87 @@
+-- What follows from the definitions of hues: the distance as one remainder, and that a way is small, arrives, and is zero
+-- between equal hues alone.
+-- Assumes nothing.
+use mathlib.Core.Path.{_≡_, refl, sym, ap, _∙_}
+use mathlib.Core.Bool.{Bool, true, false, cond}
+use Prim.Native.Nat.{ℕ, zero, suc, _+_, _-_, _%_, _<_, _≤_}
+use native.Mathlib.Omega.{arith}
+use lib.Dec.{leb, ltb}
+use lib.IntN.{ℤ, pos, negsuc, negℤ, natAbs, _+ℤ_, _-ℤ_}
+use lib.Signed.{remZ}
+use borrow.Author.Tests.{ltb-true, ltb-false}
+use Rattle.integers.proofs.Sizes.{abs-neg}
+use Rattle.matter.specs.declared.DirectionEnum.{DirectionEnum}
+use Rattle.hue.specs.Hue.{modulo, distance, chosen, pathDelta, movedHue}
+
+modulo-small : (z : ℤ) → modulo z < 65536
+modulo-small (pos n) = omega arith
+modulo-small (negsuc n) = omega arith
+
+-- a moved hue is a hue
+pub moved-small : (s : ℕ) (z : ℤ) → movedHue s z < 65536
+unfolding movedHue
+moved-small s z = modulo-small (pos s +ℤ z)
+
+-- moved up by k
+pub moved-up : (s k : ℕ) → movedHue s (pos k) ≡ (s + k) % 65536
+unfolding movedHue
+moved-up s k = refl
+
+down-by : (s k : ℕ) (b : Bool) → ltb s (suc k) ≡ b → modulo (cond b (negsuc (suc k - suc s)) (pos (s - suc k))) ≡ (s + (65536 - suc k % 65536)) % 65536
+down-by s k true t = omega (arith, ltb-true s (suc k) t)
+down-by s k false t = omega (arith, ltb-false s (suc k) t)
+
+-- moved down by k
+pub moved-down : (s k : ℕ) → movedHue s (negℤ (pos k)) ≡ (s + (65536 - k % 65536)) % 65536
+unfolding movedHue
+moved-down s zero = omega arith
+moved-down s (suc k) = down-by s k (ltb s (suc k)) refl
+
+-- the distance is one remainder of naturals
+pub distance-is : (from to : ℕ) → from < 65536 → distance from to ≡ (to + (65536 - from)) % 65536
+unfolding distance movedHue
+distance-is from to h = omega (arith, moved-down to from)
+
+pub distance-small : (from to : ℕ) → distance from to < 65536
+unfolding distance
+distance-small from to = modulo-small (pos to -ℤ pos from)
+
+-- whole turns move nothing
+pub moved-turns : (s : ℕ) (z : ℤ) → movedHue s (remZ z (pos 65536)) ≡ movedHue s z
+moved-turns s (pos n) = rw (moved-up s (n % 65536), moved-up s n) (omega arith)
+moved-turns s (negsuc n) = rw (moved-down s (suc n % 65536), moved-down s (suc n)) (omega arith)
+
+-- whatever holds of the way up and of the way down holds of the way chosen
+cond-by : (P : ℤ → Type 0) {y z : ℤ} → P y → P z → (b : Bool) → P (cond b y z)
+cond-by P hy hz true = hy
+cond-by P hy hz false = hz
+
+chosen-by : (P : ℤ → Type 0) (up down : ℕ) → P (pos up) → P (negℤ (pos down)) → (d : DirectionEnum) → P (chosen d up down)
+chosen-by P up down hu hd DirectionEnum.Up = hu
+chosen-by P up down hu hd DirectionEnum.Down = hd
+chosen-by P up down hu hd DirectionEnum.Shortest = cond-by P hu hd (leb up down)
+chosen-by P up down hu hd DirectionEnum.Longest = cond-by P hu hd (ltb down up)
+
+way-by : (P : ℤ → Type 0) (c t : ℕ) (d : DirectionEnum) → P (pos (distance c t)) → P (negℤ (pos (distance t c))) → P (pathDelta c t d)
+unfolding pathDelta
+way-by P c t d hu hd = chosen-by P (distance c t) (distance t c) hu hd d
+
+-- a way is less than a turn
+pub way-small : (c t : ℕ) (d : DirectionEnum) → natAbs (pathDelta c t d) ≤ 65535
+way-small c t d = way-by (λ z. natAbs z ≤ 65535) c t d (omega (arith, distance-small c t)) (rw abs-neg (omega (arith, distance-small t c)))
+
+module _ (c t : ℕ) (d : DirectionEnum) (hc : c < 65536) (ht : t < 65536) where
+  -- a way ends at its target
+  pub arrives : movedHue c (pathDelta c t d) ≡ t
+  arrives = way-by (λ z. movedHue c z ≡ t) c t d (rw (moved-up, distance-is) (omega arith)) (rw (moved-down, distance-is) (omega arith))
+
+  -- a way that is zero joins equal hues
+  pub no-way-equal : pathDelta c t d ≡ pos 0 → c ≡ t
+  no-way-equal = way-by (λ z. z ≡ pos 0 → c ≡ t) c t d (λ e. omega (arith, distance-is c t hc, ap natAbs e)) (λ e. omega (arith, distance-is t c ht, rw abs-neg at (ap natAbs e)))
+
+-- and between equal hues the way is zero, whatever the direction
+pub equal-no-way : (c : ℕ) (d : DirectionEnum) → c < 65536 → pathDelta c c d ≡ pos 0
+equal-no-way c d h = way-by (λ z. z ≡ pos 0) c c d (ap pos stays) (ap (λ (n : ℕ). negℤ (pos n)) stays)
+  where
+    stays : distance c c ≡ 0
+    stays = omega (arith, distance-is c c h)

@@ -1,0 +1,2 @@
+pub mod Hue
+pub mod Laws

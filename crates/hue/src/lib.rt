@@ -1,0 +1,71 @@
+// Hues on their circle of 65,536 places: the way from one to another, a hue moved by a part of a way, and the hue
+// that is shown. Document 01, leaf 1.
+// Carried over from project-chip/rs-matter, commit 43f61585a4 (Apache-2.0, see NOTICE), and changed.
+use matter::DirectionEnum;
+ghost use mathlib.Core.Path.{_≡_};
+ghost use lib.IntN.{pos, negℤ, _+ℤ_};
+ghost use Rattle.hue.specs.Hue.{distance, pathDelta, movedHue, shownHue};
+
+// The distance up from one hue to another. The distance down is the distance up the other way round.
+fn distance_up(from: u16, to: u16) -> u16
+    ensures { λ r. ⌜ r ≡ distance from to ⌝ }
+{
+    std::num::wrapping_sub_u16(to, from)
+}
+
+fn plus(n: u16) -> i32
+    ensures { λ r. ⌜ r ≡ pos n ⌝ }
+{
+    n as i32
+}
+
+fn minus(n: u16) -> i32
+    ensures { λ r. ⌜ r ≡ negℤ (pos n) ⌝ }
+{
+    -(n as i32)
+}
+
+// The signed way from `current` to `target`, in the direction asked for.
+pub fn hue_path_delta(current: u16, target: u16, direction: DirectionEnum) -> i32
+    ensures { λ r. ⌜ r ≡ pathDelta current target direction ⌝ }
+{
+    let up_distance = distance_up(current, target);
+    let down_distance = distance_up(target, current);
+    match direction {
+        DirectionEnum::Up => plus(up_distance),
+        DirectionEnum::Down => minus(down_distance),
+        DirectionEnum::Shortest => {
+            if up_distance <= down_distance {
+                plus(up_distance)
+            } else {
+                minus(down_distance)
+            }
+        }
+        DirectionEnum::Longest => {
+            if up_distance > down_distance {
+                plus(up_distance)
+            } else {
+                minus(down_distance)
+            }
+        }
+    }
+}
+
+// The hue a signed part away from `start`. It wraps past 65,535 to 0, and below 0 to 65,535, on purpose.
+pub fn moved_hue(start: u16, part: i64) -> u16
+    ensures { λ r. ⌜ r ≡ movedHue start part ⌝ }
+{
+    let turn = part % 65536;
+    if turn >= 0 {
+        std::num::wrapping_add_u16(start, turn as u16)
+    } else {
+        std::num::wrapping_sub_u16(start, (0 - turn) as u16)
+    }
+}
+
+// CurrentHue: the one byte that is shown of the stored hue.
+pub fn shown_hue(hue: u16) -> u8
+    ensures { λ r. ⌜ r ≡ shownHue hue ⌝ }
+{
+    (hue / 256) as u8
+}

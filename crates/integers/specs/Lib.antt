@@ -1,0 +1,1 @@
+-- No definitions: the laws are about those of the library.

@@ -1,0 +1,20 @@
+use Rattle.matter.specs.All.{all}
+use Rattle.lamp.specs.Form.{lampForm}
+use borrow.Author.Needs.{needs}
+use Rattle.lamp.proofs.Lamp.in_form.Statement.{statement}
+use Rattle.lamp.proofs.Lamp.in_form.Tie as tie
+use Rattle.color.proofs.Color.in_form.Reads as Color-in-form-reads
+use Rattle.tasks.proofs.Running.in_form.Reads as Running-in-form-reads
+
+in-form-requires : tie.Need-in-form-requires
+in-form-requires c κs = search needs
+
+in-form-requires-2 : tie.Need-in-form-requires-2
+in-form-requires-2 c κs = search needs
+
+returns : tie.Need-returns
+unfolding lampForm all
+returns c = simp (c .in-form2 .ensures, c .before .in-form .ensures)
+
+pub in-form-spec : {M : Type 1} → statement M
+in-form-spec = tie.close (tie.spec in-form-requires in-form-requires-2 returns)

@@ -1,0 +1,21 @@
+-- The form of a lamp: document 01, "Lamp out of form".
+-- Assumes nothing.
+use mathlib.Core.Bool.{Bool}
+use mathlib.Core.List.{[], _∷_}
+use lib.Dec.{leb}
+use Rattle.matter.specs.All.{all}
+use Rattle.matter.specs.Limits.{clockLimit}
+use Rattle.color.specs.Form.{colorForm}
+use Rattle.tasks.specs.Form.{runningForm}
+use Rattle.lamp.specs.declared.Lamp.{Lamp}
+
+unfoldable pub lampForm : Lamp → Bool
+lampForm l =
+    all
+    ( -- "clock above the limit"
+    leb (l .clock) clockLimit
+    -- saturation, mireds, bounds, modes, notice stamps
+    ∷ colorForm (l .color) (l .bounds) (l .clock)
+    -- the running record
+    ∷ runningForm (l .running) (l .bounds) (l .clock)
+    ∷ [])

@@ -1,0 +1,40 @@
+-- Making: document 01, leaf 4, and the row of the table that has no lamp.
+-- Assumes nothing.
+use Prim.Native.Nat.{ℕ}
+use mathlib.Core.Bool.{false, cond}
+use lib.Dec.{ltb, eqb}
+use Rattle.matter.specs.declared.Bounds.{Bounds}
+use Rattle.matter.specs.declared.ColorLoopDirectionEnum.{ColorLoopDirectionEnum}
+use Rattle.matter.specs.Causes.{accepted, clockRefused, crossedBounds}
+use Rattle.matter.specs.Limits.{clockLimit}
+use Rattle.color.specs.Making.{newColor}
+use Rattle.tasks.specs.declared.Running.{Running}
+use Rattle.lamp.specs.declared.Lamp.{Lamp}
+use Rattle.lamp.specs.declared.Made.{Made}
+
+-- "loop time 25, start hue 8,960. The loop is inactive and upward, the stored loop hue, the remaining time [..] are 0, and
+-- the lamp is idle"
+abbrev pub freshLamp : Bounds → ℕ → ℕ → ℕ → Lamp
+freshLamp bounds features options clock =
+    record {
+      clock = clock;
+      bounds = bounds;
+      color = newColor features bounds;
+      looping = record { active = false; direction = ColorLoopDirectionEnum.Increment; time = 25; start = 8960; stored = 0 };
+      remaining = record { tenths = 0 };
+      options = options;
+      running = Running.Idle;
+    }
+
+-- why a making is turned away: "making 4, 5, both with no lamp"
+abbrev pub makingCause : Bounds → ℕ → ℕ
+makingCause bounds clock = cond (ltb clockLimit clock) clockRefused (cond (ltb (bounds .max) (bounds .min)) crossedBounds accepted)
+
+unfoldable pub making : Bounds → ℕ → ℕ → ℕ → Made
+making bounds features options clock =
+    cond (eqb (makingCause bounds clock) accepted) (Made.Lamp (freshLamp bounds features options clock)) (Made.Refused (makingCause bounds clock))
+
+-- the number of an answer to a making
+abbrev pub madeNumber : Made → ℕ
+madeNumber (Made.Lamp l) = accepted
+madeNumber (Made.Refused number) = number

@@ -1,0 +1,38 @@
+-- Why a call is turned away: the numbers of document 01's table. 0 is an accepted call's.
+-- Assumes nothing.
+use Prim.Native.Nat.{ℕ}
+
+abbrev pub accepted : ℕ
+accepted = 0
+
+-- hue or saturation above 254, mireds 0 (ConstraintError)
+abbrev pub constraintError : ℕ
+constraintError = 1
+
+-- rate or step 0 (InvalidCommand)
+abbrev pub invalidCommand : ℕ
+invalidCommand = 2
+
+-- step of mireds with lo above hi
+abbrev pub crossedLimits : ℕ
+crossedLimits = 3
+
+-- clock earlier than the lamp's, or above the limit
+abbrev pub clockRefused : ℕ
+clockRefused = 4
+
+-- physical minimum above maximum at making
+abbrev pub crossedBounds : ℕ
+crossedBounds = 5
+
+-- task out of form
+abbrev pub taskOutOfForm : ℕ
+taskOutOfForm = 6
+
+-- step while idle
+abbrev pub stepWhileIdle : ℕ
+stepWhileIdle = 7
+
+-- lamp out of form
+abbrev pub lampOutOfForm : ℕ
+lampOutOfForm = 8

@@ -1,0 +1,30 @@
+-- Leave to run (document 01, leaf 3), and which mode goes with which (leaf 4).
+-- Assumes nothing.
+use Prim.Native.Nat.{ℕ}
+use mathlib.Core.Bool.{Bool, true, cond}
+use Rattle.matter.specs.declared.OnOff.{OnOff}
+use Rattle.matter.specs.declared.ColorModeEnum.{ColorModeEnum}
+use Rattle.matter.specs.declared.EnhancedColorModeEnum.{EnhancedColorModeEnum}
+use Rattle.matter.specs.Flags.{hasFlag, executeIfOff, xy, hueAndSaturation, colorTemperature}
+
+-- leave to run: "No handler, or lamp on: yes. Lamp off: if the options mask has ExecuteIfOff (bit 0), the override's
+-- bit decides, else the lamp's own option." From the lamp's options, the mask and the override
+abbrev pub leave : OnOff → ℕ → ℕ → ℕ → Bool
+leave OnOff.NoHandler options mask over = true
+leave OnOff.On options mask over = true
+leave OnOff.Off options mask over = cond (hasFlag mask executeIfOff) (hasFlag over executeIfOff) (hasFlag options executeIfOff)
+
+-- the ColorMode that matches an EnhancedColorMode: the same, and the enhanced hue is a hue
+abbrev pub colorModeOf : EnhancedColorModeEnum → ColorModeEnum
+colorModeOf EnhancedColorModeEnum.CurrentHueAndCurrentSaturation = ColorModeEnum.CurrentHueAndCurrentSaturation
+colorModeOf EnhancedColorModeEnum.CurrentXAndCurrentY = ColorModeEnum.CurrentXAndCurrentY
+colorModeOf EnhancedColorModeEnum.ColorTemperatureMireds = ColorModeEnum.ColorTemperatureMireds
+colorModeOf EnhancedColorModeEnum.EnhancedCurrentHueAndCurrentSaturation = ColorModeEnum.CurrentHueAndCurrentSaturation
+
+-- the mode at making: the first that the features have, XY, then hue and saturation, then mireds; else XY
+unfoldable pub defaultColorMode : ℕ → EnhancedColorModeEnum
+defaultColorMode features =
+    cond (hasFlag features xy) EnhancedColorModeEnum.CurrentXAndCurrentY
+    (cond (hasFlag features hueAndSaturation) EnhancedColorModeEnum.CurrentHueAndCurrentSaturation
+    (cond (hasFlag features colorTemperature) EnhancedColorModeEnum.ColorTemperatureMireds
+    EnhancedColorModeEnum.CurrentXAndCurrentY))

@@ -1,0 +1,52 @@
+// RemainingTime, and when a change of it is told: document 01, leaf 2.
+// Carried over from project-chip/rs-matter, commit 43f61585a4 (Apache-2.0, see NOTICE), and changed.
+use progress::tenths;
+ghost use mathlib.Core.Path.{_≡_};
+ghost use Rattle.remaining_time.specs.RemainingTime.{apart, told, writtenQuietly};
+
+// The attribute, in tenths of a second.
+pub struct RemainingTime {
+    pub tenths: u16,
+}
+
+// The attribute after a write, and whether the change is told.
+pub struct Written {
+    pub told: bool,
+    pub remaining: RemainingTime,
+}
+
+// How far apart two numbers are.
+fn abs_diff(a: u16, b: u16) -> u16
+    ensures { λ r. ⌜ r ≡ apart a b ⌝ }
+{
+    if a < b { b - a } else { a - b }
+}
+
+// Whether a change from `prev` to `new_ds` is told: to 0, from 0 to more than a second, or, at a transition's start,
+// by more than a second.
+fn is_told(prev: u16, new_ds: u16, is_start_of_transition: bool) -> bool
+    ensures { λ r. ⌜ r ≡ told prev «new_ds» «is_start_of_transition» ⌝ }
+{
+    let changed_to_zero = (new_ds == 0) & !(prev == 0);
+    let changed_from_zero_gt_10 = (prev == 0) & (10 < new_ds);
+    let changed_by_gt_10 = (10 < abs_diff(new_ds, prev)) & is_start_of_transition;
+    changed_to_zero | changed_from_zero_gt_10 | changed_by_gt_10
+}
+
+impl RemainingTime {
+    // Stores the time that remains, rounded up to tenths and wrapped at sixteen bits.
+    pub fn write_remaining_time_quietly(
+        self,
+        remaining_ms: u64,
+        is_start_of_transition: bool,
+    ) -> Written
+        ensures { λ r. ⌜ r ≡ writtenQuietly self «remaining_ms» «is_start_of_transition» ⌝ }
+    {
+        let new_ds = (tenths(remaining_ms) % 65536) as u16;
+        let prev = self.tenths;
+        Written {
+            told: is_told(prev, new_ds, is_start_of_transition),
+            remaining: RemainingTime { tenths: new_ds },
+        }
+    }
+}

@@ -1,0 +1,21 @@
+use mathlib.Core.Path.{_≡_}
+use mir.Val.{toZ, ofZ}
+use mir.Syntax.{w64}
+use borrow.Author.Needs.{needs}
+use Rattle.tasks.proofs.HueDelta.in_form.Statement.{statement}
+use Rattle.tasks.proofs.HueDelta.in_form.Tie as tie
+
+enum-told : tie.Need-enum-told
+enum-told c = search needs
+
+enum-known-self : tie.Need-enum-known-self
+enum-known-self c = search needs
+
+returns : tie.Need-returns
+returns c = search needs
+
+returns-2 : tie.Need-returns-2
+returns-2 c = let e : toZ w64 (ofZ w64 (c .before .self .given .0 .0)) ≡ c .before .self .given .0 .0 = search needs in simp (e, c .before .self .given .1)
+
+pub in-form-spec : {M : Type 1} → statement M
+in-form-spec = tie.close (tie.spec enum-told enum-known-self returns returns-2)

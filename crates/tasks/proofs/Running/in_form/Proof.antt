@@ -1,0 +1,121 @@
+use mir.Syntax.{w64}
+use mir.Val.{toZ, ofZ}
+use mathlib.Core.Path.{_≡_}
+use Rattle.matter.specs.All.{all}
+use Rattle.tasks.specs.Form.{runningForm}
+use borrow.Author.Needs.{needs}
+use Rattle.tasks.proofs.Running.in_form.Statement.{statement}
+use Rattle.tasks.proofs.Running.in_form.Tie as tie
+use Rattle.tasks.proofs.HueMove.in_form.Reads as HueMove-in-form-reads
+use Rattle.tasks.proofs.HueSaturationMoveTo.in_form.Reads as HueSaturationMoveTo-in-form-reads
+use Rattle.tasks.proofs.SaturationMove.in_form.Reads as SaturationMove-in-form-reads
+
+enum-told : tie.Need-enum-told
+enum-told c = search needs
+
+enum-known-self : tie.Need-enum-known-self
+enum-known-self c = search needs
+
+in-form-requires : tie.Need-in-form-requires
+in-form-requires c κs = search needs
+
+enum-known-self-2 : tie.Need-enum-known-self-2
+enum-known-self-2 c = search needs
+
+in-form-requires-2 : tie.Need-in-form-requires-2
+in-form-requires-2 c κs = search needs
+
+enum-known-self-3 : tie.Need-enum-known-self-3
+enum-known-self-3 c = search needs
+
+in-form-requires-3 : tie.Need-in-form-requires-3
+in-form-requires-3 c κs = search needs
+
+enum-known-self-4 : tie.Need-enum-known-self-4
+enum-known-self-4 c = search needs
+
+time-in-form-requires : tie.Need-time-in-form-requires
+time-in-form-requires c κs = search needs
+
+within-bounds-requires : tie.Need-within-bounds-requires
+within-bounds-requires c κs = search needs
+
+within-bounds-requires-2 : tie.Need-within-bounds-requires-2
+within-bounds-requires-2 c κs = search needs
+
+enum-known-self-5 : tie.Need-enum-known-self-5
+enum-known-self-5 c = search needs
+
+rate-in-form-requires : tie.Need-rate-in-form-requires
+rate-in-form-requires c κs = search needs
+
+within-bounds-requires-3 : tie.Need-within-bounds-requires-3
+within-bounds-requires-3 c κs = search needs
+
+within-bounds-requires-4 : tie.Need-within-bounds-requires-4
+within-bounds-requires-4 c κs = search needs
+
+within-bounds-requires-5 : tie.Need-within-bounds-requires-5
+within-bounds-requires-5 c κs = search needs
+
+enum-known-self-6 : tie.Need-enum-known-self-6
+enum-known-self-6 c = search needs
+
+returns : tie.Need-returns
+unfolding runningForm all
+returns c = simp (c .enum-told .given .1)
+
+returns-2 : tie.Need-returns-2
+unfolding runningForm all
+returns-2 c = simp (c .before .before .before .in-form .ensures, c .before .before .before .before .before .before .self .given .1)
+
+returns-3 : tie.Need-returns-3
+unfolding runningForm all
+returns-3 c = simp (c .before .in-form2 .ensures, c .before .before .before .before .self2 .given .1)
+
+returns-4 : tie.Need-returns-4
+unfolding runningForm all
+returns-4 c = simp (c .before .before .in-form3 .ensures, c .before .before .before .before .before .self3 .given .1)
+
+returns-5 : tie.Need-returns-5
+unfolding runningForm all
+returns-5 c = simp (c .before .within-bounds2 .ensures, c .before .before .within-bounds .ensures, c .before .before .before .before .time-in-form .ensures, c .before .before .before .before .before .before .before .self4 .given .1)
+
+returns-6 : tie.Need-returns-6
+unfolding runningForm all
+returns-6 c =
+    let e : toZ w64 (ofZ w64 (c .before .before .before .before .before .before .before .before .self5 .given .0 .0 .rate)) ≡ c .before .before .before .before .before .before .before .before .self5 .given .0 .0 .rate = search needs in
+    simp (e, c .before .within-bounds5 .ensures, c .before .before .within-bounds4 .ensures, c .before .before .before .before .within-bounds3 .ensures, c .before .before .before .before .before .rate-in-form .ensures, c .before .before .before .before .before .before .before .before .self5 .given .1)
+
+returns-7 : tie.Need-returns-7
+unfolding runningForm all
+returns-7 c = simp (c .before .before .self6 .given .1)
+
+pub in-form-spec : {M : Type 1} → statement M
+in-form-spec =
+    tie.close
+    (tie.spec
+    enum-told
+    enum-known-self
+    in-form-requires
+    enum-known-self-2
+    in-form-requires-2
+    enum-known-self-3
+    in-form-requires-3
+    enum-known-self-4
+    time-in-form-requires
+    within-bounds-requires
+    within-bounds-requires-2
+    enum-known-self-5
+    rate-in-form-requires
+    within-bounds-requires-3
+    within-bounds-requires-4
+    within-bounds-requires-5
+    enum-known-self-6
+    returns
+    returns-2
+    returns-3
+    returns-4
+    returns-5
+    returns-6
+    returns-7)

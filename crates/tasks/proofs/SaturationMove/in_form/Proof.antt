@@ -1,0 +1,15 @@
+use Rattle.matter.specs.All.{all}
+use Rattle.tasks.specs.Form.{saturationMoveForm}
+use borrow.Author.Needs.{needs}
+use Rattle.tasks.proofs.SaturationMove.in_form.Statement.{statement}
+use Rattle.tasks.proofs.SaturationMove.in_form.Tie as tie
+
+moving-requires : tie.Need-moving-requires
+moving-requires c κs = search needs
+
+returns : tie.Need-returns
+unfolding saturationMoveForm all
+returns c = simp (c .moving .ensures)
+
+pub in-form-spec : {M : Type 1} → statement M
+in-form-spec = tie.close (tie.spec moving-requires returns)

@@ -1,0 +1,105 @@
+-- The form of a task and of a running record: document 01, "Task out of form" and, in "Lamp out of form", the running
+-- record. A definition here says what is in form; the comment quotes the sentence that says what is out of it.
+-- Assumes nothing.
+use Prim.Native.Nat.{ℕ, _%_}
+use mathlib.Core.Bool.{Bool, true, false, _&&_, _||_}
+use mathlib.Core.List.{[], _∷_}
+use lib.Dec.{leb, ltb, eqb}
+use lib.IntN.{ℤ, pos, negℤ}
+use lib.Signed.{leZ, ltZ}
+use Rattle.matter.specs.declared.MoveModeEnum.{MoveModeEnum}
+use Rattle.matter.specs.All.{all}
+use Rattle.matter.specs.Limits.{saturationLimit}
+use Rattle.matter.specs.declared.Bounds.{Bounds}
+use Rattle.tasks.specs.declared.HueDelta.{HueDelta}
+use Rattle.tasks.specs.declared.TargetSaturation.{TargetSaturation}
+use Rattle.tasks.specs.declared.HueSaturationMoveTo.{HueSaturationMoveTo}
+use Rattle.tasks.specs.declared.HueMove.{HueMove}
+use Rattle.tasks.specs.declared.SaturationMove.{SaturationMove}
+use Rattle.tasks.specs.declared.Task.{Task}
+use Rattle.tasks.specs.declared.Running.{Running}
+
+-- "time not a multiple of 100 ms or above 6,553,500"
+abbrev pub timeForm : ℕ → Bool
+timeForm ms = eqb (ms % 100) 0 && leb ms 6_553_500
+
+-- an integer within ±65,535
+abbrev pub small : ℤ → Bool
+small z = leZ (negℤ (pos 65535)) z && leZ z (pos 65535)
+
+-- "way beyond ±65,535"
+abbrev pub deltaForm : HueDelta → Bool
+deltaForm HueDelta.Keep = true
+deltaForm (HueDelta.By way) = small way
+
+abbrev pub deltaGiven : HueDelta → Bool
+deltaGiven HueDelta.Keep = false
+deltaGiven (HueDelta.By way) = true
+
+-- "saturation above 254"
+abbrev pub saturationForm : TargetSaturation → Bool
+saturationForm TargetSaturation.Keep = true
+saturationForm (TargetSaturation.To saturation) = leb saturation saturationLimit
+
+abbrev pub saturationGiven : TargetSaturation → Bool
+saturationGiven TargetSaturation.Keep = false
+saturationGiven (TargetSaturation.To saturation) = true
+
+-- "Stop as a move's direction"
+abbrev pub moves : MoveModeEnum → Bool
+moves MoveModeEnum.Stop = false
+moves MoveModeEnum.Up = true
+moves MoveModeEnum.Down = true
+
+-- "rate 0", "mired rate beyond ±65,535"
+abbrev pub rateForm : ℤ → Bool
+rateForm rate = (ltZ rate (pos 0) || ltZ (pos 0) rate) && leZ (negℤ (pos 65535)) rate && leZ rate (pos 65535)
+
+-- a move-to; the last test is "neither hue nor saturation"
+unfoldable pub moveToForm : HueSaturationMoveTo → Bool
+moveToForm t =
+    all (timeForm (t .ms) ∷ deltaForm (t .delta) ∷ saturationForm (t .saturation) ∷ (deltaGiven (t .delta) || saturationGiven (t .saturation)) ∷ [])
+
+-- "rate 0; hue rate above 65,535"; Stop
+unfoldable pub hueMoveForm : HueMove → Bool
+hueMoveForm t = all (ltb 0 (t .rate) ∷ leb (t .rate) 65535 ∷ moves (t .direction) ∷ [])
+
+-- "rate 0; saturation rate above 255"; Stop
+unfoldable pub saturationMoveForm : SaturationMove → Bool
+saturationMoveForm t = all (ltb 0 (t .rate) ∷ leb (t .rate) 255 ∷ moves (t .direction) ∷ [])
+
+-- a task in form; "the Stop task itself" is out of it
+unfoldable pub taskForm : Task → Bool
+taskForm (Task.HueSaturationMoveTo t) = moveToForm t
+taskForm (Task.HueMove t) = hueMoveForm t
+taskForm (Task.SaturationMove t) = saturationMoveForm t
+taskForm (Task.ColorTemperatureMoveTo t) = timeForm (t .ms)
+taskForm (Task.ColorTemperatureMove t) = rateForm (t .rate)
+taskForm (Task.ColorLoop t) = true
+taskForm Task.Stop = false
+
+-- not "outside the bounds"
+abbrev pub withinBounds : Bounds → ℕ → Bool
+withinBounds bounds mireds = leb (bounds .min) mireds && leb mireds (bounds .max)
+
+-- a running record at the lamp's clock and bounds: not one "whose task is out of form, whose move-to time is 0, whose
+-- saved start numbers break these rules, whose clock is after the lamp's, whose lo is not below hi, or whose kept mired
+-- target, lo or hi lies outside the bounds"
+unfoldable pub runningForm : Running → Bounds → ℕ → Bool
+runningForm Running.Idle bounds clock = true
+runningForm (Running.HueSaturationMoveTo run) bounds clock =
+    all (moveToForm (run .task) ∷ ltb 0 (run .task .ms) ∷ leb (run .saturation) saturationLimit ∷ leb (run .start) clock ∷ [])
+runningForm (Running.HueMove run) bounds clock = all (hueMoveForm (run .task) ∷ leb (run .start) clock ∷ [])
+runningForm (Running.SaturationMove run) bounds clock =
+    all (saturationMoveForm (run .task) ∷ leb (run .saturation) saturationLimit ∷ leb (run .start) clock ∷ [])
+runningForm (Running.ColorTemperatureMoveTo run) bounds clock =
+    all
+    (timeForm (run .task .ms) ∷ ltb 0 (run .task .ms) ∷ withinBounds bounds (run .mireds) ∷ withinBounds bounds (run .task .target)
+    ∷ leb (run .start) clock
+    ∷ [])
+runningForm (Running.ColorTemperatureMove run) bounds clock =
+    all
+    (rateForm (run .rate) ∷ withinBounds bounds (run .mireds) ∷ ltb (run .lo) (run .hi) ∷ withinBounds bounds (run .lo) ∷ withinBounds bounds (run .hi)
+    ∷ leb (run .start) clock
+    ∷ [])
+runningForm (Running.ColorLoop run) bounds clock = leb (run .start) clock
