@@ -1,4 +1,4 @@
--- The setters: document 01, leaf 5. A setter takes the list of notices so far and gives it back with its own behind.
+-- The setters: document 01, leaf 5.
 -- Assumes nothing.
 use Prim.Native.Nat.{ℕ, _+_}
 use mathlib.Core.Bool.{Bool, not, cond, _&&_, _||_}
@@ -23,11 +23,9 @@ changeNotices active told attributes =
     only (not active) markedDirty ++ (cond told (attributes ++ (ColorMode ∷ EnhancedColorMode ∷ [])) [] ++ (scenesTold ∷ []))
 
 -- "An equal number, not at the end of a transition, changes nothing and notifies nothing, modes included. Otherwise
--- number and modes are set": from the old number, the new one and whether it is an end, the colour and the list as they
--- were, or the changed colour and the change's notices
-abbrev pub setting : ℕ → ℕ → Bool → Color → Notices → Color → List ℕ → ColorSet
-setting old new end c list changed notices =
-    cond (eqb old new && not end) (record { color = c; notices = list }) (record { color = changed; notices = pushedAll list notices })
+-- number and modes are set": from the old number, the new one and whether it is an end
+abbrev pub same : ℕ → ℕ → Bool → Bool
+same old new end = eqb old new && not end
 
 -- the enhanced mode of a hue
 abbrev pub hueMode : Bool → EnhancedColorModeEnum
@@ -40,47 +38,78 @@ keptHueMode EnhancedColorModeEnum.CurrentXAndCurrentY = EnhancedColorModeEnum.Cu
 keptHueMode EnhancedColorModeEnum.ColorTemperatureMireds = EnhancedColorModeEnum.CurrentHueAndCurrentSaturation
 keptHueMode EnhancedColorModeEnum.EnhancedCurrentHueAndCurrentSaturation = EnhancedColorModeEnum.EnhancedCurrentHueAndCurrentSaturation
 
--- `set_hue`, at this clock
-unfoldable pub setHue : Color → Notices → ℕ → Bool → Bool → ℕ → Bool → ColorSet
-setHue c list new end enhanced clock active =
-    let told : Bool = due end (c .stamps .hue) clock in
-    setting (c .hue) new end c list
+-- `set_hue` at this clock: the colour after it
+unfoldable pub hueSet : Color → ℕ → Bool → Bool → ℕ → Color
+hueSet c new end enhanced clock =
+    cond (same (c .hue) new end) c
     (record {
       hue = new;
       saturation = c .saturation;
       mireds = c .mireds;
       mode = ColorModeEnum.CurrentHueAndCurrentSaturation;
       emode = hueMode enhanced;
-      stamps = record { hue = cond told clock (c .stamps .hue); saturation = c .stamps .saturation; mireds = c .stamps .mireds };
+      stamps =
+          record {
+            hue = cond (due end (c .stamps .hue) clock) clock (c .stamps .hue);
+            saturation = c .stamps .saturation;
+            mireds = c .stamps .mireds;
+          };
     })
-    (changeNotices active told (CurrentHue ∷ only enhanced EnhancedCurrentHue))
 
--- `set_saturation`, at this clock
-unfoldable pub setSaturation : Color → Notices → ℕ → Bool → ℕ → Bool → ColorSet
-setSaturation c list new end clock active =
-    let told : Bool = due end (c .stamps .saturation) clock in
-    setting (c .saturation) new end c list
+-- and what it tells, with the loop active or not
+unfoldable pub hueTold : Color → ℕ → Bool → Bool → ℕ → Bool → List ℕ
+hueTold c new end enhanced clock active =
+    cond (same (c .hue) new end) []
+    (changeNotices active (due end (c .stamps .hue) clock) (CurrentHue ∷ only enhanced EnhancedCurrentHue))
+
+-- `set_saturation` at this clock: the colour after it
+unfoldable pub saturationSet : Color → ℕ → Bool → ℕ → Color
+saturationSet c new end clock =
+    cond (same (c .saturation) new end) c
     (record {
       hue = c .hue;
       saturation = new;
       mireds = c .mireds;
       mode = ColorModeEnum.CurrentHueAndCurrentSaturation;
       emode = keptHueMode (c .emode);
-      stamps = record { hue = c .stamps .hue; saturation = cond told clock (c .stamps .saturation); mireds = c .stamps .mireds };
+      stamps =
+          record {
+            hue = c .stamps .hue;
+            saturation = cond (due end (c .stamps .saturation) clock) clock (c .stamps .saturation);
+            mireds = c .stamps .mireds;
+          };
     })
-    (changeNotices active told (CurrentSaturation ∷ []))
 
--- `set_color_temperature`, at this clock
-unfoldable pub setColorTemperature : Color → Notices → ℕ → Bool → ℕ → Bool → ColorSet
-setColorTemperature c list new end clock active =
-    let told : Bool = due end (c .stamps .mireds) clock in
-    setting (c .mireds) new end c list
+-- and what it tells
+unfoldable pub saturationTold : Color → ℕ → Bool → ℕ → Bool → List ℕ
+saturationTold c new end clock active =
+    cond (same (c .saturation) new end) []
+    (changeNotices active (due end (c .stamps .saturation) clock) (CurrentSaturation ∷ []))
+
+-- `set_color_temperature` at this clock: the colour after it
+unfoldable pub miredsSet : Color → ℕ → Bool → ℕ → Color
+miredsSet c new end clock =
+    cond (same (c .mireds) new end) c
     (record {
       hue = c .hue;
       saturation = c .saturation;
       mireds = new;
       mode = ColorModeEnum.ColorTemperatureMireds;
       emode = EnhancedColorModeEnum.ColorTemperatureMireds;
-      stamps = record { hue = c .stamps .hue; saturation = c .stamps .saturation; mireds = cond told clock (c .stamps .mireds) };
+      stamps =
+          record {
+            hue = c .stamps .hue;
+            saturation = c .stamps .saturation;
+            mireds = cond (due end (c .stamps .mireds) clock) clock (c .stamps .mireds);
+          };
     })
-    (changeNotices active told (ColorTemperatureMireds ∷ []))
+
+-- and what it tells
+unfoldable pub miredsTold : Color → ℕ → Bool → ℕ → Bool → List ℕ
+miredsTold c new end clock active =
+    cond (same (c .mireds) new end) []
+    (changeNotices active (due end (c .stamps .mireds) clock) (ColorTemperatureMireds ∷ []))
+
+-- a setter's answer: the colour, and its notices behind those so far
+abbrev pub answered : Color → Notices → List ℕ → ColorSet
+answered c list told = record { color = c; notices = pushedAll list told }

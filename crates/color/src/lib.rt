@@ -13,7 +13,7 @@ ghost use mathlib.Core.Bool.{cond};
 ghost use mathlib.Core.List.{_∷_};
 ghost use Rattle.notices.specs.Notices.{only, pushedAll};
 ghost use Rattle.notices.specs.Names.{EnhancedCurrentHue};
-ghost use Rattle.color.specs.Setters.{due, changeNotices, hueMode, keptHueMode, setHue, setSaturation, setColorTemperature};
+ghost use Rattle.color.specs.Setters.{due, changeNotices, hueMode, keptHueMode, hueSet, hueTold, saturationSet, saturationTold, miredsSet, miredsTold, answered};
 ghost use Rattle.color.specs.Form.{modesAgree, colorForm};
 ghost use Rattle.color.specs.Making.{newColor};
 
@@ -146,7 +146,7 @@ impl Color {
         clock: u64,
         loop_active: bool,
     ) -> ColorSet
-        ensures { λ r. ⌜ r ≡ setHue self list «new_eh» «is_end» «is_enhanced» clock «loop_active» ⌝ }
+        ensures { λ r. ⌜ r ≡ answered (hueSet self «new_eh» «is_end» «is_enhanced» clock) list (hueTold self «new_eh» «is_end» «is_enhanced» clock «loop_active») ⌝ }
     {
         if (self.hue == new_eh) & !is_end {
             return ColorSet {
@@ -183,7 +183,7 @@ impl Color {
         clock: u64,
         loop_active: bool,
     ) -> ColorSet
-        ensures { λ r. ⌜ r ≡ setSaturation self list «new_sat» «is_end» clock «loop_active» ⌝ }
+        ensures { λ r. ⌜ r ≡ answered (saturationSet self «new_sat» «is_end» clock) list (saturationTold self «new_sat» «is_end» clock «loop_active») ⌝ }
     {
         if (self.saturation == new_sat) & !is_end {
             return ColorSet {
@@ -221,7 +221,7 @@ impl Color {
         clock: u64,
         loop_active: bool,
     ) -> ColorSet
-        ensures { λ r. ⌜ r ≡ setColorTemperature self list «new_mireds» «is_end» clock «loop_active» ⌝ }
+        ensures { λ r. ⌜ r ≡ answered (miredsSet self «new_mireds» «is_end» clock) list (miredsTold self «new_mireds» «is_end» clock «loop_active») ⌝ }
     {
         if (self.mireds == new_mireds) & !is_end {
             return ColorSet {

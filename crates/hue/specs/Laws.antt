@@ -1,7 +1,7 @@
--- What follows from the definitions of hues: the distance as one remainder, and that a way is small, arrives, and is zero
--- between equal hues alone.
+-- What follows from the definitions of hues: a hue moved up and down, the distance as one remainder, and that a way is small,
+-- arrives, and is zero between equal hues alone. The sums of document 01 come first.
 -- Assumes nothing.
-use mathlib.Core.Path.{_≡_, refl, sym, ap, _∙_}
+use mathlib.Core.Path.{_≡_, refl, ap}
 use mathlib.Core.Bool.{Bool, true, false, cond}
 use Prim.Native.Nat.{ℕ, zero, suc, _+_, _-_, _%_, _<_, _≤_}
 use native.Mathlib.Omega.{arith}
@@ -12,6 +12,28 @@ use borrow.Author.Tests.{ltb-true, ltb-false}
 use Rattle.integers.proofs.Sizes.{abs-neg}
 use Rattle.matter.specs.declared.DirectionEnum.{DirectionEnum}
 use Rattle.hue.specs.Hue.{modulo, distance, chosen, pathDelta, movedHue}
+
+-- ---- sums of the document
+
+-- K1, K2: half way round, up is Shortest and down is Longest
+k1 : pathDelta 0 32768 DirectionEnum.Shortest ≡ pos 32768
+unfolding pathDelta distance
+k1 = refl
+
+k2 : pathDelta 0 32768 DirectionEnum.Longest ≡ negℤ (pos 32768)
+unfolding pathDelta distance
+k2 = refl
+
+-- past 65,535 to 0, and back
+past-the-top : movedHue 65535 (pos 1) ≡ 0
+unfolding movedHue
+past-the-top = refl
+
+past-the-bottom : movedHue 0 (negℤ (pos 1)) ≡ 65535
+unfolding movedHue
+past-the-bottom = refl
+
+-- ---- a hue that is moved
 
 modulo-small : (z : ℤ) → modulo z < 65536
 modulo-small (pos n) = omega arith
@@ -37,19 +59,24 @@ unfolding movedHue
 moved-down s zero = omega arith
 moved-down s (suc k) = down-by s k (ltb s (suc k)) refl
 
+-- whole turns move nothing
+pub moved-turns : (s : ℕ) (z : ℤ) → movedHue s (remZ z (pos 65536)) ≡ movedHue s z
+moved-turns s (pos n) = rw (moved-up s (n % 65536), moved-up s n) (omega arith)
+moved-turns s (negsuc n) = rw (moved-down s (suc n % 65536), moved-down s (suc n)) (omega arith)
+
+-- ---- the distance
+
 -- the distance is one remainder of naturals
 pub distance-is : (from to : ℕ) → from < 65536 → distance from to ≡ (to + (65536 - from)) % 65536
 unfolding distance movedHue
 distance-is from to h = omega (arith, moved-down to from)
 
+-- and below a turn
 pub distance-small : (from to : ℕ) → distance from to < 65536
 unfolding distance
 distance-small from to = modulo-small (pos to -ℤ pos from)
 
--- whole turns move nothing
-pub moved-turns : (s : ℕ) (z : ℤ) → movedHue s (remZ z (pos 65536)) ≡ movedHue s z
-moved-turns s (pos n) = rw (moved-up s (n % 65536), moved-up s n) (omega arith)
-moved-turns s (negsuc n) = rw (moved-down s (suc n % 65536), moved-down s (suc n)) (omega arith)
+-- ---- the way
 
 -- whatever holds of the way up and of the way down holds of the way chosen
 cond-by : (P : ℤ → Type 0) {y z : ℤ} → P y → P z → (b : Bool) → P (cond b y z)

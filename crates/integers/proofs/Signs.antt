@@ -2,14 +2,16 @@
 -- of an integer tells of its sign, and a summand taken across a test.
 -- Assumes nothing.
 use mathlib.Core.Path.{_≡_, refl, sym, ap, subst, subst⁻¹, _∙_}
-use mathlib.Core.Bool.{Bool, true, false}
+use mathlib.Core.Bool.{true, false}
 use Prim.Native.Nat.{ℕ, zero, suc, _+_, _*_, _/_, _%_, _<_, _≤_, zero-le}
 use native.Mathlib.Nat.{zero-div, zero-mul, mul-add, mul-left-comm, mul-add-div, div-add-mod}
 use native.Mathlib.Omega.{arith}
-use lib.Dec.{T, ltb, leb, leb·suc-suc, leb·suc-zero}
+use lib.Dec.{T, leb·suc-suc, leb·suc-zero}
 use lib.IntN.{ℤ, pos, negsuc, negℤ, natAbs, sucℤ, _+ℤ_, _-ℤ_, _*ℤ_, sucℤ-+ℤ, +ℤ-idl, +ℤ-comm, -ℤ-+ℤ-cancel, negℤ-+ℤ}
 use lib.Signed.{quotZ, leZ, ltZ, nonNeg}
 use borrow.Author.Tests.{ltb-false, le-leb, lt-ltb}
+
+-- ---- products and quotients
 
 pub neg-mul : (n p : ℕ) → negℤ (pos n) *ℤ pos p ≡ negℤ (pos (n * p))
 neg-mul zero p = rw zero-mul
@@ -19,10 +21,10 @@ pub neg-quot : (n d : ℕ) → quotZ (negℤ (pos n)) (pos d) ≡ negℤ (pos (n
 neg-quot zero d = rw zero-div
 neg-quot (suc n) d = refl
 
--- a product by a whole number and a rest, divided in two parts: toward zero, since both have the sign of z
 split : (n e d : ℕ) → 0 < d → n * (e / d) + n * (e % d) / d ≡ n * e / d
 split n e d h = rw (← mul-add-div h (n * (e / d)) (n * (e % d)), mul-left-comm, ← mul-add, div-add-mod)
 
+-- a product divided in two parts, by the whole quotient and the rest of its factor: toward zero, both having the sign of z
 pub split-quot : (z : ℤ) (e d : ℕ) → 0 < d → z *ℤ pos (e / d) +ℤ quotZ (z *ℤ pos (e % d)) (pos d) ≡ quotZ (z *ℤ pos e) (pos d)
 split-quot (pos n) e d h = ap pos (split n e d h)
 split-quot (negsuc n) e d h =
@@ -68,6 +70,7 @@ lt-add (suc s) a b = rw (sucℤ-+ℤ (pos s) a, sucℤ-+ℤ (pos s) b) (lt-suc (
 back : (s n : ℕ) → pos s +ℤ (pos n -ℤ pos s) ≡ pos n
 back s n = +ℤ-comm (pos s) (pos n -ℤ pos s) ∙ -ℤ-+ℤ-cancel (pos n) (pos s)
 
+-- z is below n - s where s + z is below n, and above it where s + z is above n
 pub lt-difference : (s n : ℕ) (z : ℤ) → ltZ z (pos n -ℤ pos s) ≡ ltZ (pos s +ℤ z) (pos n)
 lt-difference s n z = sym (lt-add s z (pos n -ℤ pos s)) ∙ ap (ltZ (pos s +ℤ z)) (back s n)
 

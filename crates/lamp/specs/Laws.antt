@@ -1,1 +1,85 @@
--- x
+-- Making and refusals: each number in its cause and in no other, and a lamp that is made is in form and typed.
+-- Assumes nothing.
+use Prim.Native.Nat.{ℕ, _≤_, _<_}
+use mathlib.Core.Bool.{Bool, true, false, not, cond, _||_}
+use mathlib.Core.List.{[], _∷_}
+use mathlib.Core.Path.{_≡_, refl, sym, ap, _∙_}
+use native.Mathlib.Omega.{arith}
+use lib.Dec.{ltb, leb, eqb}
+use lib.IntN.{pos}
+use borrow.Author.Tests.{eqb-true, lt-ltb, le-ltb, le-leb}
+use Rattle.matter.specs.declared.Bounds.{Bounds}
+use Rattle.matter.specs.declared.EnhancedColorModeEnum.{EnhancedColorModeEnum}
+use Rattle.matter.specs.All.{all}
+use Rattle.matter.specs.Laws.{all-of}
+use Rattle.matter.specs.Limits.{clockLimit}
+use Rattle.matter.specs.Rules.{colorModeOf, defaultColorMode}
+use Rattle.matter.specs.Typed.{Byte, Clock, TypedBounds}
+use Rattle.progress.specs.Progress.{clamp}
+use Rattle.progress.specs.Laws.{clamp-within}
+use Rattle.color.specs.Form.{modesAgree, colorForm}
+use Rattle.color.specs.Making.{newColor}
+use Rattle.tasks.specs.Form.{runningForm}
+use Rattle.lamp.specs.declared.Lamp.{Lamp}
+use Rattle.lamp.specs.declared.Made.{Made}
+use Rattle.lamp.specs.Answers.{badClock, formOrClock}
+use Rattle.lamp.specs.Form.{lampForm}
+use Rattle.lamp.specs.Making.{freshLamp, makingCause, making, madeNumber}
+use Rattle.lamp.specs.Typed.{TypedLamp}
+
+-- ---- making: 4 exactly above the limit, whatever the bounds; 5 exactly at a good clock with crossed bounds
+
+module _ (bounds : Bounds) (clock : ℕ) where
+  pub making-clock : clockLimit < clock → makingCause bounds clock ≡ 4
+  making-clock h = simp (lt-ltb _ _ h)
+
+  pub making-crossed : clock ≤ clockLimit → bounds .max < bounds .min → makingCause bounds clock ≡ 5
+  making-crossed h k = simp (le-ltb _ _ h, lt-ltb _ _ k)
+
+  pub making-accepted : clock ≤ clockLimit → bounds .min ≤ bounds .max → makingCause bounds clock ≡ 0
+  making-accepted h k = simp (le-ltb _ _ h, le-ltb _ _ k)
+
+-- the number of the answer is the cause
+number-by : (n : ℕ) (l : Lamp) (t : Bool) → eqb n 0 ≡ t → madeNumber (cond t (Made.Lamp l) (Made.Refused n)) ≡ n
+number-by n l true e = sym (eqb-true n 0 e)
+number-by n l false e = refl
+
+pub made-number : (bounds : Bounds) (features options clock : ℕ) → madeNumber (making bounds features options clock) ≡ makingCause bounds clock
+unfolding making
+made-number bounds features options clock =
+    number-by (makingCause bounds clock) (freshLamp bounds features options clock) (eqb (makingCause bounds clock) 0) refl
+
+-- ---- a lamp that is made is in form
+
+own-mode : (e : EnhancedColorModeEnum) → modesAgree (colorModeOf e) e ≡ true
+own-mode EnhancedColorModeEnum.CurrentHueAndCurrentSaturation = refl
+own-mode EnhancedColorModeEnum.CurrentXAndCurrentY = refl
+own-mode EnhancedColorModeEnum.ColorTemperatureMireds = refl
+own-mode EnhancedColorModeEnum.EnhancedCurrentHueAndCurrentSaturation = refl
+
+module _ (bounds : Bounds) (features options clock : ℕ) (ordered : bounds .min ≤ bounds .max) (timely : clock ≤ clockLimit) where
+  new-color-form : colorForm (newColor features bounds) bounds clock ≡ true
+  unfolding colorForm
+  new-color-form =
+      let within : (bounds .min ≤ clamp (bounds .min) (bounds .max) (pos 250)) × (clamp (bounds .min) (bounds .max) (pos 250) ≤ bounds .max) = clamp-within (bounds .min) (bounds .max) (pos 250) ordered in
+      all-of _
+      (refl, (le-leb _ _ (within .0), (le-leb _ _ (within .1), (le-leb _ _ ordered, (own-mode (defaultColorMode features), (le-leb 0 clock (omega arith), (le-leb 0 clock (omega arith), (le-leb 0 clock (omega arith), tt))))))))
+
+  pub fresh-form : lampForm (freshLamp bounds features options clock) ≡ true
+  unfolding lampForm runningForm
+  fresh-form = all-of _ (le-leb clock clockLimit timely, (new-color-form, (refl, tt)))
+
+-- ---- 8 exactly out of form, whatever the clock; 4 exactly in form at a bad clock
+
+module _ (l : Lamp) (clock : ℕ) where
+  pub form-first : lampForm l ≡ false → formOrClock l clock ≡ 8
+  unfolding formOrClock
+  form-first h = simp h
+
+  pub clock-second : lampForm l ≡ true → badClock l clock ≡ true → formOrClock l clock ≡ 4
+  unfolding formOrClock
+  clock-second h k = simp (h, k)
+
+  pub neither : lampForm l ≡ true → badClock l clock ≡ false → formOrClock l clock ≡ 0
+  unfolding formOrClock
+  neither h k = simp (h, k)

@@ -1,6 +1,7 @@
 // The lamp: its state, its making and its form, and the answer that a call gives. Document 01, leaf 4 and "Why a call is
 // turned away".
 // Carried over from project-chip/rs-matter, commit 43f61585a4 (Apache-2.0, see NOTICE), and changed.
+
 use color::Color;
 use matter::Bounds;
 use matter::CLOCK_LIMIT;
@@ -106,13 +107,10 @@ impl Lamp {
     }
 
     // The same lamp at another clock.
-    pub fn at_clock(self, clock: u64) -> Lamp
-        ensures { λ r. ⌜ r ≡ atClock self clock ⌝ }
+    pub fn at_clock(self, now: u64) -> Lamp
+        ensures { λ r. ⌜ r ≡ atClock self now ⌝ }
     {
-        Lamp {
-            clock: clock,
-            ..self
-        }
+        Lamp { clock: now, ..self }
     }
 
     // The two causes that every call but a step looks at first: a lamp out of form, and the clock. 0 where there is

@@ -5,3 +5,4 @@ pub mod Rules
 pub mod Causes
 pub mod All
 pub mod Typed
+pub mod Laws

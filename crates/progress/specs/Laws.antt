@@ -1,49 +1,52 @@
--- What follows from the definitions of a step's arithmetic.
+-- What follows from the definitions of a step's arithmetic: bounds, and what grows with what. The sums of document 01 come first.
 -- Assumes nothing.
-use mathlib.Core.Path.{_≡_, refl, sym, ap, _∙_}
+use mathlib.Core.Path.{_≡_, refl, ap, _∙_}
 use mathlib.Core.Logic.{_⊎_, inl, inr, ⊎-elim}
 use mathlib.Core.Bool.{Bool, true, false, cond, _&&_}
-use Prim.Native.Nat.{ℕ, zero, suc, _+_, _-_, _*_, _/_, _%_, _^_, _<_, _≤_, min}
-use native.Mathlib.Nat.{le-div-iff-mul-le, div-lt-iff-lt-mul, mul-le-mul-left, mul-le-mul-right, mul-lt-mul-of-pos-right, div-le-self}
+use mathlib.Core.List.{[], _∷_, map}
+use Prim.Native.Nat.{ℕ, zero, suc, _+_, _*_, _/_, _%_, _^_, _<_, _≤_, min}
+use native.Mathlib.Nat.{le-div-iff-mul-le, div-lt-iff-lt-mul, mul-le-mul-left, mul-le-mul-right, div-le-self}
 use native.Mathlib.Omega.{arith}
 use lib.Dec.{leb, ltb, eqb}
 use lib.IntN.{ℤ, pos, negsuc, negℤ, natAbs}
 use lib.Signed.{ltZ}
 use lib.Ieee.Nearest.{div-mono}
-use borrow.Author.Tests.{leb-true, leb-false, ltb-true, ltb-false, eqb-true, eqb-false, ne-eqb, le-leb, lt-leb, le-ltb}
-use Rattle.integers.proofs.Sizes.{abs-neg, abs-mul, abs-quot}
+use borrow.Author.Tests.{leb-true, leb-false, ltb-false, ne-eqb, le-leb, lt-leb, le-ltb}
+use Rattle.integers.proofs.Sizes.{abs-mul, abs-quot}
 use Rattle.integers.proofs.Signs.{neg-mul, neg-quot}
+use Rattle.matter.specs.declared.ColorLoopDirectionEnum.{ColorLoopDirectionEnum}
 use Rattle.matter.specs.Limits.{clockLimit}
-use Rattle.progress.specs.Progress.{permilleOf, partOf, wayAtRate, loopMs, snapped, loopTurn, tenthsOf, clamp}
+use Rattle.progress.specs.Progress.{permilleOf, partOf, wayAtRate, loopMs, snapped, loopTurn, loopWay, tenthsOf, clamp}
 
--- ---- the document's sums
+-- ---- sums of the document
 
 -- K5: way 65,280, time 7000, elapsed 3000
 k5 : partOf (pos 65280) (permilleOf 3000 7000) ≡ pos 27939
 unfolding permilleOf
 k5 = refl
 
--- K6: way -97, time 1000, elapsed 500
+-- K6: way -97, time 1000, elapsed 500: toward zero
 k6 : partOf (negℤ (pos 97)) (permilleOf 500 1000) ≡ negℤ (pos 48)
 unfolding permilleOf
 k6 = refl
 
--- K9: a loop of a second, at 994, 995, 1005 and 1006 milliseconds
-k9-994 : loopTurn 994 1 ≡ 65142
+-- K9: a loop of a second, up
+k9 : map (λ e. loopWay ColorLoopDirectionEnum.Increment e 1) (994 ∷ 995 ∷ 1005 ∷ 1006 ∷ 5 ∷ []) ≡ pos 65142 ∷ pos 65536 ∷ pos 65536 ∷ pos 65929 ∷ pos 327 ∷ []
 unfolding loopTurn snapped
-k9-994 = refl
+k9 = refl
 
-k9-995 : loopTurn 995 1 ≡ 65536
+-- K10: and down
+k10 : loopWay ColorLoopDirectionEnum.Decrement 1 1 ≡ negℤ (pos 65)
 unfolding loopTurn snapped
-k9-995 = refl
+k10 = refl
 
-k9-1005 : loopTurn 1005 1 ≡ 65536
-unfolding loopTurn snapped
-k9-1005 = refl
+-- K12: 100 a second, after 100 and 2500 milliseconds
+k12 : map (wayAtRate (pos 100)) (100 ∷ 2500 ∷ []) ≡ pos 10 ∷ pos 250 ∷ []
+k12 = refl
 
-k9-1006 : loopTurn 1006 1 ≡ 65536 + 393
-unfolding loopTurn snapped
-k9-1006 = refl
+-- 1 a second at the limit of clocks, and past it
+rate-at-limit : map (wayAtRate (pos 1)) (clockLimit ∷ (clockLimit + 1000) ∷ []) ≡ pos 1099511627 ∷ pos 1099511627 ∷ []
+rate-at-limit = refl
 
 -- ---- permille
 
@@ -110,14 +113,17 @@ part-within way p h = omega (arith, part-size way p, mul-le-mul-left (natAbs way
 pub part-grows : (way : ℤ) (p q : ℕ) → p ≤ q → natAbs (partOf way p) ≤ natAbs (partOf way q)
 part-grows way p q h = omega (arith, part-size way p, part-size way q, mul-le-mul-left (natAbs way) h)
 
--- ---- tenths: the fewest that are no shorter
+-- ---- tenths
 
+-- no shorter than the milliseconds
 pub tenths-enough : (ms : ℕ) → ms ≤ 100 * tenthsOf ms
 tenths-enough ms = omega arith
 
+-- and with one tenth less, shorter
 pub tenths-fewest : (ms : ℕ) → 100 * tenthsOf ms < ms + 100
 tenths-fewest ms = omega arith
 
+-- a whole number of tenths is itself
 pub tenths-exact : (d : ℕ) → tenthsOf (100 * d) ≡ d
 tenths-exact d = omega arith
 
@@ -176,15 +182,17 @@ module _ (P : ℕ → Type 0) (raw : ℕ)
   unfolding snapped
   snapped-by = snapped-on (leb 65152 (raw % 65536)) (leb (raw % 65536) 384) (leb 65536 raw) refl refl refl
 
--- each case as an equation
+-- near the whole turn above: that one
 pub snapped-above : (raw : ℕ) → 65152 ≤ raw % 65536 → snapped raw ≡ (raw / 65536 + 1) * 65536
 unfolding snapped
 snapped-above raw h = rw (le-leb 65152 (raw % 65536) h)
 
+-- near the whole turn below: that one
 pub snapped-below : (raw : ℕ) → raw % 65536 ≤ 384 → 65536 ≤ raw → snapped raw ≡ raw / 65536 * 65536
 unfolding snapped
 snapped-below raw h k = rw (lt-leb 65152 (raw % 65536) (omega arith), le-leb (raw % 65536) 384 h, le-leb 65536 raw k)
 
+-- near neither, or in the first turn: as it is
 pub snapped-kept : (raw : ℕ) → raw % 65536 < 65152 → (384 < raw % 65536) ⊎ (raw < 65536) → snapped raw ≡ raw
 snapped-kept raw h k =
     snapped-by (λ s. s ≡ raw) raw (λ u. omega arith) (λ u v. ⊎-elim (λ x. omega arith) (λ x. omega arith) k) (λ u v. refl)

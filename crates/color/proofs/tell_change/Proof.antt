@@ -1,3 +1,5 @@
+-- Six pushes are the notices of a change.
+-- Assumes nothing.
 use Rattle.color.proofs.Laws.{change-pushes}
 use borrow.Author.Needs.{needs}
 use Rattle.color.proofs.tell_change.Statement.{statement}

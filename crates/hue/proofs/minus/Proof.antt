@@ -1,7 +1,7 @@
 -- `hue::minus`: sixteen bits, negated, fit 32, so that the machine reads back what it wrote.
 -- Assumes nothing.
 use native.Mathlib.Omega.{arith}
-use lib.IntN.{ℤ, pos, negℤ, +ℤ-idl}
+use lib.IntN.{pos, negℤ, +ℤ-idl}
 use mir.Syntax.{w32}
 use mir.Val.{SFits}
 use mir.ValLaws.{toZ-ofZ}

@@ -3,16 +3,15 @@
 -- Assumes nothing.
 use mathlib.Core.Path.{_≡_, sym, ap, _∙_}
 use mathlib.Core.Bool.{true, false}
-use Prim.Native.Nat.{ℕ, _+_, _-_, _%_, _<_}
+use Prim.Native.Nat.{_+_, _-_, _%_, _<_}
 use native.Mathlib.Omega.{arith}
-use lib.Dec.{T}
-use lib.IntN.{ℤ, pos, negsuc, negℤ, natAbs, _-ℤ_, +ℤ-idl}
-use lib.Signed.{leZ, nonNeg, quotZ, remZ}
-use mir.Syntax.{w16, w64}
-use mir.Val.{SFits, Fits, toZ, ofZ}
+use lib.IntN.{ℤ, pos, negℤ, natAbs, +ℤ-idl}
+use lib.Signed.{leZ, remZ}
+use mir.Syntax.{w64}
+use mir.Val.{SFits, toZ, ofZ}
 use mir.ValLaws.{toZ-ofZ}
 use borrow.Author.Needs.{needs}
-use Rattle.integers.proofs.Sizes.{small, size, abs-neg, abs-quot, abs-rem}
+use Rattle.integers.proofs.Sizes.{small, abs-neg, abs-rem, quot-fits}
 use Rattle.integers.proofs.Signs.{is-nonNeg, neg-nonNeg, is-size, is-negated}
 use Rattle.hue.specs.Hue.{movedHue}
 use Rattle.hue.specs.Laws.{moved-up, moved-down, moved-turns}
@@ -54,7 +53,7 @@ down c =
     sym (moved-turns s (c .before .args .part)) ∙ ap (movedHue s) (is-negated (turn (c .before)) (down-taken c)) ∙ moved-down s (natAbs (turn (c .before)))
 
 rem-turn : tie.Need-rem-turn
-rem-turn c = rw (toZ-ofZ w64 _ (c .fits .part)) (omega arith, small w64 _ (rw abs-quot (omega (arith, size (c .fits .part)))))
+rem-turn c = rw (toZ-ofZ w64 _ (c .fits .part)) (omega arith, quot-fits _ (c .fits .part))
 
 cast-wrapping-add-u16 : tie.Need-cast-wrapping-add-u16
 cast-wrapping-add-u16 c = rw (read (c .before)) (is-nonNeg (turn (c .before)) (up-taken c), omega (arith, turn-size (c .before)))

@@ -2,7 +2,7 @@
 -- bounds the sum is no negative number and no larger than the upper.
 -- Assumes nothing.
 use mathlib.Core.Path.{_≡_}
-use mathlib.Core.Bool.{true, false}
+use mathlib.Core.Bool.{false}
 use Prim.Native.Nat.{ℕ, _<_, _≤_}
 use native.Mathlib.Omega.{arith}
 use lib.Dec.{T}
@@ -33,16 +33,16 @@ module _ (c : tie.Start) (bound : ℕ) (h : bound < 65536) where
       rw (toZ-pos w64 {n = bound} (omega arith), toZ-pos w64 {n = c .args .start} (omega arith))
       (small w64 _ (omega (arith, abs-add (pos bound) (negℤ (pos (c .args .start))), abs-neg (pos (c .args .start)))))
 
+  difference : toZ w64 (ofZ w64 (toZ w64 bound -ℤ toZ w64 (c .args .start))) ≡ pos bound -ℤ pos (c .args .start)
+  difference =
+      rw (toZ-ofZ w64 _ fits, toZ-pos w64 {n = bound} (omega arith), toZ-pos w64 {n = c .args .start} (omega arith))
+
   -- the test against the lower bound, and that against the upper
   low : ltZ (toZ w64 (ofZ w64 (c .args .part))) (toZ w64 (ofZ w64 (toZ w64 bound -ℤ toZ w64 (c .args .start)))) ≡ ltZ (sum c) (pos bound)
-  low =
-      rw (toZ-ofZ w64 _ (c .fits .part), toZ-ofZ w64 _ fits, toZ-pos w64 {n = bound} (omega arith), toZ-pos w64 {n = c .args .start} (omega arith))
-      (lt-difference (c .args .start) bound (c .args .part))
+  low = rw (toZ-ofZ w64 _ (c .fits .part), difference) (lt-difference (c .args .start) bound (c .args .part))
 
   high : ltZ (toZ w64 (ofZ w64 (toZ w64 bound -ℤ toZ w64 (c .args .start)))) (toZ w64 (ofZ w64 (c .args .part))) ≡ ltZ (pos bound) (sum c)
-  high =
-      rw (toZ-ofZ w64 _ (c .fits .part), toZ-ofZ w64 _ fits, toZ-pos w64 {n = bound} (omega arith), toZ-pos w64 {n = c .args .start} (omega arith))
-      (difference-lt (c .args .start) bound (c .args .part))
+  high = rw (toZ-ofZ w64 _ (c .fits .part), difference) (difference-lt (c .args .start) bound (c .args .part))
 
 not-low : (c : tie.Else1) → ltZ (sum (c .before)) (pos (c .before .args .lo)) ≡ false
 not-low c = rw (low (c .before) (c .before .args .lo) (omega arith)) at (c .if1 .left)

@@ -1,8 +1,8 @@
--- `progress::loop_turn`: by the cases of the definition, which the code's tests tell apart. The quotient is no larger than 2 ^ 56.
+-- `progress::loop_turn`: by the cases of the definition, which the code's tests tell apart. The quotient is at most 2 ^ 56.
 -- Assumes nothing.
 use mathlib.Core.Path.{_≡_}
 use mathlib.Core.Logic.{inl, inr}
-use Prim.Native.Nat.{ℕ, _*_, _/_, _%_, _<_}
+use Prim.Native.Nat.{ℕ, _*_, _/_, _^_, _≤_}
 use native.Mathlib.Nat.{div-le-self}
 use native.Mathlib.Omega.{arith}
 use borrow.Author.Needs.{needs}
@@ -14,7 +14,7 @@ use Rattle.progress.proofs.loop_turn.Tie as tie
 abbrev raw : tie.After-loop-ms → ℕ
 raw c = 65536 * c .before .within-limit .result / c .loop-ms .result
 
-raw-small : (c : tie.After-loop-ms) → raw c < 72057594037927937
+raw-small : (c : tie.After-loop-ms) → raw c ≤ 2 ^ 56
 raw-small c = omega (arith, div-le-self (65536 * c .before .within-limit .result) (c .loop-ms .result))
 
 turn : (c : tie.After-loop-ms) → loopTurn (c .before .before .args .elapsed) (c .before .before .args .seconds) ≡ snapped (raw c)

@@ -3,9 +3,9 @@
 use mathlib.Core.Path.{_≡_}
 use Prim.Native.Nat.{_<_, _^_}
 use native.Mathlib.Omega.{arith}
-use lib.IntN.{ℤ, pos, negℤ, +ℤ-idl}
+use lib.IntN.{pos, +ℤ-idl}
 use mir.Syntax.{w64}
-use mir.Val.{SFits, toZ}
+use mir.Val.{toZ}
 use mir.ValLaws.{toZ-ofZ}
 use mir.Facts.{toZ-pos}
 use borrow.Author.Needs.{needs}

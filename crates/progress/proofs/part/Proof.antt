@@ -3,18 +3,13 @@
 -- Assumes nothing.
 use native.Mathlib.Nat.{mul-le-mul}
 use native.Mathlib.Omega.{arith}
-use lib.IntN.{ℤ, pos, _*ℤ_}
 use mir.Syntax.{w32, w64}
-use mir.Val.{SFits}
 use mir.ValLaws.{toZ-ofZ}
 use mir.Facts.{toZ-pos}
 use borrow.Author.Needs.{needs}
 use Rattle.integers.proofs.Sizes.{small, size, abs-mul, quot-fits, wider, read-wider}
 use Rattle.progress.proofs.part.Statement.{statement}
 use Rattle.progress.proofs.part.Tie as tie
-
-product : (c : tie.Start) → SFits w64 (c .args .way *ℤ pos (c .args .permille))
-product c = small w64 _ (rw abs-mul (omega (arith, mul-le-mul {m₁ = c .args .permille} {m₂ = 65535} (size (c .fits .way)) (omega arith))))
 
 cast-result : tie.Need-cast-result
 cast-result c = rw (toZ-ofZ w32 _ (c .fits .way)) (wider (c .fits .way))
@@ -23,10 +18,12 @@ cast-result-2 : tie.Need-cast-result-2
 cast-result-2 c = search needs
 
 mul-result : tie.Need-mul-result
-mul-result c = rw (read-wider _ (c .fits .way), toZ-pos w64 {n = c .args .permille} (omega arith)) (product c)
+mul-result c =
+    rw (read-wider _ (c .fits .way), toZ-pos w64 {n = c .args .permille} (omega arith))
+    (small w64 _ (rw abs-mul (omega (arith, mul-le-mul {m₁ = c .args .permille} {m₂ = 65535} (size (c .fits .way)) (omega arith)))))
 
 div-result : tie.Need-div-result
-div-result c = rw (read-wider _ (c .fits .way), toZ-pos w64 {n = c .args .permille} (omega arith), toZ-ofZ w64 _ (product c)) (omega arith, quot-fits _ (product c))
+div-result c = (omega arith, rw (toZ-ofZ w64 _ (mul-result c)) (quot-fits _ (mul-result c)))
 
 returns : tie.Need-returns
 returns c =

@@ -17,7 +17,7 @@ div-result : tie.Need-div-result
 div-result c = search needs
 
 cast-result : tie.Need-cast-result
-cast-result c = omega (arith, permille-is (c .before .args .elapsed) (c .before .args .time) (omega arith), permille-short (c .before .args .elapsed) (c .before .args .time) (omega arith))
+cast-result c = record { fits = div-lt-iff-lt-mul (div-result c) .1 (omega arith) }
 
 returns-2 : tie.Need-returns-2
 returns-2 c = omega (arith, permille-is (c .before .args .elapsed) (c .before .args .time) (omega arith), permille-short (c .before .args .elapsed) (c .before .args .time) (omega arith))

@@ -1,10 +1,13 @@
-use Rattle.color.specs.Setters.{setColorTemperature}
+-- An equal number that is no end changes nothing; else the change and its notices are those of the definition.
+-- Assumes nothing.
+use Rattle.notices.specs.Notices.{pushedAll}
+use Rattle.color.specs.Setters.{miredsSet, miredsTold}
 use borrow.Author.Needs.{needs}
 use Rattle.color.proofs.Color.set_color_temperature.Statement.{statement}
 use Rattle.color.proofs.Color.set_color_temperature.Tie as tie
 
 returns : tie.Need-returns
-unfolding setColorTemperature
+unfolding miredsSet miredsTold pushedAll
 returns c = simp (c .if1 .taken)
 
 is-due-requires : tie.Need-is-due-requires
@@ -17,7 +20,7 @@ tell-change-requires : tie.Need-tell-change-requires
 tell-change-requires c κs = search needs
 
 returns-2 : tie.Need-returns-2
-unfolding setColorTemperature
+unfolding miredsSet miredsTold pushedAll
 returns-2 c = simp (c .tell-change .ensures, c .before .stamp-at .ensures, c .before .before .is-due .ensures, c .before .before .before .before .if1 .left)
 
 pub set-color-temperature-spec : {M : Type 1} → statement M

@@ -1,10 +1,13 @@
-use Rattle.color.specs.Setters.{setHue}
+-- An equal number that is no end changes nothing; else the change and its notices are those of the definition.
+-- Assumes nothing.
+use Rattle.notices.specs.Notices.{pushedAll}
+use Rattle.color.specs.Setters.{hueSet, hueTold}
 use borrow.Author.Needs.{needs}
 use Rattle.color.proofs.Color.set_hue.Statement.{statement}
 use Rattle.color.proofs.Color.set_hue.Tie as tie
 
 returns : tie.Need-returns
-unfolding setHue
+unfolding hueSet hueTold pushedAll
 returns c = simp (c .if1 .taken)
 
 is-due-requires : tie.Need-is-due-requires
@@ -20,7 +23,7 @@ tell-change-requires : tie.Need-tell-change-requires
 tell-change-requires c κs = search needs
 
 returns-2 : tie.Need-returns-2
-unfolding setHue
+unfolding hueSet hueTold pushedAll
 returns-2 c = simp (c .tell-change .ensures, c .before .hue-mode .ensures, c .before .before .stamp-at .ensures, c .before .before .before .is-due .ensures, c .before .before .before .before .before .if1 .left)
 
 pub set-hue-spec : {M : Type 1} → statement M

@@ -1,3 +1,5 @@
+-- The clock is looked at first, then the bounds; else the fresh lamp.
+-- Assumes nothing.
 use Rattle.lamp.specs.Making.{making}
 use borrow.Author.Tests.{lt-ltb, le-ltb}
 use borrow.Author.Needs.{needs}

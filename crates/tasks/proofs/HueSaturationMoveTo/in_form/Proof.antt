@@ -1,3 +1,5 @@
+-- Each test is what the function called for it ensures.
+-- Assumes nothing.
 use Rattle.matter.specs.All.{all}
 use Rattle.tasks.specs.Form.{moveToForm}
 use borrow.Author.Needs.{needs}

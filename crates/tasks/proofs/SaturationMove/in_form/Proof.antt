@@ -1,3 +1,5 @@
+-- The tests of the code are the tests of the definition, in the same order.
+-- Assumes nothing.
 use Rattle.matter.specs.All.{all}
 use Rattle.tasks.specs.Form.{saturationMoveForm}
 use borrow.Author.Needs.{needs}

@@ -1,0 +1,78 @@
+-- The cases marked K in document 01: what a case says, and the list of all of them.
+-- Assumes nothing.
+use Prim.Native.Nat.{ℕ}
+use mathlib.Core.Bool.{Bool, true, false, not, _&&_, _||_}
+use mathlib.Core.List.{List, [], _∷_}
+use lib.Dec.{eqb}
+use lib.IntN.{ℤ, pos, negℤ}
+use lib.Signed.{leZ}
+use Rattle.matter.specs.declared.DirectionEnum.{DirectionEnum}
+use Rattle.matter.specs.declared.ColorLoopDirectionEnum.{ColorLoopDirectionEnum}
+use Rattle.hue.specs.Hue.{pathDelta, movedHue}
+use Rattle.progress.specs.Progress.{permilleOf, partOf, broughtWithin, tenthsOf, loopWay}
+use Rattle.remaining_time.specs.RemainingTime.{told}
+
+pub data Case : Type 0 where
+  -- from one hue to another, in a direction: the way
+  way : ℕ → ℕ → DirectionEnum → ℤ → Case
+  -- a way, its time and the time elapsed: permille and part
+  progress : ℤ → ℕ → ℕ → ℕ → ℤ → Case
+  -- the mireds at the start, and the same: the mireds, between 153 and 500
+  mireds : ℕ → ℤ → ℕ → ℕ → ℕ → Case
+  -- the old tenths and the new, and whether a transition starts: whether it is told
+  remaining : ℕ → ℕ → Bool → Bool → Case
+  -- milliseconds: tenths
+  tenths : ℕ → ℕ → Case
+  -- a loop of so many seconds from hue 0, and the time elapsed: the hue that is shown
+  loop : ColorLoopDirectionEnum → ℕ → ℕ → ℕ → Case
+
+abbrev sameZ : ℤ → ℤ → Bool
+sameZ a b = leZ a b && leZ b a
+
+abbrev sameBool : Bool → Bool → Bool
+sameBool a b = (a && b) || (not a && not b)
+
+-- whether the definitions say the same
+abbrev pub holds : Case → Bool
+holds (way from to direction answer) = sameZ (pathDelta from to direction) answer
+holds (progress w time elapsed permille part) = eqb (permilleOf elapsed time) permille && sameZ (partOf w (permilleOf elapsed time)) part
+holds (mireds start w time elapsed answer) = eqb (broughtWithin 153 500 start (partOf w (permilleOf elapsed time))) answer
+holds (remaining old new start answer) = sameBool (told old new start) answer
+holds (tenths ms answer) = eqb (tenthsOf ms) answer
+holds (loop direction seconds elapsed answer) = eqb (movedHue 0 (loopWay direction elapsed seconds)) answer
+
+abbrev pub cases : List Case
+cases =
+    -- K1 and K2
+    way 0 32768 DirectionEnum.Shortest (pos 32768)
+    ∷ way 0 32768 DirectionEnum.Longest (negℤ (pos 32768))
+    -- K3: equal hues, any direction
+    ∷ way 0 0 DirectionEnum.Shortest (pos 0)
+    ∷ way 0 0 DirectionEnum.Longest (pos 0)
+    ∷ way 0 0 DirectionEnum.Up (pos 0)
+    ∷ way 0 0 DirectionEnum.Down (pos 0)
+    ∷ way 65535 65535 DirectionEnum.Shortest (pos 0)
+    ∷ way 65535 65535 DirectionEnum.Longest (pos 0)
+    ∷ way 65535 65535 DirectionEnum.Up (pos 0)
+    ∷ way 65535 65535 DirectionEnum.Down (pos 0)
+    -- K5
+    ∷ progress (pos 65280) 7000 3000 428 (pos 27939)
+    -- K6
+    ∷ progress (negℤ (pos 97)) 1000 500 500 (negℤ (pos 48))
+    ∷ mireds 250 (negℤ (pos 97)) 1000 500 202
+    -- K7
+    ∷ remaining 0 10 false false
+    ∷ remaining 0 11 false true
+    ∷ remaining 50 60 true false
+    ∷ remaining 50 61 true true
+    -- K8
+    ∷ tenths 3999 40
+    -- K9
+    ∷ loop ColorLoopDirectionEnum.Increment 1 994 65142
+    ∷ loop ColorLoopDirectionEnum.Increment 1 995 0
+    ∷ loop ColorLoopDirectionEnum.Increment 1 1005 0
+    ∷ loop ColorLoopDirectionEnum.Increment 1 1006 393
+    ∷ loop ColorLoopDirectionEnum.Increment 1 5 327
+    -- K10
+    ∷ loop ColorLoopDirectionEnum.Decrement 1 1 65471
+    ∷ []
