@@ -1,0 +1,30 @@
+-- `replay::run::delta`: a way of 32 bits fits 64.
+-- Assumes nothing.
+use mir.Val.{SFits}
+use mir.Syntax.{w32}
+use mir.ValLaws.{toZ-ofZ}
+use Rattle.integers.proofs.Sizes.{wider}
+use borrow.Author.Needs.{needs}
+use Rattle.replay.proofs.run.delta.Statement.{statement}
+use Rattle.replay.proofs.run.delta.Tie as tie
+
+hue-path-delta-requires : tie.Need-hue-path-delta-requires
+hue-path-delta-requires c κs = search needs
+
+cast-signed : tie.Need-cast-signed
+cast-signed c =
+    let fits : SFits w32 (c .before .hue-path-delta .result) = record { sfits = c .before .hue-path-delta .ok } in
+    rw (toZ-ofZ w32 _ fits) (wider fits)
+
+signed-requires : tie.Need-signed-requires
+signed-requires c κs = search needs
+
+same-length : tie.Need-same-length
+same-length c = search needs
+
+returns : tie.Need-returns
+returns c = search needs
+
+pub delta-spec : {M : Type 1} → statement M
+delta-spec =
+    tie.close (tie.spec hue-path-delta-requires cast-signed signed-requires same-length returns)

@@ -1,0 +1,136 @@
+// Reading the cluster's enums by their numbers, and the on/off words. A number that no case has is LOST.
+use crate::words;
+use crate::words::LOST;
+use matter::ColorLoopDirectionEnum;
+use matter::ColorLoopDirectionFound;
+use matter::ColorModeEnum;
+use matter::ColorModeFound;
+use matter::DirectionEnum;
+use matter::DirectionFound;
+use matter::EnhancedColorModeEnum;
+use matter::EnhancedColorModeFound;
+use matter::MoveModeEnum;
+use matter::MoveModeFound;
+use matter::OnOff;
+
+pub struct DirectionRead {
+    pub value: DirectionEnum,
+    pub at: usize,
+}
+
+pub struct MoveModeRead {
+    pub value: MoveModeEnum,
+    pub at: usize,
+}
+
+pub struct LoopDirectionRead {
+    pub value: ColorLoopDirectionEnum,
+    pub at: usize,
+}
+
+pub struct ModeRead {
+    pub value: ColorModeEnum,
+    pub at: usize,
+}
+
+pub struct EnhancedModeRead {
+    pub value: EnhancedColorModeEnum,
+    pub at: usize,
+}
+
+pub struct OnOffRead {
+    pub value: OnOff,
+    pub at: usize,
+}
+
+pub fn path_direction(line: &[u8], at: usize) -> DirectionRead {
+    let n = words::byte(line, at);
+    match DirectionEnum::of_number(n.value) {
+        DirectionFound::Known(direction) => DirectionRead {
+            value: direction,
+            at: n.at,
+        },
+        DirectionFound::Reserved => DirectionRead {
+            value: DirectionEnum::Shortest,
+            at: LOST,
+        },
+    }
+}
+
+pub fn move_mode(line: &[u8], at: usize) -> MoveModeRead {
+    let n = words::byte(line, at);
+    match MoveModeEnum::of_number(n.value) {
+        MoveModeFound::Known(mode) => MoveModeRead {
+            value: mode,
+            at: n.at,
+        },
+        MoveModeFound::Reserved => MoveModeRead {
+            value: MoveModeEnum::Stop,
+            at: LOST,
+        },
+    }
+}
+
+pub fn loop_direction(line: &[u8], at: usize) -> LoopDirectionRead {
+    let n = words::byte(line, at);
+    match ColorLoopDirectionEnum::of_number(n.value) {
+        ColorLoopDirectionFound::Known(direction) => LoopDirectionRead {
+            value: direction,
+            at: n.at,
+        },
+        ColorLoopDirectionFound::Reserved => LoopDirectionRead {
+            value: ColorLoopDirectionEnum::Decrement,
+            at: LOST,
+        },
+    }
+}
+
+pub fn color_mode(line: &[u8], at: usize) -> ModeRead {
+    let n = words::byte(line, at);
+    match ColorModeEnum::of_number(n.value) {
+        ColorModeFound::Known(mode) => ModeRead {
+            value: mode,
+            at: n.at,
+        },
+        ColorModeFound::Reserved => ModeRead {
+            value: ColorModeEnum::CurrentXAndCurrentY,
+            at: LOST,
+        },
+    }
+}
+
+pub fn enhanced_mode(line: &[u8], at: usize) -> EnhancedModeRead {
+    let n = words::byte(line, at);
+    match EnhancedColorModeEnum::of_number(n.value) {
+        EnhancedColorModeFound::Known(mode) => EnhancedModeRead {
+            value: mode,
+            at: n.at,
+        },
+        EnhancedColorModeFound::Reserved => EnhancedModeRead {
+            value: EnhancedColorModeEnum::CurrentXAndCurrentY,
+            at: LOST,
+        },
+    }
+}
+
+// `on`, `off`, or `none` where there is no on/off handler.
+pub fn on_off(line: &[u8], at: usize) -> OnOffRead {
+    let on = words::after(line, at, b"on");
+    if on != LOST {
+        return OnOffRead {
+            value: OnOff::On,
+            at: on,
+        };
+    }
+    let off = words::after(line, at, b"off");
+    if off != LOST {
+        return OnOffRead {
+            value: OnOff::Off,
+            at: off,
+        };
+    }
+    OnOffRead {
+        value: OnOff::NoHandler,
+        at: words::after(line, at, b"none"),
+    }
+}

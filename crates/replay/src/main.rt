@@ -1,0 +1,136 @@
+// Replays calls on a lamp: each line of standard input is a call, and its answer a line of standard output.
+mod calls;
+mod enums;
+mod fields;
+mod moves;
+mod print;
+mod records;
+mod run;
+mod words;
+
+use libc::STDIN_FILENO;
+use libc::STDOUT_FILENO;
+use run::State;
+ghost use Prim.Native.Nat.{_≤_};
+ghost use lib.ListN.{length};
+ghost use Rattle.io.specs.Counts.{Counts};
+
+// Past this place the answers are written out before the next, so that the longest answer has room.
+const NEARLY_FULL: usize = 64000;
+
+// What is kept from one block of input to the next: the state, how much of a line has come, the place after the answers
+// that are not yet written, and whether there may be more.
+struct Replay {
+    state: State,
+    len: usize,
+    at: usize,
+    more: bool,
+}
+
+// A count brought within a buffer.
+fn within(count: usize, buffer: &[u8]) -> usize
+    ensures { λ r. ⌜ Counts r (now (buffer .entry)) ⌝ }
+{
+    if count < buffer.len() {
+        count
+    } else {
+        buffer.len()
+    }
+}
+
+// The place of the next newline, or the block's end.
+fn line_end(block: &[u8], from: usize) -> usize
+    requires { ⌜ from ≤ length (now block) ⌝ }
+    ensures { λ r. ⌜ (from ≤ r) × (r ≤ length (now (block .entry))) ⌝ }
+{
+    let mut at = from;
+    while at < block.len() {
+        if block[at] == b'\n' {
+            break;
+        }
+        at += 1;
+    }
+    at
+}
+
+fn write_out(out: &[u8], at: usize) {
+    let n = within(at, out);
+    io::write_all(STDOUT_FILENO, &out[..n]);
+}
+
+// Answers the line that has come.
+fn end_line(replay: Replay, line: &[u8], out: &mut [u8]) -> Replay {
+    let mut at = replay.at;
+    if NEARLY_FULL < at {
+        write_out(out, at);
+        at = 0;
+    }
+    let n = within(replay.len, line);
+    let before = replay.state;
+    let turn = run::answer(before, &line[..n], out, at);
+    let state = turn.state;
+    Replay {
+        state: state,
+        len: 0,
+        at: turn.at,
+        more: replay.more,
+    }
+}
+
+// Adds a part to the line that is coming, and answers it where it ends there. The line's buffer is one byte longer than
+// the longest line that can be read; what does not fit is left out.
+fn take_part(replay: Replay, part: &[u8], is_end: bool, line: &mut [u8], out: &mut [u8]) -> Replay {
+    let mut longer = replay;
+    longer.len = print::text(line, replay.len, part);
+    if is_end {
+        end_line(longer, line, out)
+    } else {
+        longer
+    }
+}
+
+// Answers the lines that end in a block.
+fn take_block(start: Replay, block: &[u8], line: &mut [u8], out: &mut [u8]) -> Replay {
+    let mut replay = start;
+    let mut at = 0;
+    while at < block.len() {
+        let end = line_end(block, at);
+        replay = take_part(replay, &block[at..end], end < block.len(), line, out);
+        at = end + 1;
+    }
+    replay
+}
+
+// One block of the input. At its end the line that has come, where there is one, is answered.
+fn next_block(replay: Replay, block: &mut [u8], line: &mut [u8], out: &mut [u8]) -> Replay {
+    let got = libc::read(STDIN_FILENO, block);
+    if got > 0 {
+        let n = io::count(got, block);
+        return take_block(replay, &block[..n], line, out);
+    }
+    let mut last = end_line(replay, line, out);
+    write_out(out, last.at);
+    last.more = false;
+    last
+}
+
+// Nothing says that the input ends, so the blocks are counted, down from a number that no run uses up.
+fn main() {
+    let mut block_space = io::large_buffer();
+    let mut line_space = io::buffer();
+    let mut out_space = io::large_buffer();
+    let block: &mut [u8] = &mut block_space;
+    let line: &mut [u8] = &mut line_space;
+    let out: &mut [u8] = &mut out_space;
+    let mut replay = Replay {
+        state: run::nothing_yet(),
+        len: 0,
+        at: 0,
+        more: true,
+    };
+    let mut turns = u64::MAX;
+    while turns > 0 && replay.more {
+        replay = next_block(replay, block, line, out);
+        turns -= 1;
+    }
+}
