@@ -1,11 +1,12 @@
--- Laws of the vocabulary: a list of tests that hold, and numbers looked up.
+-- Laws of the vocabulary: a choice, a list of tests that hold, and numbers looked up.
 -- Assumes nothing.
-use Prim.Native.Nat.{ℕ}
+use Prim.Native.Nat.{ℕ, _≤_}
 use mathlib.Core.Bool.{Bool, true, false, cond, _&&_}
 use mathlib.Core.List.{List, [], _∷_}
 use mathlib.Core.Path.{_≡_, refl, sym}
-use lib.Dec.{eqb}
-use borrow.Author.Tests.{eqb-true}
+use native.Mathlib.Omega.{arith}
+use lib.Dec.{eqb, leb}
+use borrow.Author.Tests.{eqb-true, leb-true, le-leb}
 use Rattle.matter.specs.All.{all, allFrom}
 use Rattle.matter.specs.Numbers.{lookup, directionNumber, directionFound, moveModeNumber, moveModeFound, stepModeNumber, stepModeFound, loopActionNumber, loopActionFound, loopDirectionNumber, loopDirectionFound, colorModeNumber, colorModeFound, enhancedColorModeNumber, enhancedColorModeFound, onOffNumber, onOffFound}
 use Rattle.matter.specs.declared.DirectionEnum.{DirectionEnum}
@@ -35,6 +36,17 @@ pub and-right : (a b : Bool) → (a && b) ≡ true → b ≡ true
 and-right true b e = e
 and-right false true e = refl
 and-right false false e = e
+
+-- ---- what holds of both sides of a choice, where each is chosen, holds of the choice
+
+pub cond-both : {A : Type 0} (P : A → Type 0) (t : Bool) (a b : A) → (t ≡ true → P a) → (t ≡ false → P b) → P (cond t a b)
+cond-both P true a b h k = h refl
+cond-both P false a b h k = k refl
+
+-- ---- what is at most a number is at most a later one
+
+pub leb-later : (n a b : ℕ) → leb n a ≡ true → a ≤ b → leb n b ≡ true
+leb-later n a b e h = le-leb n b (omega (arith, leb-true n a e))
 
 -- ---- a list of tests: all hold exactly where each does
 

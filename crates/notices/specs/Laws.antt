@@ -1,6 +1,7 @@
 -- What is pushed stands in the list in its order, with zeros behind it, as long as it fits.
 -- Assumes nothing.
 use Prim.Native.Nat.{ℕ, suc, _+_, _-_, _≤_, _<_}
+use mathlib.Core.Bool.{Bool, true, false}
 use mathlib.Core.Path.{_≡_, refl, sym, ap, _∙_}
 use mathlib.Core.List.{List, [], _∷_, _++_, append-assoc, append-nil}
 use native.Mathlib.Omega.{arith}
@@ -8,7 +9,12 @@ use borrow.Author.Tests.{lt-ltb}
 use lib.ListN.{length, replicate, set, length-append}
 use lib.Seq.{set-append-seam}
 use Rattle.notices.specs.declared.Notices.{Notices}
-use Rattle.notices.specs.Notices.{filled, noted, pushed, pushedAll}
+use Rattle.notices.specs.Notices.{only, filled, noted, pushed, pushedAll}
+
+-- a notice or none is at most one
+pub only-one : (test : Bool) (number : ℕ) → length (only test number) ≤ 1
+only-one true number = omega arith
+only-one false number = omega arith
 
 -- pushing two lists one after the other is pushing them joined
 pub pushed-append : (n : Notices) (xs ys : List ℕ) → pushedAll (pushedAll n xs) ys ≡ pushedAll n (xs ++ ys)

@@ -1,16 +1,28 @@
 -- The cases marked K in document 01: what a case says, and the list of all of them.
 -- Assumes nothing.
-use Prim.Native.Nat.{ℕ}
-use mathlib.Core.Bool.{Bool, true, false, not, _&&_, _||_}
+use Prim.Native.Nat.{ℕ, _+_}
+use mathlib.Core.Bool.{Bool, true, false, not, cond, _&&_, _||_}
 use mathlib.Core.List.{List, [], _∷_}
 use lib.Dec.{eqb}
 use lib.IntN.{ℤ, pos, negℤ}
 use lib.Signed.{leZ}
+use Rattle.matter.specs.declared.Command.{Command}
 use Rattle.matter.specs.declared.DirectionEnum.{DirectionEnum}
+use Rattle.matter.specs.declared.MoveModeEnum.{MoveModeEnum}
+use Rattle.matter.specs.declared.OnOff.{OnOff}
+use Rattle.matter.specs.Numbers.{enhancedColorModeNumber}
 use Rattle.matter.specs.declared.ColorLoopDirectionEnum.{ColorLoopDirectionEnum}
 use Rattle.hue.specs.Hue.{pathDelta, movedHue}
 use Rattle.progress.specs.Progress.{permilleOf, partOf, broughtWithin, tenthsOf, loopWay}
 use Rattle.remaining_time.specs.RemainingTime.{told}
+use Rattle.tasks.specs.declared.GivenTask.{GivenTask}
+use Rattle.tasks.specs.Runs.{runs}
+use Rattle.lamp.specs.declared.Lamp.{Lamp}
+use Rattle.lamp.specs.declared.Answer.{Answer}
+use Rattle.lamp.specs.Answers.{refusal}
+use Rattle.lamp.specs.Making.{freshLamp}
+use Rattle.lamp.specs.Calls.{startAnswer, stepAnswer}
+use Rattle.commands.specs.Answers.{commandAnswer}
 
 pub data Case : Type 0 where
   -- from one hue to another, in a direction: the way
@@ -25,12 +37,52 @@ pub data Case : Type 0 where
   tenths : ℕ → ℕ → Case
   -- a loop of so many seconds from hue 0, and the time elapsed: the hue that is shown
   loop : ColorLoopDirectionEnum → ℕ → ℕ → ℕ → Case
+  -- a plain move to a hue: the number of the answer
+  moveToHue : ℕ → ℕ → Case
+  -- mireds up at 100 a second between two limits, started, and stepped at an elapsed time above 0: the mireds, and whether it
+  -- is done
+  miredMove : ℕ → ℕ → ℕ → ℕ → Bool → Case
+  -- the same, started: nothing changes
+  miredsStay : ℕ → ℕ → Case
 
 abbrev sameZ : ℤ → ℤ → Bool
 sameZ a b = leZ a b && leZ b a
 
 abbrev sameBool : Bool → Bool → Bool
 sameBool a b = (a && b) || (not a && not b)
+
+-- the lamp of the cases: "bounds 153 and 500, clock 5000, hue 0, mireds 250, on, XY mode"
+abbrev pub lamp : Lamp
+lamp = freshLamp (record { min = 153; max = 500 }) 31 0 5000
+
+abbrev given : Command → Answer
+given c = commandAnswer lamp c OnOff.On 5000
+
+abbrev startOf : GivenTask → Lamp → Answer
+startOf GivenTask.Nothing l = refusal l 0
+startOf (GivenTask.Given task) l = startAnswer l task 5000
+
+-- a command's task, started on the lamp that the command left
+abbrev started : Answer → Answer
+started a = startOf (a .task) (a .lamp)
+
+abbrev move : ℕ → ℕ → Command
+move min max = Command.MoveColorTemperature MoveModeEnum.Up 100 min max (record { mask = 0; over = 0 })
+
+abbrev at : ℕ → Answer → Answer
+at elapsed a = cond (eqb elapsed 0) a (stepAnswer (a .lamp) (5000 + elapsed))
+
+abbrev idle : Answer → Bool
+idle a = not (runs (a .lamp .running))
+
+-- accepted and done, told nothing, with the colour and the remaining time of the lamp
+abbrev unchanged : Answer → Bool
+unchanged a =
+    eqb (a .number) 0 && idle a && eqb (a .notices .len) 0 && eqb (a .lamp .color .hue) (lamp .color .hue)
+    && eqb (a .lamp .color .saturation) (lamp .color .saturation)
+    && eqb (a .lamp .color .mireds) (lamp .color .mireds)
+    && eqb (enhancedColorModeNumber (a .lamp .color .emode)) (enhancedColorModeNumber (lamp .color .emode))
+    && eqb (a .lamp .remaining .tenths) (lamp .remaining .tenths)
 
 -- whether the definitions say the same
 abbrev pub holds : Case → Bool
@@ -40,6 +92,10 @@ holds (mireds start w time elapsed answer) = eqb (broughtWithin 153 500 start (p
 holds (remaining old new start answer) = sameBool (told old new start) answer
 holds (tenths ms answer) = eqb (tenthsOf ms) answer
 holds (loop direction seconds elapsed answer) = eqb (movedHue 0 (loopWay direction elapsed seconds)) answer
+holds (moveToHue hue answer) = eqb (given (Command.MoveToHue hue DirectionEnum.Shortest 10 (record { mask = 0; over = 0 })) .number) answer
+holds (miredMove min max elapsed answer done) =
+    eqb (at elapsed (started (given (move min max))) .lamp .color .mireds) answer && sameBool (idle (at elapsed (started (given (move min max))))) done
+holds (miredsStay min max) = unchanged (started (given (move min max)))
 
 abbrev pub cases : List Case
 cases =
@@ -55,6 +111,9 @@ cases =
     ∷ way 65535 65535 DirectionEnum.Longest (pos 0)
     ∷ way 65535 65535 DirectionEnum.Up (pos 0)
     ∷ way 65535 65535 DirectionEnum.Down (pos 0)
+    -- K4
+    ∷ moveToHue 254 0
+    ∷ moveToHue 255 1
     -- K5
     ∷ progress (pos 65280) 7000 3000 428 (pos 27939)
     -- K6
@@ -75,4 +134,10 @@ cases =
     ∷ loop ColorLoopDirectionEnum.Increment 1 5 327
     -- K10
     ∷ loop ColorLoopDirectionEnum.Decrement 1 1 65471
+    -- K11
+    ∷ miredMove 0 200 0 200 true
+    ∷ miredsStay 500 0
+    -- K12
+    ∷ miredMove 0 0 100 260 false
+    ∷ miredMove 0 0 2500 500 true
     ∷ []

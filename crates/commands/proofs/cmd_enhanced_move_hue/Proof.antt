@@ -1,0 +1,23 @@
+use Rattle.commands.specs.Shared.{taskAnswer}
+use Rattle.commands.specs.Answers.{commandAnswer, commandCause}
+use Rattle.commands.specs.Commands.{commandEffect}
+use borrow.Author.Needs.{needs}
+use Rattle.commands.proofs.cmd_enhanced_move_hue.Statement.{statement}
+use Rattle.commands.proofs.cmd_enhanced_move_hue.Tie as tie
+
+number-if-requires : tie.Need-number-if-requires
+number-if-requires c κs = search needs
+
+stops-requires : tie.Need-stops-requires
+stops-requires c κs = search needs
+
+answer-with-requires : tie.Need-answer-with-requires
+answer-with-requires c κs = search needs
+
+returns : tie.Need-returns
+unfolding commandAnswer commandCause commandEffect taskAnswer
+returns c = simp (c .answer-with .ensures, c .before .stops .ensures, c .before .before .number-if .ensures)
+
+pub cmd-enhanced-move-hue-spec : {M : Type 1} → statement M
+cmd-enhanced-move-hue-spec =
+    tie.close (tie.spec number-if-requires stops-requires answer-with-requires returns)

@@ -1,0 +1,42 @@
+use mir.ValLaws.{toZ-ofZ}
+use mir.Syntax.{w64}
+use borrow.Author.Needs.{needs, sfits-of}
+use Rattle.commands.specs.Shared.{taskAnswer}
+use Rattle.commands.specs.Answers.{commandAnswer, commandCause}
+use Rattle.commands.specs.Commands.{commandEffect}
+use Rattle.commands.proofs.cmd_move_color_temperature.Statement.{statement}
+use Rattle.commands.proofs.cmd_move_color_temperature.Tie as tie
+
+number-if-requires : tie.Need-number-if-requires
+number-if-requires c κs = search needs
+
+signed-rate-requires : tie.Need-signed-rate-requires
+signed-rate-requires c κs = search needs
+
+limit-asked-requires : tie.Need-limit-asked-requires
+limit-asked-requires c κs = search needs
+
+limit-asked-requires-2 : tie.Need-limit-asked-requires-2
+limit-asked-requires-2 c κs = search needs
+
+stops-requires : tie.Need-stops-requires
+stops-requires c κs = search needs
+
+answer-with-requires : tie.Need-answer-with-requires
+answer-with-requires c κs = search needs
+
+returns : tie.Need-returns
+unfolding commandAnswer commandCause commandEffect taskAnswer
+returns c = simp (c .answer-with .ensures, c .before .stops .ensures, c .before .before .limit-asked2 .ensures, c .before .before .before .limit-asked .ensures, toZ-ofZ w64 (c .before .before .before .before .signed-rate .result) (sfits-of (c .before .before .before .before .signed-rate .ok)), c .before .before .before .before .before .number-if .ensures) (simp (c .before .before .before .before .signed-rate .ensures))
+
+pub cmd-move-color-temperature-spec : {M : Type 1} → statement M
+cmd-move-color-temperature-spec =
+    tie.close
+    (tie.spec
+    number-if-requires
+    signed-rate-requires
+    limit-asked-requires
+    limit-asked-requires-2
+    stops-requires
+    answer-with-requires
+    returns)

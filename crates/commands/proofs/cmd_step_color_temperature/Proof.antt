@@ -1,0 +1,46 @@
+use mir.ValLaws.{toZ-ofZ}
+use mir.Syntax.{w64}
+use borrow.Author.Needs.{needs, sfits-of}
+use Rattle.commands.specs.Shared.{taskAnswer}
+use Rattle.commands.specs.Answers.{commandAnswer, commandCause}
+use Rattle.commands.specs.Commands.{commandEffect}
+use Rattle.commands.proofs.cmd_step_color_temperature.Statement.{statement}
+use Rattle.commands.proofs.cmd_step_color_temperature.Tie as tie
+
+number-if-requires : tie.Need-number-if-requires
+number-if-requires c κs = search needs
+
+lower-requires : tie.Need-lower-requires
+lower-requires c κs = search needs
+
+upper-requires : tie.Need-upper-requires
+upper-requires c κs = search needs
+
+step-way-requires : tie.Need-step-way-requires
+step-way-requires c κs = search needs
+
+brought-within-requires : tie.Need-brought-within-requires
+brought-within-requires c κs = search needs
+
+temperature-task-requires : tie.Need-temperature-task-requires
+temperature-task-requires c κs = search needs
+
+answer-with-requires : tie.Need-answer-with-requires
+answer-with-requires c κs = search needs
+
+returns : tie.Need-returns
+unfolding commandAnswer commandCause commandEffect taskAnswer
+returns c = simp (c .answer-with .ensures, c .before .temperature-task .ensures, c .before .before .brought-within .ensures, toZ-ofZ w64 (c .before .before .before .step-way .result) (sfits-of (c .before .before .before .step-way .ok)), c .before .before .before .before .upper .ensures, c .before .before .before .before .before .lower .ensures, c .before .before .before .before .before .before .before .number-if .ensures) (simp (c .before .before .before .step-way .ensures))
+
+pub cmd-step-color-temperature-spec : {M : Type 1} → statement M
+cmd-step-color-temperature-spec =
+    tie.close
+    (tie.spec
+    number-if-requires
+    lower-requires
+    upper-requires
+    step-way-requires
+    brought-within-requires
+    temperature-task-requires
+    answer-with-requires
+    returns)

@@ -1,0 +1,38 @@
+use mir.ValLaws.{toZ-ofZ}
+use mir.Syntax.{w64}
+use borrow.Author.Needs.{needs, sfits-of}
+use Rattle.commands.specs.Shared.{taskAnswer}
+use Rattle.commands.specs.Answers.{commandAnswer, commandCause}
+use Rattle.commands.specs.Commands.{commandEffect}
+use Rattle.commands.proofs.cmd_step_hue.Statement.{statement}
+use Rattle.commands.proofs.cmd_step_hue.Tie as tie
+
+number-if-requires : tie.Need-number-if-requires
+number-if-requires c κs = search needs
+
+stored-hue-requires : tie.Need-stored-hue-requires
+stored-hue-requires c κs = search needs
+
+step-way-requires : tie.Need-step-way-requires
+step-way-requires c κs = search needs
+
+hue-task-requires : tie.Need-hue-task-requires
+hue-task-requires c κs = search needs
+
+answer-with-requires : tie.Need-answer-with-requires
+answer-with-requires c κs = search needs
+
+returns : tie.Need-returns
+unfolding commandAnswer commandCause commandEffect taskAnswer
+returns c = simp (c .answer-with .ensures, c .before .hue-task .ensures, toZ-ofZ w64 (c .before .before .step-way .result) (sfits-of (c .before .before .step-way .ok)), c .before .before .before .before .number-if .ensures) (simp (c .before .before .step-way .ensures, c .before .before .before .stored-hue .ensures))
+
+pub cmd-step-hue-spec : {M : Type 1} → statement M
+cmd-step-hue-spec =
+    tie.close
+    (tie.spec
+    number-if-requires
+    stored-hue-requires
+    step-way-requires
+    hue-task-requires
+    answer-with-requires
+    returns)

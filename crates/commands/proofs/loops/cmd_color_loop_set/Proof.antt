@@ -1,0 +1,53 @@
+-- The looks in their order: 8 and 4, then off; the command has no number of its own.
+-- Assumes nothing.
+use Rattle.commands.specs.Answers.{commandAnswer, commandCause}
+use Rattle.commands.specs.Commands.{commandEffect}
+use Rattle.commands.proofs.Laws.{positive, none}
+use borrow.Author.Tests.{not-true, not-false}
+use borrow.Author.Needs.{needs}
+use Rattle.commands.proofs.loops.cmd_color_loop_set.Statement.{statement}
+use Rattle.commands.proofs.loops.cmd_color_loop_set.Tie as tie
+
+form-or-clock-requires : tie.Need-form-or-clock-requires
+form-or-clock-requires c κs = search needs
+
+refused-requires : tie.Need-refused-requires
+refused-requires c κs = search needs
+
+returns : tie.Need-returns
+unfolding commandAnswer commandCause commandEffect
+returns c = simp (← c .before .before .form-or-clock .ensures, positive _ (c .before .if1 .taken)) (c .refused .ensures)
+
+at-clock-requires : tie.Need-at-clock-requires
+at-clock-requires c κs = search needs
+
+should-continue-requires : tie.Need-should-continue-requires
+should-continue-requires c κs = search needs
+
+passed-over-requires : tie.Need-passed-over-requires
+passed-over-requires c κs = search needs
+
+returns-2 : tie.Need-returns-2
+unfolding commandAnswer commandCause commandEffect
+returns-2 c = simp (← c .before .before .before .before .before .form-or-clock .ensures, none _ (c .before .before .before .before .if1 .left), ← c .before .before .should-continue .ensures, not-true (c .before .before .should-continue .result) (c .before .if2 .taken), c .passed-over .ensures, c .before .before .before .at-clock .ensures)
+
+set-loop-requires : tie.Need-set-loop-requires
+set-loop-requires c κs = search needs
+
+returns-3 : tie.Need-returns-3
+unfolding commandAnswer commandCause commandEffect
+returns-3 c = simp (← c .before .before .before .before .before .form-or-clock .ensures, none _ (c .before .before .before .before .if1 .left), ← c .before .before .should-continue .ensures, not-false (c .before .before .should-continue .result) (c .before .if2 .left), c .set-loop .ensures, c .before .before .before .at-clock .ensures)
+
+pub cmd-color-loop-set-spec : {M : Type 1} → statement M
+cmd-color-loop-set-spec =
+    tie.close
+    (tie.spec
+    form-or-clock-requires
+    refused-requires
+    returns
+    at-clock-requires
+    should-continue-requires
+    passed-over-requires
+    returns-2
+    set-loop-requires
+    returns-3)

@@ -1,0 +1,54 @@
+-- Where the loop is active: the task, the loop, the setter and the device are told in their order.
+-- Assumes nothing.
+use Rattle.commands.proofs.Laws.{off-pushes}
+use Rattle.commands.specs.Commands.{withLoop, activity, deactivated}
+use Rattle.tasks.specs.declared.Task.{Task}
+use Rattle.tasks.specs.declared.GivenTask.{GivenTask}
+use Rattle.color.specs.Setters.{hueSet}
+use Rattle.notices.specs.Notices.{pushedAll}
+use Rattle.notices.specs.declared.Notices.{Notices}
+use mathlib.Core.Path.{ap}
+use mathlib.Core.Bool.{true, false}
+use borrow.Author.Tests.{not-true, not-false}
+use borrow.Author.Needs.{needs}
+use Rattle.commands.proofs.loops.deactivate.Statement.{statement}
+use Rattle.commands.proofs.loops.deactivate.Tie as tie
+
+answer-of-requires : tie.Need-answer-of-requires
+answer-of-requires c κs = search needs
+
+returns : tie.Need-returns
+unfolding deactivated pushedAll
+returns c = simp (not-true (c .before .before .before .args .lamp .looping .active) (c .before .if1 .taken)) (c .answer-of .ensures)
+
+push-requires : tie.Need-push-requires
+push-requires c κs = search needs
+
+push-requires-2 : tie.Need-push-requires-2
+push-requires-2 c κs = search needs
+
+set-hue-requires : tie.Need-set-hue-requires
+set-hue-requires c κs = search needs
+
+push-requires-3 : tie.Need-push-requires-3
+push-requires-3 c κs = search needs
+
+answer-of-requires-2 : tie.Need-answer-of-requires-2
+answer-of-requires-2 c κs = search needs
+
+returns-2 : tie.Need-returns-2
+unfolding deactivated
+returns-2 c = simp (not-false (c .before .before .before .before .before .before .before .before .before .before .before .before .before .args .lamp .looping .active) (c .before .before .before .before .before .before .before .before .before .before .before .if1 .left), c .answer-of2 .ensures, c .before .push3 .ensures, c .before .before .before .before .before .before .before .set-hue .ensures, c .before .before .before .before .before .before .before .before .before .push2 .ensures, c .before .before .before .before .before .before .before .before .before .before .push .ensures) (ap (λ (n : Notices). record { number = 0; lamp = withLoop (c .before .before .before .before .before .before .before .before .before .before .before .before .before .args .lamp) (hueSet (c .before .before .before .before .before .before .before .before .before .before .before .before .before .args .lamp .color) (c .before .before .before .before .before .before .before .before .before .before .before .before .before .args .lamp .looping .stored) true true (c .before .before .before .before .before .before .before .before .before .before .before .before .before .args .lamp .clock)) (activity (c .before .before .before .before .before .before .before .before .before .before .before .before .before .args .lamp .looping) false (c .before .before .before .before .before .before .before .before .before .before .before .before .before .args .lamp .looping .stored)); notices = n; task = GivenTask.Given Task.Stop; wait = 0 }) (off-pushes (c .before .before .before .before .before .before .before .before .before .before .before .before .before .args .list) _))
+
+pub deactivate-spec : {M : Type 1} → statement M
+deactivate-spec =
+    tie.close
+    (tie.spec
+    answer-of-requires
+    returns
+    push-requires
+    push-requires-2
+    set-hue-requires
+    push-requires-3
+    answer-of-requires-2
+    returns-2)

@@ -1,0 +1,38 @@
+-- Each setting is the new one where its flag is set.
+-- Assumes nothing.
+use borrow.Author.Needs.{needs}
+use Rattle.commands.proofs.loops.updated_settings.Statement.{statement}
+use Rattle.commands.proofs.loops.updated_settings.Tie as tie
+
+contains-requires : tie.Need-contains-requires
+contains-requires c κs = search needs
+
+direction-if-requires : tie.Need-direction-if-requires
+direction-if-requires c κs = search needs
+
+contains-requires-2 : tie.Need-contains-requires-2
+contains-requires-2 c κs = search needs
+
+word-if-requires : tie.Need-word-if-requires
+word-if-requires c κs = search needs
+
+contains-requires-3 : tie.Need-contains-requires-3
+contains-requires-3 c κs = search needs
+
+word-if-requires-2 : tie.Need-word-if-requires-2
+word-if-requires-2 c κs = search needs
+
+returns : tie.Need-returns
+returns c = simp (c .word-if2 .ensures, c .before .contains3 .ensures, c .before .before .word-if .ensures, c .before .before .before .contains2 .ensures, c .before .before .before .before .direction-if .ensures, c .before .before .before .before .before .contains .ensures)
+
+pub updated-settings-spec : {M : Type 1} → statement M
+updated-settings-spec =
+    tie.close
+    (tie.spec
+    contains-requires
+    direction-if-requires
+    contains-requires-2
+    word-if-requires
+    contains-requires-3
+    word-if-requires-2
+    returns)

@@ -1,0 +1,14 @@
+-- A pass-over has an empty list and no task.
+-- Assumes nothing.
+use borrow.Author.Needs.{needs}
+use Rattle.commands.proofs.passed_over.Statement.{statement}
+use Rattle.commands.proofs.passed_over.Tie as tie
+
+new-requires : tie.Need-new-requires
+new-requires c κs = search needs
+
+returns : tie.Need-returns
+returns c = simp (c .new .ensures)
+
+pub passed-over-spec : {M : Type 1} → statement M
+passed-over-spec = tie.close (tie.spec new-requires returns)

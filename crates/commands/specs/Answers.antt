@@ -1,0 +1,94 @@
+-- The answer of every call of a lamp: the table of causes in its order, the effect of an accepted call, and the choice
+-- between the two. Document 01, "Commands in their order" and "Why a call is turned away".
+-- Assumes nothing.
+use Prim.Native.Nat.{ℕ}
+use mathlib.Core.Bool.{Bool, true, false, cond, _&&_}
+use mathlib.Core.List.{[]}
+use lib.Dec.{eqb}
+use Rattle.matter.specs.declared.Command.{Command}
+use Rattle.matter.specs.declared.OnOff.{OnOff}
+use Rattle.matter.specs.Causes.{accepted, crossedLimits}
+use Rattle.matter.specs.Rules.{leave}
+use Rattle.notices.specs.Notices.{noted}
+use Rattle.tasks.specs.declared.Running.{Running}
+use Rattle.tasks.specs.declared.Task.{Task}
+use Rattle.lamp.specs.declared.Lamp.{Lamp}
+use Rattle.lamp.specs.declared.Answer.{Answer}
+use Rattle.lamp.specs.Answers.{atClock, formOrClock}
+use Rattle.lamp.specs.Calls.{choose, done, started, stepped, startCause, stepCause, startAnswer, stepAnswer, haltAnswer}
+use Rattle.lamp.specs.Passes.{moved}
+use Rattle.lamp.specs.Typed.{Call, command, start, step, halt}
+use Rattle.commands.specs.Commands.{CommandEffect, passOver, giving, optionsOf, stopMode, numberCause, crossed, commandEffect}
+
+-- leave to run, of a command on a lamp
+abbrev pub allowed : Lamp → Command → OnOff → Bool
+allowed l c onOff = leave onOff (l .options) (optionsOf c .mask) (optionsOf c .over)
+
+-- "commands 8, 4, then the order above": Stop mode, the command's own numbers, off, crossed limits
+abbrev pub afterClock : Lamp → Command → OnOff → ℕ
+afterClock l c onOff =
+    cond (stopMode c) accepted
+    (cond (eqb (numberCause c) accepted) (cond (allowed l c onOff && crossed (l .bounds) c) crossedLimits accepted)
+    (numberCause c))
+
+unfoldable pub commandCause : Lamp → Command → OnOff → ℕ → ℕ
+commandCause l c onOff clock = cond (eqb (formOrClock l clock) accepted) (afterClock l c onOff) (formOrClock l clock)
+
+-- the Stop task in Stop mode; without leave a pass-over; else what the command does
+abbrev pub commandDone : Lamp → Command → OnOff → CommandEffect
+commandDone l c onOff = cond (stopMode c) (giving l Task.Stop) (cond (allowed l c onOff) (commandEffect l c) (passOver l))
+
+-- an accepted command asks for no wait
+abbrev pub commandAccepted : CommandEffect → Answer
+commandAccepted e = record { number = accepted; lamp = e .lamp; notices = noted (e .told); task = e .task; wait = 0 }
+
+unfoldable pub commandAnswer : Lamp → Command → OnOff → ℕ → Answer
+commandAnswer l c onOff clock = choose (commandCause l c onOff clock) l (commandAccepted (commandDone (atClock l clock) c onOff))
+
+-- ---- every call
+
+unfoldable pub cause : Lamp → Call → ℕ
+cause l (command c onOff clock) = commandCause l c onOff clock
+cause l (start task clock) = startCause l task clock
+cause l (step clock) = stepCause l clock
+cause l (halt clock) = formOrClock l clock
+
+unfoldable pub answer : Lamp → Call → Answer
+answer l (command c onOff clock) = commandAnswer l c onOff clock
+answer l (start task clock) = startAnswer l task clock
+answer l (step clock) = stepAnswer l clock
+answer l (halt clock) = haltAnswer l clock
+
+-- ---- what theorems say of a call
+
+-- its answer where it is accepted
+abbrev pub granted : Lamp → Call → Answer
+granted l (command c onOff clock) = commandAccepted (commandDone (atClock l clock) c onOff)
+granted l (start task clock) = done (started (atClock l clock) task)
+granted l (step clock) = done (stepped (atClock l clock) (l .running))
+granted l (halt clock) = done (record { lamp = moved (atClock l clock) (l .color) Running.Idle; told = []; wait = 0 })
+
+-- its clock
+abbrev pub clockOf : Call → ℕ
+clockOf (command c onOff clock) = clock
+clockOf (start task clock) = clock
+clockOf (step clock) = clock
+clockOf (halt clock) = clock
+
+-- whether a command is the colour loop's
+abbrev pub isLoopSet : Command → Bool
+isLoopSet (Command.MoveToHue hue direction time options) = false
+isLoopSet (Command.MoveHue mode rate enhanced options) = false
+isLoopSet (Command.StepHue mode size time options) = false
+isLoopSet (Command.MoveToSaturation saturation time options) = false
+isLoopSet (Command.MoveSaturation mode rate options) = false
+isLoopSet (Command.StepSaturation mode size time options) = false
+isLoopSet (Command.MoveToHueAndSaturation hue saturation time enhanced enhancedHue options) = false
+isLoopSet (Command.EnhancedMoveToHue hue direction time options) = false
+isLoopSet (Command.EnhancedMoveHue mode rate options) = false
+isLoopSet (Command.EnhancedStepHue mode size time options) = false
+isLoopSet (Command.MoveToColorTemperature mireds time options) = false
+isLoopSet (Command.MoveColorTemperature mode rate min max options) = false
+isLoopSet (Command.StepColorTemperature mode size time min max options) = false
+isLoopSet (Command.ColorLoopSet flags action direction time startHue options) = true
+isLoopSet (Command.StopMoveStep options) = false

@@ -1,0 +1,270 @@
+-- What each command does: document 01, leaf 7 and "Commands in their order". A command is given the lamp at its clock.
+-- Assumes nothing.
+use Prim.Native.Nat.{ℕ, _+_, _-_, _*_, min, max}
+use mathlib.Core.Bool.{Bool, true, false, not, cond, _&&_, _||_}
+use mathlib.Core.List.{List, [], _∷_, _++_}
+use lib.Dec.{ltb, eqb}
+use lib.IntN.{ℤ, pos, negℤ, _+ℤ_}
+use Rattle.matter.specs.declared.Bounds.{Bounds}
+use Rattle.matter.specs.declared.Command.{Command}
+use Rattle.matter.specs.declared.CommandOptions.{CommandOptions}
+use Rattle.matter.specs.declared.DirectionEnum.{DirectionEnum}
+use Rattle.matter.specs.declared.MoveModeEnum.{MoveModeEnum}
+use Rattle.matter.specs.declared.StepModeEnum.{StepModeEnum}
+use Rattle.matter.specs.declared.ColorLoopActionEnum.{ColorLoopActionEnum}
+use Rattle.matter.specs.declared.ColorLoopDirectionEnum.{ColorLoopDirectionEnum}
+use Rattle.matter.specs.Causes.{accepted, constraintError, invalidCommand}
+use Rattle.matter.specs.Flags.{hasFlag, updateAction, updateDirection, updateTime, updateStartHue}
+use Rattle.matter.specs.Limits.{hueLimit, saturationLimit}
+use Rattle.notices.specs.Notices.{only}
+use Rattle.notices.specs.Names.{ColorLoopActive, ColorLoopDirection, ColorLoopTime, ColorLoopStartEnhancedHue, ColorLoopStoredEnhancedHue, markedDirty, deviceHueSaturation, taskGiven}
+use Rattle.hue.specs.Hue.{pathDelta}
+use Rattle.progress.specs.Progress.{clamp}
+use Rattle.color.specs.declared.Color.{Color}
+use Rattle.color.specs.Setters.{hueSet, hueTold}
+use Rattle.tasks.specs.declared.GivenTask.{GivenTask}
+use Rattle.tasks.specs.declared.HueDelta.{HueDelta}
+use Rattle.tasks.specs.declared.TargetSaturation.{TargetSaturation}
+use Rattle.tasks.specs.declared.Task.{Task}
+use Rattle.lamp.specs.declared.Lamp.{Lamp}
+use Rattle.lamp.specs.declared.LoopSettings.{LoopSettings}
+use Rattle.lamp.specs.Passes.{signed}
+
+-- what an accepted command does: the lamp after it, what it tells, and the task it gives
+pub record CommandEffect : Type 0 where
+  pub lamp : Lamp
+  pub told : List ℕ
+  pub task : GivenTask
+
+-- a pass-over: nothing but the clock changes
+abbrev pub passOver : Lamp → CommandEffect
+passOver l = record { lamp = l; told = []; task = GivenTask.Nothing }
+
+-- a task given
+abbrev pub giving : Lamp → Task → CommandEffect
+giving l task = record { lamp = l; told = taskGiven ∷ []; task = GivenTask.Given task }
+
+-- ---- what a command carries
+
+abbrev pub optionsOf : Command → CommandOptions
+optionsOf (Command.MoveToHue hue direction time options) = options
+optionsOf (Command.MoveHue mode rate enhanced options) = options
+optionsOf (Command.StepHue mode size time options) = options
+optionsOf (Command.MoveToSaturation saturation time options) = options
+optionsOf (Command.MoveSaturation mode rate options) = options
+optionsOf (Command.StepSaturation mode size time options) = options
+optionsOf (Command.MoveToHueAndSaturation hue saturation time enhanced enhancedHue options) = options
+optionsOf (Command.EnhancedMoveToHue hue direction time options) = options
+optionsOf (Command.EnhancedMoveHue mode rate options) = options
+optionsOf (Command.EnhancedStepHue mode size time options) = options
+optionsOf (Command.MoveToColorTemperature mireds time options) = options
+optionsOf (Command.MoveColorTemperature mode rate min max options) = options
+optionsOf (Command.StepColorTemperature mode size time min max options) = options
+optionsOf (Command.ColorLoopSet flags action direction time startHue options) = options
+optionsOf (Command.StopMoveStep options) = options
+
+abbrev pub isStop : MoveModeEnum → Bool
+isStop MoveModeEnum.Stop = true
+isStop MoveModeEnum.Up = false
+isStop MoveModeEnum.Down = false
+
+-- "Stop mode is answered with the Stop task before rate and off are looked at"
+abbrev pub stopMode : Command → Bool
+stopMode (Command.MoveToHue hue direction time options) = false
+stopMode (Command.MoveHue mode rate enhanced options) = isStop mode
+stopMode (Command.StepHue mode size time options) = false
+stopMode (Command.MoveToSaturation saturation time options) = false
+stopMode (Command.MoveSaturation mode rate options) = isStop mode
+stopMode (Command.StepSaturation mode size time options) = false
+stopMode (Command.MoveToHueAndSaturation hue saturation time enhanced enhancedHue options) = false
+stopMode (Command.EnhancedMoveToHue hue direction time options) = false
+stopMode (Command.EnhancedMoveHue mode rate options) = isStop mode
+stopMode (Command.EnhancedStepHue mode size time options) = false
+stopMode (Command.MoveToColorTemperature mireds time options) = false
+stopMode (Command.MoveColorTemperature mode rate min max options) = isStop mode
+stopMode (Command.StepColorTemperature mode size time min max options) = false
+stopMode (Command.ColorLoopSet flags action direction time startHue options) = false
+stopMode (Command.StopMoveStep options) = false
+
+-- "hue above 254 (plain only), saturation above 254, or mireds 0"
+abbrev pub unless0 : Bool → ℕ → ℕ
+unless0 bad number = cond bad number accepted
+
+-- "rate or step 0"
+abbrev pub moving : ℕ → ℕ
+moving n = unless0 (eqb n 0) invalidCommand
+
+-- the cause that the command's own numbers give, or 0
+abbrev pub numberCause : Command → ℕ
+numberCause (Command.MoveToHue hue direction time options) = unless0 (ltb hueLimit hue) constraintError
+numberCause (Command.MoveHue mode rate enhanced options) = moving rate
+numberCause (Command.StepHue mode size time options) = moving size
+numberCause (Command.MoveToSaturation saturation time options) = unless0 (ltb saturationLimit saturation) constraintError
+numberCause (Command.MoveSaturation mode rate options) = moving rate
+numberCause (Command.StepSaturation mode size time options) = moving size
+numberCause (Command.MoveToHueAndSaturation hue saturation time enhanced enhancedHue options) =
+    unless0 ((not enhanced && ltb hueLimit hue) || ltb saturationLimit saturation) constraintError
+numberCause (Command.EnhancedMoveToHue hue direction time options) = accepted
+numberCause (Command.EnhancedMoveHue mode rate options) = moving rate
+numberCause (Command.EnhancedStepHue mode size time options) = moving size
+numberCause (Command.MoveToColorTemperature mireds time options) = unless0 (eqb mireds 0) constraintError
+numberCause (Command.MoveColorTemperature mode rate min max options) = moving rate
+numberCause (Command.StepColorTemperature mode size time min max options) = moving size
+numberCause (Command.ColorLoopSet flags action direction time startHue options) = accepted
+numberCause (Command.StopMoveStep options) = accepted
+
+-- "Mired bounds: 0 from the caller means the physical one. lo is the larger minimum, hi the smaller maximum"
+abbrev pub asked : ℕ → ℕ → ℕ
+asked physical n = cond (eqb n 0) physical n
+
+abbrev pub lo : Bounds → ℕ → ℕ
+lo bounds n = max (asked (bounds .min) n) (bounds .min)
+
+abbrev pub hi : Bounds → ℕ → ℕ
+hi bounds n = min (asked (bounds .max) n) (bounds .max)
+
+-- a step of mireds with lo above hi
+abbrev pub crossed : Bounds → Command → Bool
+crossed bounds (Command.MoveToHue hue direction time options) = false
+crossed bounds (Command.MoveHue mode rate enhanced options) = false
+crossed bounds (Command.StepHue mode size time options) = false
+crossed bounds (Command.MoveToSaturation saturation time options) = false
+crossed bounds (Command.MoveSaturation mode rate options) = false
+crossed bounds (Command.StepSaturation mode size time options) = false
+crossed bounds (Command.MoveToHueAndSaturation hue saturation time enhanced enhancedHue options) = false
+crossed bounds (Command.EnhancedMoveToHue hue direction time options) = false
+crossed bounds (Command.EnhancedMoveHue mode rate options) = false
+crossed bounds (Command.EnhancedStepHue mode size time options) = false
+crossed bounds (Command.MoveToColorTemperature mireds time options) = false
+crossed bounds (Command.MoveColorTemperature mode rate min max options) = false
+crossed bounds (Command.StepColorTemperature mode size time min max options) = ltb (hi bounds max) (lo bounds min)
+crossed bounds (Command.ColorLoopSet flags action direction time startHue options) = false
+crossed bounds (Command.StopMoveStep options) = false
+
+-- ---- the tasks
+
+-- a plain number of hue is 256 stored ones; a tenth is 100 milliseconds
+abbrev pub stored : ℕ → ℕ
+stored hue = hue * 256
+
+abbrev pub ms : ℕ → ℕ
+ms tenths = tenths * 100
+
+abbrev pub hueTask : ℤ → TargetSaturation → ℕ → Bool → Task
+hueTask way saturation tenths enhanced =
+    Task.HueSaturationMoveTo (record { delta = HueDelta.By way; saturation = saturation; ms = ms tenths; enhanced = enhanced })
+
+abbrev pub saturationTask : ℕ → ℕ → Task
+saturationTask saturation tenths =
+    Task.HueSaturationMoveTo (record { delta = HueDelta.Keep; saturation = TargetSaturation.To saturation; ms = ms tenths; enhanced = false })
+
+abbrev pub hueMoveTask : MoveModeEnum → ℕ → Bool → Task
+hueMoveTask mode rate enhanced = Task.HueMove (record { direction = mode; rate = rate; enhanced = enhanced })
+
+abbrev pub temperatureTask : ℕ → ℕ → Task
+temperatureTask target tenths = Task.ColorTemperatureMoveTo (record { target = target; ms = ms tenths })
+
+-- a step's size with its sign
+abbrev pub stepWay : StepModeEnum → ℕ → ℤ
+stepWay StepModeEnum.Up size = pos size
+stepWay StepModeEnum.Down size = negℤ (pos size)
+
+-- "Saturation steps stop at 0 and 254"
+abbrev pub saturationStep : StepModeEnum → ℕ → ℕ → ℕ
+saturationStep StepModeEnum.Up now size = min saturationLimit (now + size)
+saturationStep StepModeEnum.Down now size = now - size
+
+-- ---- the colour loop's command
+
+-- the lamp with another colour and other settings of the loop
+abbrev pub withLoop : Lamp → Color → LoopSettings → Lamp
+withLoop l color looping =
+    record { clock = l .clock; bounds = l .bounds; color = color; looping = looping; remaining = l .remaining; options = l .options; running = l .running }
+
+-- "it updates direction, time and start hue by flag (bits 1, 2, 3; action is bit 0)"
+abbrev pub updated : LoopSettings → ℕ → ColorLoopDirectionEnum → ℕ → ℕ → LoopSettings
+updated s flags direction time startHue =
+    record {
+      active = s .active;
+      direction = cond (hasFlag flags updateDirection) direction (s .direction);
+      time = cond (hasFlag flags updateTime) time (s .time);
+      start = cond (hasFlag flags updateStartHue) startHue (s .start);
+      stored = s .stored;
+    }
+
+-- ", marks dirty"
+abbrev pub updatedTold : ℕ → List ℕ
+updatedTold flags =
+    only (hasFlag flags updateDirection) ColorLoopDirection
+    ++ only (hasFlag flags updateTime) ColorLoopTime
+    ++ only (hasFlag flags updateStartHue) ColorLoopStartEnhancedHue
+    ++ (markedDirty ∷ [])
+
+abbrev pub activity : LoopSettings → Bool → ℕ → LoopSettings
+activity s active stored = record { active = active; direction = s .direction; time = s .time; start = s .start; stored = stored }
+
+-- ", then acts": off, where it is active, the stored hue comes back and the Stop task is given
+unfoldable pub deactivated : Lamp → List ℕ → CommandEffect
+deactivated l told =
+    cond (l .looping .active)
+    (record {
+      lamp = withLoop l (hueSet (l .color) (l .looping .stored) true true (l .clock)) (activity (l .looping) false (l .looping .stored));
+      told =
+          told ++ (taskGiven ∷ ColorLoopActive ∷ []) ++ hueTold (l .color) (l .looping .stored) true true (l .clock) false
+          ++ (deviceHueSaturation ∷ []);
+      task = GivenTask.Given Task.Stop;
+    })
+    (record { lamp = l; told = told; task = GivenTask.Nothing })
+
+-- on: the hue is stored, unless the loop is active already, the first hue is set, and the loop's task is given
+unfoldable pub activated : Lamp → List ℕ → ℕ → CommandEffect
+activated l told seed =
+    record {
+      lamp =
+          withLoop l (hueSet (l .color) seed true true (l .clock))
+          (activity (l .looping) true (cond (l .looping .active) (l .looping .stored) (l .color .hue)));
+      told =
+          told ++ cond (l .looping .active) [] (ColorLoopStoredEnhancedHue ∷ ColorLoopActive ∷ [])
+          ++ hueTold (l .color) seed true true (l .clock) true
+          ++ (deviceHueSaturation ∷ taskGiven ∷ []);
+      task = GivenTask.Given (Task.ColorLoop (record { direction = l .looping .direction; seconds = l .looping .time }));
+    }
+
+abbrev pub acted : Lamp → List ℕ → ColorLoopActionEnum → CommandEffect
+acted l told ColorLoopActionEnum.Deactivate = deactivated l told
+acted l told ColorLoopActionEnum.ActivateFromColorLoopStartEnhancedHue = activated l told (l .looping .start)
+acted l told ColorLoopActionEnum.ActivateFromEnhancedCurrentHue = activated l told (l .color .hue)
+
+unfoldable pub loopSet : Lamp → ℕ → ColorLoopActionEnum → ColorLoopDirectionEnum → ℕ → ℕ → CommandEffect
+loopSet l flags action direction time startHue =
+    let changed : Lamp = withLoop l (l .color) (updated (l .looping) flags direction time startHue) in
+    cond (hasFlag flags updateAction) (acted changed (updatedTold flags) action)
+    (record { lamp = changed; told = updatedTold flags; task = GivenTask.Nothing })
+
+-- ---- a command with leave to run, in no Stop mode
+
+unfoldable pub commandEffect : Lamp → Command → CommandEffect
+commandEffect l (Command.MoveToHue hue direction time options) =
+    giving l (hueTask (pathDelta (l .color .hue) (stored hue) direction) TargetSaturation.Keep time false)
+commandEffect l (Command.MoveHue mode rate enhanced options) = giving l (hueMoveTask mode (cond enhanced rate (stored rate)) enhanced)
+commandEffect l (Command.StepHue mode size time options) = giving l (hueTask (stepWay mode (stored size)) TargetSaturation.Keep time false)
+commandEffect l (Command.MoveToSaturation saturation time options) = giving l (saturationTask saturation time)
+commandEffect l (Command.MoveSaturation mode rate options) = giving l (Task.SaturationMove (record { direction = mode; rate = rate }))
+commandEffect l (Command.StepSaturation mode size time options) =
+    giving l (saturationTask (saturationStep mode (l .color .saturation) size) time)
+commandEffect l (Command.MoveToHueAndSaturation hue saturation time enhanced enhancedHue options) =
+    giving l
+    (hueTask (pathDelta (l .color .hue) (cond enhanced enhancedHue (stored hue)) DirectionEnum.Shortest) (TargetSaturation.To saturation) time enhanced)
+commandEffect l (Command.EnhancedMoveToHue hue direction time options) =
+    giving l (hueTask (pathDelta (l .color .hue) hue direction) TargetSaturation.Keep time true)
+commandEffect l (Command.EnhancedMoveHue mode rate options) = giving l (hueMoveTask mode rate true)
+commandEffect l (Command.EnhancedStepHue mode size time options) = giving l (hueTask (stepWay mode size) TargetSaturation.Keep time true)
+commandEffect l (Command.MoveToColorTemperature mireds time options) =
+    giving l (temperatureTask (clamp (l .bounds .min) (l .bounds .max) (pos mireds)) time)
+commandEffect l (Command.MoveColorTemperature mode rate min max options) =
+    giving l
+    (Task.ColorTemperatureMove (record { rate = signed mode rate; min = asked (l .bounds .min) min; max = asked (l .bounds .max) max }))
+commandEffect l (Command.StepColorTemperature mode size time min max options) =
+    giving l (temperatureTask (clamp (lo (l .bounds) min) (hi (l .bounds) max) (pos (l .color .mireds) +ℤ stepWay mode size)) time)
+commandEffect l (Command.ColorLoopSet flags action direction time startHue options) = loopSet l flags action direction time startHue
+commandEffect l (Command.StopMoveStep options) = giving l Task.Stop

@@ -1,0 +1,244 @@
+-- Every call, refused ones too, keeps form, widths, bounds and options; an accepted one sets the clock, and a command other than
+-- the colour loop's sets nothing else. The number of an answer is its cause. A command tells few notices.
+-- Assumes nothing.
+use Prim.Native.Nat.{ℕ, _≤_}
+use mathlib.Core.Bool.{true, false, cond, true≢false}
+use mathlib.Core.List.{List, [], _∷_}
+use mathlib.Core.Path.{_≡_, refl, sym, ap, _∙_}
+use native.Mathlib.Nat.{le-trans}
+use native.Mathlib.Omega.{arith}
+use lib.ListN.{length, length-append}
+use Rattle.matter.specs.declared.Command.{Command}
+use Rattle.matter.specs.declared.CommandOptions.{CommandOptions}
+use Rattle.matter.specs.declared.ColorLoopActionEnum.{ColorLoopActionEnum}
+use Rattle.matter.specs.declared.ColorLoopDirectionEnum.{ColorLoopDirectionEnum}
+use Rattle.matter.specs.declared.OnOff.{OnOff}
+use Rattle.matter.specs.Flags.{hasFlag, updateAction, updateDirection, updateTime, updateStartHue}
+use Rattle.matter.specs.Laws.{cond-both}
+use Rattle.matter.specs.Typed.{Word, TypedCommand}
+use Rattle.notices.specs.Laws.{only-one}
+use Rattle.notices.specs.Names.{ColorLoopActive, ColorLoopDirection, ColorLoopTime, ColorLoopStartEnhancedHue, ColorLoopStoredEnhancedHue}
+use Rattle.color.specs.declared.Color.{Color}
+use Rattle.color.specs.Kept.{hue-kept, hue-word, hue-few}
+use Rattle.color.specs.Setters.{hueSet}
+use Rattle.tasks.specs.declared.GivenTask.{GivenTask}
+use Rattle.tasks.specs.declared.Running.{Running}
+use Rattle.tasks.specs.declared.Task.{Task}
+use Rattle.lamp.specs.declared.Lamp.{Lamp}
+use Rattle.lamp.specs.declared.LoopSettings.{LoopSettings}
+use Rattle.lamp.specs.declared.Answer.{Answer}
+use Rattle.lamp.specs.Answers.{atClock, formOrClock, refusal}
+use Rattle.lamp.specs.Calls.{startCause, stepCause, startAnswer, stepAnswer, haltAnswer}
+use Rattle.lamp.specs.Form.{lampForm}
+use Rattle.lamp.specs.Kept.{form-clock, form-color, form-running, form-of, no-cause, ready, start-ready, step-ready, choose-both, start-form, step-form, halt-form}
+use Rattle.lamp.specs.Passes.{moved}
+use Rattle.lamp.specs.Typed.{Call, command, start, step, halt, TypedLamp, TypedCall}
+use Rattle.lamp.specs.TypedKept.{changed, started-any, stepped-any, typed-of, clock-typed, changed-typed, started-typed, stepped-typed}
+use Rattle.commands.specs.Answers.{afterClock, allowed, commandCause, commandDone, commandAnswer, cause, answer, granted, clockOf, isLoopSet}
+use Rattle.commands.specs.Commands.{CommandEffect, passOver, giving, stopMode, withLoop, updated, updatedTold, acted, deactivated, activated, loopSet, commandEffect}
+
+-- ---- an answer is a refusal with its cause, or what is granted where there is none
+
+module _ (l : Lamp) where
+  -- what holds of both holds of the answer
+  pub answer-both : (P : Answer → Type 0) (x : Call) → (cause l x ≡ 0 → P (granted l x)) → ((cause l x ≡ 0 → ⊥) → P (refusal l (cause l x))) → P (answer l x)
+  unfolding cause answer commandAnswer startAnswer stepAnswer haltAnswer
+  answer-both P (command c onOff clock) h k = choose-both P (commandCause l c onOff clock) l _ h k
+  answer-both P (start task clock) h k = choose-both P (startCause l task clock) l _ h k
+  answer-both P (step clock) h k = choose-both P (stepCause l clock) l _ h k
+  answer-both P (halt clock) h k = choose-both P (formOrClock l clock) l _ h k
+
+  -- what is granted has number 0
+  granted-number : (x : Call) → granted l x .number ≡ 0
+  granted-number (command c onOff clock) = refl
+  granted-number (start task clock) = refl
+  granted-number (step clock) = refl
+  granted-number (halt clock) = refl
+
+  -- the number of an answer is its cause
+  pub number-is-cause : (x : Call) → answer l x .number ≡ cause l x
+  number-is-cause x = answer-both (λ a. a .number ≡ cause l x) x (λ e. granted-number x ∙ sym e) (λ e. refl)
+
+  -- a call with a cause is refused
+  pub refused-same : (x : Call) → (cause l x ≡ 0 → ⊥) → answer l x ≡ refusal l (cause l x)
+  refused-same x n = answer-both (λ a. a ≡ refusal l (cause l x)) x (λ e. absurd (n e)) (λ e. refl)
+
+  -- where a call is accepted, the lamp at its clock is in form
+  pub granted-ready : (x : Call) → cause l x ≡ 0 → lampForm (atClock l (clockOf x)) ≡ true
+  unfolding cause commandCause
+  granted-ready (command c onOff clock) e = ready l clock (no-cause (formOrClock l clock) (afterClock l c onOff) e .0)
+  granted-ready (start task clock) e = start-ready l clock task e .0
+  granted-ready (step clock) e = step-ready l clock e
+  granted-ready (halt clock) e = ready l clock e
+
+-- ---- what a command does: a task given, nothing, or the colour loop's
+
+module _ (l : Lamp) (P : CommandEffect → Type 0) (gives : (task : Task) → P (giving l task)) where
+  -- what holds of the first and the last holds of a command that runs
+  effect-by : (c : Command) → ((flags : ℕ) (action : ColorLoopActionEnum) (direction : ColorLoopDirectionEnum) (time hue : ℕ) (options : CommandOptions) → c ≡ Command.ColorLoopSet flags action direction time hue options → P (loopSet l flags action direction time hue)) → P (commandEffect l c)
+  unfolding commandEffect
+  effect-by (Command.MoveToHue hue direction time options) loops = gives _
+  effect-by (Command.MoveHue mode rate enhanced options) loops = gives _
+  effect-by (Command.StepHue mode size time options) loops = gives _
+  effect-by (Command.MoveToSaturation saturation time options) loops = gives _
+  effect-by (Command.MoveSaturation mode rate options) loops = gives _
+  effect-by (Command.StepSaturation mode size time options) loops = gives _
+  effect-by (Command.MoveToHueAndSaturation hue saturation time enhanced enhancedHue options) loops = gives _
+  effect-by (Command.EnhancedMoveToHue hue direction time options) loops = gives _
+  effect-by (Command.EnhancedMoveHue mode rate options) loops = gives _
+  effect-by (Command.EnhancedStepHue mode size time options) loops = gives _
+  effect-by (Command.MoveToColorTemperature mireds time options) loops = gives _
+  effect-by (Command.MoveColorTemperature mode rate min max options) loops = gives _
+  effect-by (Command.StepColorTemperature mode size time min max options) loops = gives _
+  effect-by (Command.ColorLoopSet flags action direction time hue options) loops = loops flags action direction time hue options refl
+  effect-by (Command.StopMoveStep options) loops = gives _
+
+  -- and with the second, of any
+  done-by : (c : Command) (onOff : OnOff) → P (passOver l) → ((flags : ℕ) (action : ColorLoopActionEnum) (direction : ColorLoopDirectionEnum) (time hue : ℕ) (options : CommandOptions) → c ≡ Command.ColorLoopSet flags action direction time hue options → P (loopSet l flags action direction time hue)) → P (commandDone l c onOff)
+  done-by c onOff passes loops =
+      cond-both P (stopMode c) _ _ (λ e. gives Task.Stop) (λ e. cond-both P (allowed l c onOff) _ _ (λ t. effect-by c loops) (λ t. passes))
+
+-- a command other than the colour loop's leaves the lamp
+quiet-done : (l : Lamp) (c : Command) (onOff : OnOff) → isLoopSet c ≡ false → commandDone l c onOff .lamp ≡ l
+quiet-done l c onOff h =
+    done-by l (λ (e : CommandEffect). e .lamp ≡ l) (λ t. refl) c onOff refl (λ flags action direction time hue options e. absurd (true≢false (sym (ap isLoopSet e) ∙ h)))
+
+-- accepted, it sets the clock alone
+pub quiet-command : (l : Lamp) (c : Command) (onOff : OnOff) (clock : ℕ) → isLoopSet c ≡ false → cause l (command c onOff clock) ≡ 0 → answer l (command c onOff clock) .lamp ≡ atClock l clock
+quiet-command l c onOff clock h z =
+    answer-both l (λ a. a .lamp ≡ atClock l clock) (command c onOff clock) (λ e. quiet-done (atClock l clock) c onOff h) (λ n. absurd (n z))
+
+-- ---- the colour loop's command
+
+-- `Q` holds of the lamp's hue and settings; `P` holds of every lamp with such settings that keeps its hue or has such a one set
+module _ (l : Lamp) (Q : ℕ → Type 0) (hue : Q (l .color .hue)) (time : Q (l .looping .time)) (first : Q (l .looping .start)) (stored : Q (l .looping .stored)) (P : Lamp → Type 0) (kept : (s : LoopSettings) → Q (s .time) → Q (s .start) → Q (s .stored) → P (withLoop l (l .color) s)) (set : (new : ℕ) (s : LoopSettings) → Q new → Q (s .time) → Q (s .start) → Q (s .stored) → P (withLoop l (hueSet (l .color) new true true (l .clock)) s)) where
+  -- then `P` holds after an action
+  acted-by : (told : List ℕ) (action : ColorLoopActionEnum) (u : LoopSettings) → Q (u .time) → Q (u .start) → Q (u .stored) → P (acted (withLoop l (l .color) u) told action .lamp)
+  unfolding activated deactivated
+  acted-by told ColorLoopActionEnum.Deactivate u t f s =
+      cond-both (λ (e : CommandEffect). P (e .lamp)) (u .active) _ _ (λ e. set (u .stored) _ s t f s) (λ e. kept u t f s)
+  acted-by told ColorLoopActionEnum.ActivateFromColorLoopStartEnhancedHue u t f s =
+      set (u .start) _ f t f (cond-both Q (u .active) _ _ (λ e. s) (λ e. hue))
+  acted-by told ColorLoopActionEnum.ActivateFromEnhancedCurrentHue u t f s =
+      set (l .color .hue) _ hue t f (cond-both Q (u .active) _ _ (λ e. s) (λ e. hue))
+
+  -- and after the command, if `Q` holds of its time and hue
+  loop-by : (flags : ℕ) (action : ColorLoopActionEnum) (direction : ColorLoopDirectionEnum) (newTime newHue : ℕ) → Q newTime → Q newHue → P (loopSet l flags action direction newTime newHue .lamp)
+  unfolding loopSet
+  loop-by flags action direction newTime newHue t h =
+      let u : LoopSettings = updated (l .looping) flags direction newTime newHue in
+      let ut : Q (u .time) = cond-both Q (hasFlag flags updateTime) _ _ (λ e. t) (λ e. time) in
+      let uf : Q (u .start) = cond-both Q (hasFlag flags updateStartHue) _ _ (λ e. h) (λ e. first) in
+      cond-both (λ (e : CommandEffect). P (e .lamp)) (hasFlag flags updateAction) _ _ (λ e. acted-by (updatedTold flags) action u ut uf stored) (λ e. kept u ut uf stored)
+
+-- what holds whatever colour and settings of the loop are left holds after any command
+done-any : (l : Lamp) (P : Lamp → Type 0) → ((c : Color) (s : LoopSettings) → P (withLoop l c s)) → (c : Command) (onOff : OnOff) → P (commandDone l c onOff .lamp)
+done-any l P any c onOff =
+    done-by l (λ (e : CommandEffect). P (e .lamp)) (λ t. any (l .color) (l .looping)) c onOff (any (l .color) (l .looping))
+    (λ flags action direction time hue options e. loop-by l (λ n. Unit) tt tt tt tt P (λ s t f u. any _ s) (λ new s n t f u. any _ s) flags action direction time hue tt tt)
+
+-- a command keeps form
+done-form : (l : Lamp) (c : Command) (onOff : OnOff) → lampForm l ≡ true → lampForm (commandDone l c onOff .lamp) ≡ true
+unfolding lampForm
+done-form l c onOff formed =
+    done-by l (λ (e : CommandEffect). lampForm (e .lamp) ≡ true) (λ t. formed) c onOff formed
+    (λ flags action direction time hue options e. loop-by l (λ n. Unit) tt tt tt tt (λ m. lampForm m ≡ true) (λ s t f u. formed) (λ new s n t f u. form-of (withLoop l (hueSet (l .color) new true true (l .clock)) s) (form-clock l formed) (hue-kept _ _ _ (form-color l formed) new true true) (form-running l formed)) flags action direction time hue tt tt)
+
+-- and widths
+done-typed : (l : Lamp) (c : Command) (onOff : OnOff) → TypedLamp l → TypedCommand c → lampForm (commandDone l c onOff .lamp) ≡ true → TypedLamp (commandDone l c onOff .lamp)
+done-typed l c onOff typed t =
+    done-by l (λ (e : CommandEffect). lampForm (e .lamp) ≡ true → TypedLamp (e .lamp)) (λ task f. typed) c onOff (λ f. typed)
+    (λ flags action direction time hue options e.
+    let t' : TypedCommand (Command.ColorLoopSet flags action direction time hue options) = rw e at t in
+    loop-by l Word (typed .hue) (typed .loopTime) (typed .loopStart) (typed .loopStored) (λ m. lampForm m ≡ true → TypedLamp m)
+    (λ s t f u formed. typed-of _ formed (typed .bounds) (typed .hue) t f u (typed .remaining) (typed .options) (typed .running))
+    (λ new s n t f u formed. typed-of _ formed (typed .bounds) (hue-word _ new true _ true (typed .hue) n) t f u (typed .remaining) (typed .options) (typed .running))
+    flags action direction time hue (t' .1) (t' .2))
+
+-- ---- every call
+
+-- what holds at the call's clock with the same bounds and options holds of what is granted
+granted-any : (l : Lamp) (x : Call) (P : Lamp → Type 0) → ((m : Lamp) → P (record { clock = clockOf x; bounds = l .bounds; color = m .color; looping = m .looping; remaining = m .remaining; options = l .options; running = m .running })) → P (granted l x .lamp)
+granted-any l (command c onOff clock) P any = done-any (atClock l clock) P (λ d s. any (withLoop l d s)) c onOff
+granted-any l (start task clock) P any = started-any (atClock l clock) P (λ c r t. any (changed l c r t)) task
+granted-any l (step clock) P any = stepped-any (atClock l clock) P (λ c r t. any (changed l c r t)) (l .running)
+granted-any l (halt clock) P any = any (moved l (l .color) Running.Idle)
+
+module _ (l : Lamp) (x : Call) where
+  -- an accepted call sets the clock
+  pub accepted-clock : cause l x ≡ 0 → answer l x .lamp .clock ≡ clockOf x
+  accepted-clock z =
+      answer-both l (λ a. a .lamp .clock ≡ clockOf x) x (λ e. granted-any l x (λ m. m .clock ≡ clockOf x) (λ m. refl)) (λ n. absurd (n z))
+
+  -- no call changes the bounds
+  pub bounds-kept : answer l x .lamp .bounds ≡ l .bounds
+  bounds-kept = answer-both l (λ a. a .lamp .bounds ≡ l .bounds) x (λ e. granted-any l x (λ m. m .bounds ≡ l .bounds) (λ m. refl)) (λ n. refl)
+
+  -- nor the options
+  pub options-kept : answer l x .lamp .options ≡ l .options
+  options-kept =
+      answer-both l (λ a. a .lamp .options ≡ l .options) x (λ e. granted-any l x (λ m. m .options ≡ l .options) (λ m. refl)) (λ n. refl)
+
+-- every call keeps form
+pub form-kept : (l : Lamp) (x : Call) → lampForm l ≡ true → lampForm (answer l x .lamp) ≡ true
+unfolding answer
+form-kept l (command c onOff clock) formed =
+    answer-both l (λ a. lampForm (a .lamp) ≡ true) (command c onOff clock) (λ e. done-form (atClock l clock) c onOff (granted-ready l (command c onOff clock) e)) (λ n. formed)
+form-kept l (start task clock) formed = start-form l clock formed task
+form-kept l (step clock) formed = step-form l clock formed
+form-kept l (halt clock) formed = halt-form l clock formed
+
+-- what is granted keeps widths
+granted-typed : (l : Lamp) (x : Call) → lampForm (atClock l (clockOf x)) ≡ true → TypedLamp l → TypedCall x → lampForm (granted l x .lamp) ≡ true → TypedLamp (granted l x .lamp)
+granted-typed l (command c onOff clock) before typed t formed = done-typed _ c onOff (clock-typed l typed clock before) (t .0) formed
+granted-typed l (start task clock) before typed t formed = started-typed _ task before formed (clock-typed l typed clock before) (t .0)
+granted-typed l (step clock) before typed t formed = stepped-typed _ (clock-typed l typed clock before) (l .running) (typed .running) formed
+granted-typed l (halt clock) before typed t formed =
+    changed-typed _ (clock-typed l typed clock before) _ _ _ formed (typed .hue) (typed .remaining) tt
+
+-- every call keeps widths
+pub typed-kept : (l : Lamp) (x : Call) → lampForm l ≡ true → TypedLamp l → TypedCall x → TypedLamp (answer l x .lamp)
+typed-kept l x formed typed t =
+    answer-both l (λ a. lampForm (a .lamp) ≡ true → TypedLamp (a .lamp)) x (λ e f. granted-typed l x (granted-ready l x e) typed t f) (λ n f. typed) (form-kept l x formed)
+
+-- ---- a command tells few
+
+-- the settings' notices are at most four
+updated-few : (flags : ℕ) → length (updatedTold flags) ≤ 4
+updated-few flags =
+    simp length-append
+    (omega
+    (arith, only-one (hasFlag flags updateDirection) ColorLoopDirection, only-one (hasFlag flags updateTime) ColorLoopTime, only-one (hasFlag flags updateStartHue) ColorLoopStartEnhancedHue))
+
+-- with those of going off, at most 14
+deactivated-few : (l : Lamp) (told : List ℕ) → length told ≤ 4 → length (deactivated l told .told) ≤ 14
+unfolding deactivated
+deactivated-few l told h =
+    cond-both (λ (e : CommandEffect). length (e .told) ≤ 14) (l .looping .active) _ (record { lamp = l; told = told; task = GivenTask.Nothing })
+    (λ e. simp length-append (omega (arith, hue-few (l .color) (l .looping .stored) true (l .clock) false true)))
+    (λ e. omega arith)
+
+-- and with those of going on from a hue
+activated-few : (l : Lamp) (told : List ℕ) (seed : ℕ) → length told ≤ 4 → length (activated l told seed .told) ≤ 14
+unfolding activated
+activated-few l told seed h =
+    let both : List ℕ = ColorLoopStoredEnhancedHue ∷ ColorLoopActive ∷ [] in
+    let some : length (cond (l .looping .active) [] both) ≤ 2 = cond-both (λ xs. length xs ≤ 2) (l .looping .active) [] both (λ e. omega arith) (λ e. omega arith) in
+    simp length-append (omega (arith, hue-few (l .color) seed true (l .clock) true true))
+
+-- the colour loop's command tells at most 14
+loop-few : (l : Lamp) (flags : ℕ) (action : ColorLoopActionEnum) (direction : ColorLoopDirectionEnum) (time hue : ℕ) → length (loopSet l flags action direction time hue .told) ≤ 14
+unfolding loopSet
+loop-few l flags action direction time hue =
+    cond-both (λ (e : CommandEffect). length (e .told) ≤ 14) (hasFlag flags updateAction) _ _ (λ e. acts action) (λ e. le-trans (updated-few flags) (omega arith))
+  where
+    acts : (a : ColorLoopActionEnum) → length (acted (withLoop l (l .color) (updated (l .looping) flags direction time hue)) (updatedTold flags) a .told) ≤ 14
+    acts ColorLoopActionEnum.Deactivate = deactivated-few _ _ (updated-few flags)
+    acts ColorLoopActionEnum.ActivateFromColorLoopStartEnhancedHue = activated-few _ _ _ (updated-few flags)
+    acts ColorLoopActionEnum.ActivateFromEnhancedCurrentHue = activated-few _ _ _ (updated-few flags)
+
+-- and so does every command
+pub commands-few : (l : Lamp) (c : Command) (onOff : OnOff) → length (commandDone l c onOff .told) ≤ 14
+commands-few l c onOff =
+    done-by l (λ (e : CommandEffect). length (e .told) ≤ 14) (λ t. omega arith) c onOff (omega arith)
+    (λ flags action direction time hue options e. loop-few l flags action direction time hue)

@@ -1,0 +1,4 @@
+pub mod Commands
+pub mod Answers
+pub mod Shared
+pub mod Kept

@@ -1,0 +1,50 @@
+-- `Lamp::color_loop_transition`: each call's contract is its part of the definition.
+-- Assumes nothing.
+use mir.Syntax.{w64}
+use mir.ValLaws.{toZ-ofZ}
+use borrow.Author.Needs.{sfits-of}
+use Rattle.lamp.specs.Passes.{loopPass}
+use Rattle.lamp.proofs.Laws.{then-one}
+use borrow.Author.Needs.{needs}
+use Rattle.lamp.proofs.Lamp.color_loop_transition.Statement.{statement}
+use Rattle.lamp.proofs.Lamp.color_loop_transition.Tie as tie
+
+elapsed-requires : tie.Need-elapsed-requires
+elapsed-requires c κs = search needs
+
+loop-way-requires : tie.Need-loop-way-requires
+loop-way-requires c κs = search needs
+
+moved-hue-requires : tie.Need-moved-hue-requires
+moved-hue-requires c κs = search needs
+
+set-hue-requires : tie.Need-set-hue-requires
+set-hue-requires c κs = search needs
+
+push-requires : tie.Need-push-requires
+push-requires c κs = search needs
+
+wait-for-turn-requires : tie.Need-wait-for-turn-requires
+wait-for-turn-requires c κs = search needs
+
+returns : tie.Need-returns
+unfolding loopPass
+returns c =
+    let k1 = c .before in
+    let k2 = k1 .before .before .before .before .before .before in
+    let k3 = k2 .before .before in
+    let k4 = k3 .before in
+    let k5 = k4 .before in
+    rw (c .wait-for-turn .ensures, k1 .push .ensures, k2 .set-hue .ensures, k3 .moved-hue .ensures, toZ-ofZ w64 (k4 .loop-way .result) (sfits-of (k4 .loop-way .ok)), k4 .loop-way .ensures, k5 .elapsed .ensures, then-one)
+
+pub color-loop-transition-spec : {M : Type 1} → statement M
+color-loop-transition-spec =
+    tie.close
+    (tie.spec
+    elapsed-requires
+    loop-way-requires
+    moved-hue-requires
+    set-hue-requires
+    push-requires
+    wait-for-turn-requires
+    returns)

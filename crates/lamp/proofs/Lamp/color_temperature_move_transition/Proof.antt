@@ -1,0 +1,71 @@
+-- `Lamp::color_temperature_move_transition`: each call's contract is its part of the definition; a rate in form is within ±65,535, so
+-- that it fits 32 bits.
+-- Assumes nothing.
+use mathlib.Core.Path.{_≡_}
+use mir.Syntax.{w32, w64}
+use mir.Val.{toZ, ofZ}
+use mir.ValLaws.{toZ-ofZ}
+use borrow.Author.Needs.{sfits-of}
+use Rattle.lamp.specs.Passes.{temperaturePass}
+use Rattle.lamp.proofs.Laws.{rate-fits, then-one}
+use borrow.Author.Needs.{needs}
+use Rattle.lamp.proofs.Lamp.color_temperature_move_transition.Statement.{statement}
+use Rattle.lamp.proofs.Lamp.color_temperature_move_transition.Tie as tie
+
+read : (c : tie.After-struct-told) → toZ w64 (ofZ w64 (c .before .before .args .run .rate)) ≡ c .before .before .args .run .rate
+read c = search needs
+
+cast-way-at-rate : tie.Need-cast-way-at-rate
+cast-way-at-rate c = rw (read c) (rate-fits _ (c .before .before .pre))
+
+elapsed-requires : tie.Need-elapsed-requires
+elapsed-requires c κs = search needs
+
+way-at-rate-requires : tie.Need-way-at-rate-requires
+way-at-rate-requires c κs = search needs
+
+brought-within-requires : tie.Need-brought-within-requires
+brought-within-requires c κs = search needs
+
+mireds-done-requires : tie.Need-mireds-done-requires
+mireds-done-requires c κs = search needs
+
+set-color-temperature-requires : tie.Need-set-color-temperature-requires
+set-color-temperature-requires c κs = search needs
+
+running-unless-requires : tie.Need-running-unless-requires
+running-unless-requires c κs = search needs
+
+push-requires : tie.Need-push-requires
+push-requires c κs = search needs
+
+wait-unless-requires : tie.Need-wait-unless-requires
+wait-unless-requires c κs = search needs
+
+returns : tie.Need-returns
+unfolding temperaturePass
+returns c =
+    let k1 = c .before in
+    let k2 = k1 .before .before .before .before in
+    let k3 = k2 .before .before .before in
+    let k4 = k3 .before .before in
+    let k5 = k4 .before .before in
+    let k6 = k5 .before in
+    let k7 = k6 .before in
+    let k8 = k7 .before in
+    rw (c .wait-unless .ensures, k1 .push .ensures, k2 .running-unless .ensures, k3 .set-color-temperature .ensures, k4 .mireds-done .ensures, k5 .brought-within .ensures, toZ-ofZ w64 (k6 .way-at-rate .result) (sfits-of (k6 .way-at-rate .ok)), k6 .way-at-rate .ensures, k7 .elapsed .ensures, read k8, toZ-ofZ w32 _ (rate-fits (k8 .before .before .args .run .rate) (k8 .before .before .pre)), then-one)
+
+pub color-temperature-move-transition-spec : {M : Type 1} → statement M
+color-temperature-move-transition-spec =
+    tie.close
+    (tie.spec
+    cast-way-at-rate
+    elapsed-requires
+    way-at-rate-requires
+    brought-within-requires
+    mireds-done-requires
+    set-color-temperature-requires
+    running-unless-requires
+    push-requires
+    wait-unless-requires
+    returns)

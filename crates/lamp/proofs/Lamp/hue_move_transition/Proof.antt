@@ -1,0 +1,59 @@
+-- `Lamp::hue_move_transition`: each call's contract is its part of the definition; a rate in form fits sixteen bits.
+-- Assumes nothing.
+use native.Mathlib.Omega.{arith}
+use borrow.Author.Tests.{leb-true}
+use Rattle.matter.specs.Laws.{each}
+use Rattle.tasks.specs.Form.{hueMoveForm}
+use mir.Syntax.{w32, w64}
+use mir.ValLaws.{toZ-ofZ}
+use borrow.Author.Needs.{sfits-of}
+use Rattle.lamp.specs.Passes.{huePass}
+use Rattle.lamp.proofs.Laws.{then-one}
+use borrow.Author.Needs.{needs}
+use Rattle.lamp.proofs.Lamp.hue_move_transition.Statement.{statement}
+use Rattle.lamp.proofs.Lamp.hue_move_transition.Tie as tie
+
+cast-signed-rate : tie.Need-cast-signed-rate
+unfolding hueMoveForm
+cast-signed-rate c = record { fits = omega (arith, leb-true (c .before .before .args .run .task .rate) _ (each _ (c .before .before .pre) .1 .0)) }
+
+signed-rate-requires : tie.Need-signed-rate-requires
+signed-rate-requires c κs = search needs
+
+elapsed-requires : tie.Need-elapsed-requires
+elapsed-requires c κs = search needs
+
+way-at-rate-requires : tie.Need-way-at-rate-requires
+way-at-rate-requires c κs = search needs
+
+moved-hue-requires : tie.Need-moved-hue-requires
+moved-hue-requires c κs = search needs
+
+set-hue-requires : tie.Need-set-hue-requires
+set-hue-requires c κs = search needs
+
+push-requires : tie.Need-push-requires
+push-requires c κs = search needs
+
+returns : tie.Need-returns
+unfolding huePass
+returns c =
+    let k1 = c .before .before .before .before .before .before in
+    let k2 = k1 .before .before in
+    let k3 = k2 .before in
+    let k4 = k3 .before in
+    let k5 = k4 .before in
+    rw (c .push .ensures, k1 .set-hue .ensures, k2 .moved-hue .ensures, toZ-ofZ w64 (k3 .way-at-rate .result) (sfits-of (k3 .way-at-rate .ok)), k3 .way-at-rate .ensures, k4 .elapsed .ensures, toZ-ofZ w32 (k5 .signed-rate .result) (sfits-of (k5 .signed-rate .ok)), k5 .signed-rate .ensures, then-one)
+
+pub hue-move-transition-spec : {M : Type 1} → statement M
+hue-move-transition-spec =
+    tie.close
+    (tie.spec
+    cast-signed-rate
+    signed-rate-requires
+    elapsed-requires
+    way-at-rate-requires
+    moved-hue-requires
+    set-hue-requires
+    push-requires
+    returns)

@@ -1,0 +1,74 @@
+-- `Lamp::saturation_move_transition`: each call's contract is its part of the definition; a rate in form fits sixteen bits.
+-- Assumes nothing.
+use native.Mathlib.Omega.{arith}
+use borrow.Author.Tests.{leb-true}
+use Rattle.matter.specs.Laws.{each}
+use Rattle.tasks.specs.Form.{saturationMoveForm}
+use mir.Syntax.{w32, w64}
+use mir.ValLaws.{toZ-ofZ}
+use borrow.Author.Needs.{sfits-of}
+use Rattle.lamp.specs.Passes.{saturationPass}
+use Rattle.lamp.proofs.Laws.{then-one}
+use borrow.Author.Needs.{needs}
+use Rattle.lamp.proofs.Lamp.saturation_move_transition.Statement.{statement}
+use Rattle.lamp.proofs.Lamp.saturation_move_transition.Tie as tie
+
+cast-signed-rate : tie.Need-cast-signed-rate
+unfolding saturationMoveForm
+cast-signed-rate c = record { fits = omega (arith, leb-true (c .before .before .args .run .task .rate) _ (each _ (c .before .before .pre) .1 .0)) }
+
+signed-rate-requires : tie.Need-signed-rate-requires
+signed-rate-requires c κs = search needs
+
+elapsed-requires : tie.Need-elapsed-requires
+elapsed-requires c κs = search needs
+
+way-at-rate-requires : tie.Need-way-at-rate-requires
+way-at-rate-requires c κs = search needs
+
+moved-saturation-requires : tie.Need-moved-saturation-requires
+moved-saturation-requires c κs = search needs
+
+saturation-done-requires : tie.Need-saturation-done-requires
+saturation-done-requires c κs = search needs
+
+set-saturation-requires : tie.Need-set-saturation-requires
+set-saturation-requires c κs = search needs
+
+running-unless-requires : tie.Need-running-unless-requires
+running-unless-requires c κs = search needs
+
+push-requires : tie.Need-push-requires
+push-requires c κs = search needs
+
+wait-unless-requires : tie.Need-wait-unless-requires
+wait-unless-requires c κs = search needs
+
+returns : tie.Need-returns
+unfolding saturationPass
+returns c =
+    let k1 = c .before in
+    let k2 = k1 .before .before .before .before in
+    let k3 = k2 .before .before .before in
+    let k4 = k3 .before .before in
+    let k5 = k4 .before in
+    let k6 = k5 .before in
+    let k7 = k6 .before in
+    let k8 = k7 .before in
+    rw (c .wait-unless .ensures, k1 .push .ensures, k2 .running-unless .ensures, k3 .set-saturation .ensures, k4 .saturation-done .ensures, k5 .moved-saturation .ensures, toZ-ofZ w64 (k6 .way-at-rate .result) (sfits-of (k6 .way-at-rate .ok)), k6 .way-at-rate .ensures, k7 .elapsed .ensures, toZ-ofZ w32 (k8 .signed-rate .result) (sfits-of (k8 .signed-rate .ok)), k8 .signed-rate .ensures, then-one)
+
+pub saturation-move-transition-spec : {M : Type 1} → statement M
+saturation-move-transition-spec =
+    tie.close
+    (tie.spec
+    cast-signed-rate
+    signed-rate-requires
+    elapsed-requires
+    way-at-rate-requires
+    moved-saturation-requires
+    saturation-done-requires
+    set-saturation-requires
+    running-unless-requires
+    push-requires
+    wait-unless-requires
+    returns)

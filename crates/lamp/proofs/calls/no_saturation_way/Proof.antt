@@ -1,0 +1,20 @@
+-- `calls::no_saturation_way`: the definition's case is the one matched.
+-- Assumes nothing.
+use borrow.Author.Needs.{needs}
+use Rattle.lamp.proofs.calls.no_saturation_way.Statement.{statement}
+use Rattle.lamp.proofs.calls.no_saturation_way.Tie as tie
+
+enum-told : tie.Need-enum-told
+enum-told c = search needs
+
+enum-known-target : tie.Need-enum-known-target
+enum-known-target c = search needs
+
+returns : tie.Need-returns
+returns c = simp (c .enum-told .given .1)
+
+returns-2 : tie.Need-returns-2
+returns-2 c = simp (c .before .target .given .1)
+
+pub no-saturation-way-spec : {M : Type 1} → statement M
+no-saturation-way-spec = tie.close (tie.spec enum-told enum-known-target returns returns-2)

@@ -1,0 +1,33 @@
+-- `passes::saturation_now`: the test picks the definition's case, and each call's contract is its part of it.
+-- Assumes nothing.
+use mir.Syntax.{w32, w64}
+use mir.ValLaws.{toZ-ofZ}
+use borrow.Author.Needs.{sfits-of}
+use borrow.Author.Tests.{le-leb, lt-leb}
+use borrow.Author.Needs.{needs}
+use Rattle.lamp.proofs.passes.saturation_now.Statement.{statement}
+use Rattle.lamp.proofs.passes.saturation_now.Tie as tie
+
+returns : tie.Need-returns
+returns c = simp (le-leb _ _ (c .if1 .taken))
+
+way-between-requires : tie.Need-way-between-requires
+way-between-requires c κs = search needs
+
+part-requires : tie.Need-part-requires
+part-requires c κs = search needs
+
+moved-saturation-requires : tie.Need-moved-saturation-requires
+moved-saturation-requires c κs = search needs
+
+returns-2 : tie.Need-returns-2
+returns-2 c =
+    let k1 = c .before in
+    let k2 = k1 .before in
+    let k3 = k2 .before in
+    rw (c .moved-saturation .ensures, toZ-ofZ w64 (k1 .part .result) (sfits-of (k1 .part .ok)), k1 .part .ensures, toZ-ofZ w32 (k2 .way-between .result) (sfits-of (k2 .way-between .ok)), k2 .way-between .ensures, lt-leb _ _ (k3 .if1 .left))
+
+pub saturation-now-spec : {M : Type 1} → statement M
+saturation-now-spec =
+    tie.close
+    (tie.spec returns way-between-requires part-requires moved-saturation-requires returns-2)

@@ -1,0 +1,140 @@
+-- Starts, steps and halts: document 01, leaf 6, halt of "Added by design", and their rows of the table of causes.
+-- Assumes nothing.
+use Prim.Native.Nat.{ℕ, _-_, min, max}
+use mathlib.Core.Bool.{Bool, true, not, cond, _&&_, _||_}
+use mathlib.Core.List.{List, [], _∷_, _++_}
+use lib.Dec.{leb, eqb}
+use lib.IntN.{pos}
+use lib.Signed.{leZ}
+use Rattle.matter.specs.declared.Bounds.{Bounds}
+use Rattle.matter.specs.Causes.{accepted, clockRefused, taskOutOfForm, stepWhileIdle, lampOutOfForm}
+use Rattle.notices.specs.Notices.{only, noted}
+use Rattle.notices.specs.Names.{RemainingTime}
+use Rattle.progress.specs.Progress.{permilleOf, clamp}
+use Rattle.remaining_time.specs.declared.Written.{Written}
+use Rattle.remaining_time.specs.RemainingTime.{writtenQuietly}
+use Rattle.tasks.specs.declared.GivenTask.{GivenTask}
+use Rattle.tasks.specs.declared.HueDelta.{HueDelta}
+use Rattle.tasks.specs.declared.TargetSaturation.{TargetSaturation}
+use Rattle.tasks.specs.declared.HueSaturationMoveTo.{HueSaturationMoveTo}
+use Rattle.tasks.specs.declared.ColorTemperatureMoveTo.{ColorTemperatureMoveTo}
+use Rattle.tasks.specs.declared.ColorTemperatureMove.{ColorTemperatureMove}
+use Rattle.tasks.specs.declared.Task.{Task}
+use Rattle.tasks.specs.declared.Running.{Running}
+use Rattle.tasks.specs.Form.{taskForm}
+use Rattle.tasks.specs.Runs.{runs}
+use Rattle.lamp.specs.declared.Lamp.{Lamp}
+use Rattle.lamp.specs.declared.Answer.{Answer}
+use Rattle.lamp.specs.Answers.{atClock, badClock, formOrClock, refusal}
+use Rattle.lamp.specs.Form.{lampForm}
+use Rattle.lamp.specs.Passes.{Effect, moved, remainingSet, hueSaturationPass, temperatureToPass, huePass, saturationPass, temperaturePass, loopPass}
+
+-- ---- starts: the lamp is at the call's clock already
+
+-- "The full time is written to the remaining time first", which is a transition's start
+abbrev pub fullWritten : Lamp → ℕ → Written
+fullWritten l ms = writtenQuietly (l .remaining) ms true
+
+-- what stands before a pass comes first
+abbrev pub after : List ℕ → Effect → Effect
+after told e = record { lamp = e .lamp; told = told ++ e .told; wait = e .wait }
+
+-- no way at all: that of the hue is 0 or none is moved, and the saturation is there or none is moved
+abbrev pub noHueWay : HueDelta → Bool
+noHueWay HueDelta.Keep = true
+noHueWay (HueDelta.By way) = leZ way (pos 0) && leZ (pos 0) way
+
+abbrev pub noSaturationWay : TargetSaturation → ℕ → Bool
+noSaturationWay TargetSaturation.Keep start = true
+noSaturationWay (TargetSaturation.To target) start = eqb target start
+
+-- "Time 0, no way in hue and saturation together, or no way in mireds: the end at once", which is permille 1000
+abbrev pub startPermille : ℕ → Bool → ℕ
+startPermille ms noWay = cond (eqb ms 0 || noWay) 1000 0
+
+unfoldable pub hueSaturationStart : Lamp → HueSaturationMoveTo → Effect
+hueSaturationStart l task =
+    let w : Written = fullWritten l (task .ms) in
+    after (only (w .told) RemainingTime)
+    (hueSaturationPass (remainingSet l w)
+    (record { start = l .clock; hue = l .color .hue; saturation = l .color .saturation; task = task })
+    (startPermille (task .ms) (noHueWay (task .delta) && noSaturationWay (task .saturation) (l .color .saturation))))
+
+-- the target is brought within the bounds
+unfoldable pub temperatureToStart : Lamp → ColorTemperatureMoveTo → Effect
+temperatureToStart l task =
+    let w : Written = fullWritten l (task .ms) in
+    let target : ℕ = clamp (l .bounds .min) (l .bounds .max) (pos (task .target)) in
+    after (only (w .told) RemainingTime)
+    (temperatureToPass (remainingSet l w)
+    (record { start = l .clock; mireds = l .color .mireds; task = record { target = target; ms = task .ms } })
+    (startPermille (task .ms) (eqb target (l .color .mireds))))
+
+-- "lo is the larger minimum, hi the smaller maximum"
+abbrev pub lower : Bounds → ℕ → ℕ
+lower bounds asked = max asked (bounds .min)
+
+abbrev pub upper : Bounds → ℕ → ℕ
+upper bounds asked = min asked (bounds .max)
+
+-- "A temperature move with lo ≥ hi is done at once: the lamp is idle, and nothing else but the clock changes"
+unfoldable pub temperatureStart : Lamp → ColorTemperatureMove → Effect
+temperatureStart l task =
+    let lo : ℕ = lower (l .bounds) (task .min) in
+    let hi : ℕ = upper (l .bounds) (task .max) in
+    cond (leb hi lo) (record { lamp = moved l (l .color) Running.Idle; told = []; wait = 0 })
+    (temperaturePass l (record { start = l .clock; mireds = l .color .mireds; rate = task .rate; lo = lo; hi = hi }))
+
+-- "A start includes its first pass, at elapsed 0"
+unfoldable pub started : Lamp → Task → Effect
+started l (Task.HueSaturationMoveTo task) = hueSaturationStart l task
+started l (Task.HueMove task) = huePass l (record { start = l .clock; hue = l .color .hue; task = task })
+started l (Task.SaturationMove task) = saturationPass l (record { start = l .clock; saturation = l .color .saturation; task = task })
+started l (Task.ColorTemperatureMoveTo task) = temperatureToStart l task
+started l (Task.ColorTemperatureMove task) = temperatureStart l task
+started l (Task.ColorLoop task) = loopPass l (record { start = l .clock; hue = l .color .hue; task = task })
+started l Task.Stop = record { lamp = l; told = []; wait = 0 }
+
+-- ---- steps: a pass of what runs
+
+unfoldable pub stepped : Lamp → Running → Effect
+stepped l Running.Idle = record { lamp = l; told = []; wait = 0 }
+stepped l (Running.HueSaturationMoveTo run) = hueSaturationPass l run (permilleOf (l .clock - run .start) (run .task .ms))
+stepped l (Running.HueMove run) = huePass l run
+stepped l (Running.SaturationMove run) = saturationPass l run
+stepped l (Running.ColorTemperatureMoveTo run) = temperatureToPass l run (permilleOf (l .clock - run .start) (run .task .ms))
+stepped l (Running.ColorTemperatureMove run) = temperaturePass l run
+stepped l (Running.ColorLoop run) = loopPass l run
+
+-- ---- the causes, in the table's order, and the answers
+
+-- an accepted start's or step's answer
+abbrev pub done : Effect → Answer
+done e = record { number = accepted; lamp = e .lamp; notices = noted (e .told); task = GivenTask.Nothing; wait = e .wait }
+
+-- the choice between a refusal and an effect
+abbrev pub choose : ℕ → Lamp → Answer → Answer
+choose cause l answer = cond (eqb cause accepted) answer (refusal l cause)
+
+-- "starts 8, 4, 6"
+abbrev pub startCause : Lamp → Task → ℕ → ℕ
+startCause l task clock = cond (eqb (formOrClock l clock) accepted) (cond (taskForm task) accepted taskOutOfForm) (formOrClock l clock)
+
+unfoldable pub startAnswer : Lamp → Task → ℕ → Answer
+startAnswer l task clock = choose (startCause l task clock) l (done (started (atClock l clock) task))
+
+-- "steps 8, 7, 4"
+abbrev pub stepCause : Lamp → ℕ → ℕ
+stepCause l clock =
+    cond (not (lampForm l)) lampOutOfForm
+    (cond (not (runs (l .running))) stepWhileIdle
+    (cond (badClock l clock) clockRefused accepted))
+
+unfoldable pub stepAnswer : Lamp → ℕ → Answer
+stepAnswer l clock = choose (stepCause l clock) l (done (stepped (atClock l clock) (l .running)))
+
+-- "halt, which only makes the lamp idle"; "halt 8, 4"
+unfoldable pub haltAnswer : Lamp → ℕ → Answer
+haltAnswer l clock =
+    choose (formOrClock l clock) l
+    (done (record { lamp = moved (atClock l clock) (l .color) Running.Idle; told = []; wait = 0 }))

@@ -1,0 +1,372 @@
+// One pass of each transition, on a lamp that is at the call's clock: document 01, leaf 6. A pass is given the list of
+// what was told so far.
+// Carried over from project-chip/rs-matter, commit 43f61585a4 (Apache-2.0, see NOTICE), and changed.
+use crate::Lamp;
+use color::Color;
+use color::ColorSet;
+use hue::moved_hue;
+use matter::Bounds;
+use matter::MoveModeEnum;
+use notices::DEVICE_HUE_SATURATION;
+use notices::DEVICE_MIREDS;
+use notices::Notices;
+use notices::REMAINING_TIME;
+use progress::TICK;
+use progress::brought_within;
+use progress::elapsed;
+use progress::loop_way;
+use progress::moved_saturation;
+use progress::part;
+use progress::time_left;
+use progress::wait_for_end;
+use progress::wait_for_turn;
+use progress::way_at_rate;
+use tasks::ColorLoopRun;
+use tasks::ColorTemperatureRun;
+use tasks::ColorTemperatureToRun;
+use tasks::HueDelta;
+use tasks::HueRun;
+use tasks::HueSaturationRun;
+use tasks::Running;
+use tasks::SaturationRun;
+use tasks::TargetSaturation;
+ghost use mathlib.Core.Path.{_≡_};
+ghost use mathlib.Core.Bool.{true, cond};
+ghost use Prim.Native.Nat.{_-_};
+ghost use lib.IntN.{pos, _-ℤ_};
+ghost use Rattle.color.specs.Setters.{answered};
+ghost use Rattle.tasks.specs.Form.{deltaForm, moveToForm, hueMoveForm, saturationMoveForm, rateForm};
+ghost use Rattle.lamp.specs.Passes.{atEnd, hueMoved, hueMovedTold, saturationNow, saturationMoved, saturationMovedTold, miredsNow, signed, saturationDone, miredsDone, unless, waiting, hueSaturationPass, temperatureToPass, huePass, saturationPass, temperaturePass, loopPass};
+ghost use Rattle.lamp.specs.Passed.{passedOf};
+
+// What a pass leaves: the lamp, the list with what it tells, and the wait.
+pub struct Passed {
+    pub lamp: Lamp,
+    pub notices: Notices,
+    pub wait: u64,
+}
+
+// The way from one number to another, with its sign.
+fn way_between(start: u16, target: u16) -> i32
+    ensures { λ r. ⌜ r ≡ pos target -ℤ pos start ⌝ }
+{
+    (target as i32) - (start as i32)
+}
+
+// A rate with the sign of its direction.
+fn signed_rate(direction: MoveModeEnum, rate: u16) -> i32
+    ensures { λ r. ⌜ r ≡ signed direction rate ⌝ }
+{
+    match direction {
+        MoveModeEnum::Stop => 0,
+        MoveModeEnum::Up => rate as i32,
+        MoveModeEnum::Down => -(rate as i32),
+    }
+}
+
+// What is left running, and the wait for it: nothing at an end.
+fn running_unless(is_end: bool, run: Running) -> Running
+    ensures { λ r. ⌜ r ≡ unless «is_end» run ⌝ }
+{
+    if is_end { Running::Idle } else { run }
+}
+
+fn wait_unless(is_end: bool, wait: u64) -> u64
+    ensures { λ r. ⌜ r ≡ waiting «is_end» wait ⌝ }
+{
+    if is_end { 0 } else { wait }
+}
+
+// What is left of a move-to's time: 0 at its end.
+fn left_unless(is_end: bool, passed: u64, ms: u32) -> u64
+    ensures { λ r. ⌜ r ≡ cond «is_end» 0 (ms - passed) ⌝ }
+{
+    if is_end { 0 } else { time_left(passed, ms) }
+}
+
+// The hue's part of a move-to, where it moves the hue.
+fn move_hue(
+    color: Color,
+    list: Notices,
+    delta: HueDelta,
+    start: u16,
+    permille: u16,
+    is_enhanced: bool,
+    clock: u64,
+    loop_active: bool,
+) -> ColorSet
+    requires { ⌜ deltaForm delta ≡ true ⌝ }
+    ensures { λ r. ⌜ r ≡ answered (hueMoved color delta start permille «is_enhanced» clock) list (hueMovedTold color delta start permille «is_enhanced» clock «loop_active») ⌝ }
+{
+    match delta {
+        HueDelta::Keep => ColorSet {
+            color: color,
+            notices: list,
+        },
+        HueDelta::By(way) => {
+            let now = moved_hue(start, part(way as i32, permille));
+            color.set_hue(list, now, 1000 <= permille, is_enhanced, clock, loop_active)
+        }
+    }
+}
+
+fn saturation_now(start: u8, target: u8, permille: u16) -> u8
+    ensures { λ r. ⌜ r ≡ saturationNow start target permille ⌝ }
+{
+    if 1000 <= permille {
+        return target;
+    }
+    moved_saturation(
+        start,
+        part(way_between(start as u16, target as u16), permille),
+    )
+}
+
+// The saturation's part of a move-to, where it moves the saturation.
+fn move_saturation(
+    color: Color,
+    list: Notices,
+    target: TargetSaturation,
+    start: u8,
+    permille: u16,
+    clock: u64,
+    loop_active: bool,
+) -> ColorSet
+    ensures { λ r. ⌜ r ≡ answered (saturationMoved color target start permille clock) list (saturationMovedTold color target start permille clock «loop_active») ⌝ }
+{
+    match target {
+        TargetSaturation::Keep => ColorSet {
+            color: color,
+            notices: list,
+        },
+        TargetSaturation::To(saturation) => {
+            let now = saturation_now(start, saturation, permille);
+            color.set_saturation(list, now, 1000 <= permille, clock, loop_active)
+        }
+    }
+}
+
+fn mireds_now(bounds: Bounds, start: u16, target: u16, permille: u16) -> u16
+    ensures { λ r. ⌜ r ≡ miredsNow bounds start target permille ⌝ }
+{
+    if 1000 <= permille {
+        return target;
+    }
+    brought_within(
+        bounds.min,
+        bounds.max,
+        start,
+        part(way_between(start, target), permille),
+    )
+}
+
+fn saturation_done(direction: MoveModeEnum, now: u8) -> bool
+    ensures { λ r. ⌜ r ≡ saturationDone direction now ⌝ }
+{
+    match direction {
+        MoveModeEnum::Stop => false,
+        MoveModeEnum::Up => now == 254,
+        MoveModeEnum::Down => now == 0,
+    }
+}
+
+fn mireds_done(rate: i64, lo: u16, hi: u16, now: u16) -> bool
+    ensures { λ r. ⌜ r ≡ miredsDone rate lo hi now ⌝ }
+{
+    ((0 < rate) & (now == hi)) | ((rate < 0) & (now == lo))
+}
+
+impl Lamp {
+    pub(crate) fn move_to_hue_saturation_transition(
+        self,
+        list: Notices,
+        run: HueSaturationRun,
+        permille: u16,
+    ) -> Passed
+        requires { ⌜ moveToForm (run .task) ≡ true ⌝ }
+        ensures { λ r. ⌜ r ≡ passedOf list (hueSaturationPass self run permille) ⌝ }
+    {
+        let task = run.task;
+        let delta = task.delta;
+        let target = task.saturation;
+        let old = self.color;
+        let active = self.looping.active;
+        let hued = move_hue(
+            old,
+            list,
+            delta,
+            run.hue,
+            permille,
+            task.enhanced,
+            self.clock,
+            active,
+        );
+        let color = hued.color;
+        let told = hued.notices;
+        let set = move_saturation(
+            color,
+            told,
+            target,
+            run.saturation,
+            permille,
+            self.clock,
+            active,
+        );
+        let is_end = 1000 <= permille;
+        let passed = elapsed(run.start, self.clock);
+        let remaining = self.remaining;
+        let w = remaining.write_remaining_time_quietly(left_unless(is_end, passed, task.ms), false);
+        let next = set.color;
+        let tells = set.notices;
+        let left = w.remaining;
+        Passed {
+            lamp: Lamp {
+                color: next,
+                remaining: left,
+                running: running_unless(is_end, Running::HueSaturationMoveTo(run)),
+                ..self
+            },
+            notices: tells
+                .push(DEVICE_HUE_SATURATION)
+                .push_if(w.told, REMAINING_TIME),
+            wait: wait_unless(is_end, wait_for_end(passed, task.ms)),
+        }
+    }
+
+    pub(crate) fn move_to_color_temperature_transition(
+        self,
+        list: Notices,
+        run: ColorTemperatureToRun,
+        permille: u16,
+    ) -> Passed
+        ensures { λ r. ⌜ r ≡ passedOf list (temperatureToPass self run permille) ⌝ }
+    {
+        let task = run.task;
+        let bounds = self.bounds;
+        let now = mireds_now(bounds, run.mireds, task.target, permille);
+        let is_end = 1000 <= permille;
+        let old = self.color;
+        let set = old.set_color_temperature(list, now, is_end, self.clock, self.looping.active);
+        let passed = elapsed(run.start, self.clock);
+        let remaining = self.remaining;
+        let w = remaining.write_remaining_time_quietly(left_unless(is_end, passed, task.ms), false);
+        let next = set.color;
+        let tells = set.notices;
+        let left = w.remaining;
+        Passed {
+            lamp: Lamp {
+                color: next,
+                remaining: left,
+                running: running_unless(is_end, Running::ColorTemperatureMoveTo(run)),
+                ..self
+            },
+            notices: tells.push(DEVICE_MIREDS).push_if(w.told, REMAINING_TIME),
+            wait: wait_unless(is_end, wait_for_end(passed, task.ms)),
+        }
+    }
+
+    pub(crate) fn hue_move_transition(self, list: Notices, run: HueRun) -> Passed
+        requires { ⌜ hueMoveForm (run .task) ≡ true ⌝ }
+        ensures { λ r. ⌜ r ≡ passedOf list (huePass self run) ⌝ }
+    {
+        let task = run.task;
+        let direction = task.direction;
+        let rate = signed_rate(direction, task.rate as u16);
+        let now = moved_hue(run.hue, way_at_rate(rate, elapsed(run.start, self.clock)));
+        let old = self.color;
+        let set = old.set_hue(
+            list,
+            now,
+            false,
+            task.enhanced,
+            self.clock,
+            self.looping.active,
+        );
+        let next = set.color;
+        let tells = set.notices;
+        Passed {
+            lamp: Lamp {
+                color: next,
+                running: Running::HueMove(run),
+                ..self
+            },
+            notices: tells.push(DEVICE_HUE_SATURATION),
+            wait: TICK,
+        }
+    }
+
+    pub(crate) fn saturation_move_transition(self, list: Notices, run: SaturationRun) -> Passed
+        requires { ⌜ saturationMoveForm (run .task) ≡ true ⌝ }
+        ensures { λ r. ⌜ r ≡ passedOf list (saturationPass self run) ⌝ }
+    {
+        let task = run.task;
+        let direction = task.direction;
+        let rate = signed_rate(direction, task.rate as u16);
+        let now = moved_saturation(
+            run.saturation,
+            way_at_rate(rate, elapsed(run.start, self.clock)),
+        );
+        let is_end = saturation_done(direction, now);
+        let old = self.color;
+        let set = old.set_saturation(list, now, is_end, self.clock, self.looping.active);
+        let next = set.color;
+        let tells = set.notices;
+        Passed {
+            lamp: Lamp {
+                color: next,
+                running: running_unless(is_end, Running::SaturationMove(run)),
+                ..self
+            },
+            notices: tells.push(DEVICE_HUE_SATURATION),
+            wait: wait_unless(is_end, TICK),
+        }
+    }
+
+    pub(crate) fn color_temperature_move_transition(
+        self,
+        list: Notices,
+        run: ColorTemperatureRun,
+    ) -> Passed
+        requires { ⌜ rateForm (run .rate) ≡ true ⌝ }
+        ensures { λ r. ⌜ r ≡ passedOf list (temperaturePass self run) ⌝ }
+    {
+        let way = way_at_rate(run.rate as i32, elapsed(run.start, self.clock));
+        let now = brought_within(run.lo, run.hi, run.mireds, way);
+        let is_end = mireds_done(run.rate, run.lo, run.hi, now);
+        let old = self.color;
+        let set = old.set_color_temperature(list, now, is_end, self.clock, self.looping.active);
+        let next = set.color;
+        let tells = set.notices;
+        Passed {
+            lamp: Lamp {
+                color: next,
+                running: running_unless(is_end, Running::ColorTemperatureMove(run)),
+                ..self
+            },
+            notices: tells.push(DEVICE_MIREDS),
+            wait: wait_unless(is_end, TICK),
+        }
+    }
+
+    pub(crate) fn color_loop_transition(self, list: Notices, run: ColorLoopRun) -> Passed
+        ensures { λ r. ⌜ r ≡ passedOf list (loopPass self run) ⌝ }
+    {
+        let task = run.task;
+        let direction = task.direction;
+        let passed = elapsed(run.start, self.clock);
+        let now = moved_hue(run.hue, loop_way(direction, passed, task.seconds));
+        let old = self.color;
+        let set = old.set_hue(list, now, false, true, self.clock, self.looping.active);
+        let next = set.color;
+        let tells = set.notices;
+        Passed {
+            lamp: Lamp {
+                color: next,
+                running: Running::ColorLoop(run),
+                ..self
+            },
+            notices: tells.push(DEVICE_HUE_SATURATION),
+            wait: wait_for_turn(passed, task.seconds),
+        }
+    }
+}

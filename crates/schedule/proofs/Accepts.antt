@@ -1,0 +1,88 @@
+-- Which calls a lamp in form accepts, that a refused one leaves it as it was, and what an accepted one gives.
+-- Assumes nothing.
+use Prim.Native.Nat.{ℕ}
+use mathlib.Core.Bool.{Bool, true, false, not, cond, _&&_, _||_}
+use mathlib.Core.Logic.{inl, inr}
+use mathlib.Core.Path.{_≡_, refl, sym, _∙_, ap}
+use lib.Dec.{leb, eqb}
+use borrow.Author.Tests.{eqb-true, eqb-false}
+use Rattle.matter.specs.Limits.{clockLimit}
+use Rattle.tasks.specs.Form.{taskForm}
+use Rattle.tasks.specs.Runs.{runs}
+use Rattle.lamp.specs.declared.Lamp.{Lamp}
+use Rattle.lamp.specs.declared.Answer.{Answer}
+use Rattle.lamp.specs.Answers.{badClock, formOrClock}
+use Rattle.lamp.specs.Form.{lampForm}
+use Rattle.lamp.specs.Typed.{Call, command, start, step, halt}
+use Rattle.commands.specs.Commands.{stopMode, numberCause, crossed}
+use Rattle.commands.specs.Answers.{allowed, commandCause, cause, answer, granted, clockOf}
+use Rattle.commands.specs.Kept.{answer-both, number-is-cause, refused-same}
+use Rattle.schedule.specs.Calls.{next, accepts}
+use Rattle.schedule.proofs.Tests.{either, below-is}
+
+-- a clock that a lamp takes
+abbrev pub timely : ℕ → ℕ → Bool
+timely now clock = leb now clock && leb clock clockLimit
+
+-- a call that nothing but form and clock can turn away
+abbrev pub grounds : Lamp → Call → Bool
+grounds l (command c onOff clock) = stopMode c || (eqb (numberCause c) 0 && not (allowed l c onOff && crossed (l .bounds) c))
+grounds l (start task clock) = taskForm task
+grounds l (step clock) = runs (l .running)
+grounds l (halt clock) = true
+
+bad-is : (l : Lamp) (clock : ℕ) → badClock l clock ≡ not (timely (l .clock) clock)
+bad-is l clock = rw (below-is clock (l .clock), below-is clockLimit clock) (go (leb (l .clock) clock) (leb clock clockLimit))
+  where
+    go : (a b : Bool) → (not a || not b) ≡ not (a && b)
+    go true b = refl
+    go false b = refl
+
+-- the causes of each kind of call in their order, by a clock that is taken or not, as one test
+command-table : (t stop : Bool) (n : ℕ) (b : Bool) → eqb (cond (eqb (cond (not t) 4 0) 0) (cond stop 0 (cond (eqb n 0) (cond b 3 0) n)) (cond (not t) 4 0)) 0 ≡ (t && (stop || (eqb n 0 && not b)))
+command-table false stop n b = refl
+command-table true true n b = refl
+command-table true false n b = elim (either (eqb n 0)) [ inl e ↦ rw e (go b) | inr e ↦ rw e e ]
+  where
+    go : (c : Bool) → eqb (cond c 3 0) 0 ≡ not c
+    go true = refl
+    go false = refl
+
+start-table : (t form : Bool) → eqb (cond (eqb (cond (not t) 4 0) 0) (cond form 0 6) (cond (not t) 4 0)) 0 ≡ (t && form)
+start-table false form = refl
+start-table true true = refl
+start-table true false = refl
+
+step-table : (t run : Bool) → eqb (cond (not run) 7 (cond (not t) 4 0)) 0 ≡ (t && run)
+step-table true true = refl
+step-table true false = refl
+step-table false true = refl
+step-table false false = refl
+
+halt-table : (t : Bool) → eqb (cond (not t) 4 0) 0 ≡ (t && true)
+halt-table true = refl
+halt-table false = refl
+
+table : (l : Lamp) (x : Call) → lampForm l ≡ true → eqb (cause l x) 0 ≡ (timely (l .clock) (clockOf x) && grounds l x)
+unfolding cause commandCause formOrClock
+table l (command c onOff clock) f = rw (f, bad-is l clock) (command-table (timely (l .clock) clock) (stopMode c) (numberCause c) (allowed l c onOff && crossed (l .bounds) c))
+table l (start task clock) f = rw (f, bad-is l clock) (start-table (timely (l .clock) clock) (taskForm task))
+table l (step clock) f = rw (f, bad-is l clock) (step-table (timely (l .clock) clock) (runs (l .running)))
+table l (halt clock) f = rw (f, bad-is l clock) (halt-table (timely (l .clock) clock))
+
+-- accepted where clock and grounds are good
+pub accepts-is : (l : Lamp) (x : Call) → lampForm l ≡ true → accepts l x ≡ (timely (l .clock) (clockOf x) && grounds l x)
+accepts-is l x f = ap (λ (n : ℕ). eqb n 0) (number-is-cause l x) ∙ table l x f
+
+-- an accepted call has no cause
+pub no-cause : (l : Lamp) (x : Call) → accepts l x ≡ true → cause l x ≡ 0
+no-cause l x e = sym (number-is-cause l x) ∙ eqb-true (answer l x .number) 0 e
+
+-- a refused call leaves the lamp
+pub refused-keeps : (l : Lamp) (x : Call) → accepts l x ≡ false → next l x ≡ l
+refused-keeps l x e =
+    ap (λ (a : Answer). a .lamp) (refused-same l x (λ z. eqb-false (answer l x .number) 0 e (number-is-cause l x ∙ z)))
+
+-- an accepted one has what is granted
+pub accepted-is : (l : Lamp) (x : Call) → accepts l x ≡ true → answer l x ≡ granted l x
+accepted-is l x e = answer-both l (λ a. a ≡ granted l x) x (λ z. refl) (λ n. absurd (n (no-cause l x e)))

@@ -1,0 +1,9 @@
+pub mod Tests
+pub mod Arithmetic
+pub mod Course
+pub mod Pass
+pub mod Accepts
+pub mod Fading
+pub mod Lists
+pub mod Pace
+pub mod Keeps

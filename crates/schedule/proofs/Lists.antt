@@ -1,0 +1,77 @@
+-- Lists of calls, put together and taken apart, and what a whole list keeps of a lamp.
+-- Assumes nothing.
+use mathlib.Core.Bool.{true, not, _&&_}
+use mathlib.Core.List.{List, [], _∷_, _++_}
+use mathlib.Core.Path.{_≡_, refl, _∙_}
+use Rattle.matter.specs.Laws.{and-left, and-right}
+use Rattle.lamp.specs.declared.Lamp.{Lamp}
+use Rattle.lamp.specs.Form.{lampForm}
+use Rattle.lamp.specs.Typed.{Call, TypedLamp}
+use Rattle.commands.specs.Kept.{form-kept, typed-kept, bounds-kept, options-kept}
+use Rattle.schedule.specs.Calls.{next, after, accepts, TypedCalls, interrupts, quiet}
+use Rattle.schedule.specs.Schedule.{Fed, Shown, followed, scheduledFrom}
+
+-- ---- two lists, one behind the other
+
+pub after-append : (l : Lamp) (xs ys : List Call) → after l (xs ++ ys) ≡ after (after l xs) ys
+unfolding after
+after-append l [] ys = refl
+after-append l (x ∷ xs) ys = after-append (next l x) xs ys
+
+pub scheduled-append : (f : Fed) (s : Shown) (xs ys : List Call) → scheduledFrom f s (xs ++ ys) ≡ scheduledFrom f (scheduledFrom f s xs) ys
+unfolding scheduledFrom
+scheduled-append f s [] ys = refl
+scheduled-append f s (x ∷ xs) ys = scheduled-append f (followed f s x) xs ys
+
+-- one more call
+pub after-one : (l : Lamp) (xs : List Call) (x : Call) → after l (xs ++ (x ∷ [])) ≡ next (after l xs) x
+unfolding after
+after-one l xs x = after-append l xs (x ∷ [])
+
+pub scheduled-one : (f : Fed) (s : Shown) (xs : List Call) (x : Call) → scheduledFrom f s (xs ++ (x ∷ [])) ≡ followed f (scheduledFrom f s xs) x
+unfolding scheduledFrom
+scheduled-one f s xs x = scheduled-append f s xs (x ∷ [])
+
+-- a quiet list is quiet at its front, and from any place on
+pub quiet-front : (l : Lamp) (xs ys : List Call) → quiet l (xs ++ ys) ≡ true → quiet l xs ≡ true
+unfolding quiet
+quiet-front l [] ys q = refl
+quiet-front l (x ∷ xs) ys q =
+    let a : not (interrupts x && accepts l x) ≡ true = and-left (not (interrupts x && accepts l x)) _ q in
+    rw a (quiet-front (next l x) xs ys (and-right (not (interrupts x && accepts l x)) _ q))
+
+pub quiet-back : (l : Lamp) (xs ys : List Call) → quiet l (xs ++ ys) ≡ true → quiet (after l xs) ys ≡ true
+unfolding quiet after
+quiet-back l [] ys q = q
+quiet-back l (x ∷ xs) ys q = quiet-back (next l x) xs ys (and-right (not (interrupts x && accepts l x)) _ q)
+
+-- a quiet list's first call, and the others
+pub quiet-call : (l : Lamp) (x : Call) (xs : List Call) → quiet l (x ∷ xs) ≡ true → (not (interrupts x && accepts l x) ≡ true) × (quiet (next l x) xs ≡ true)
+unfolding quiet
+quiet-call l x xs q = (and-left (not (interrupts x && accepts l x)) _ q, and-right (not (interrupts x && accepts l x)) _ q)
+
+pub typed-split : (xs ys : List Call) → TypedCalls (xs ++ ys) → TypedCalls xs × TypedCalls ys
+typed-split [] ys t = (tt, t)
+typed-split (x ∷ xs) ys t = let r = typed-split xs ys (t .1) in ((t .0, r .0), r .1)
+
+-- ---- what a list keeps
+
+pub form-after : (l : Lamp) (xs : List Call) → lampForm l ≡ true → lampForm (after l xs) ≡ true
+unfolding after
+form-after l [] f = f
+form-after l (x ∷ xs) f = form-after (next l x) xs (form-kept l x f)
+
+pub typed-after : (l : Lamp) (xs : List Call) → lampForm l ≡ true → TypedLamp l → TypedCalls xs → TypedLamp (after l xs)
+unfolding after
+typed-after l [] f t c = t
+typed-after l (x ∷ xs) f t c = typed-after (next l x) xs (form-kept l x f) (typed-kept l x f t (c .0)) (c .1)
+
+pub bounds-after : (l : Lamp) (xs : List Call) → after l xs .bounds ≡ l .bounds
+unfolding after
+bounds-after l [] = refl
+bounds-after l (x ∷ xs) = bounds-after (next l x) xs ∙ bounds-kept l x
+
+pub options-after : (l : Lamp) (xs : List Call) → after l xs .options ≡ l .options
+unfolding after
+options-after l [] = refl
+options-after l (x ∷ xs) = options-after (next l x) xs ∙ options-kept l x

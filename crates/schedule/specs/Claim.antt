@@ -1,0 +1,81 @@
+-- The claim about every list of commands, starts, steps and halts, refused ones too, from any lamp in form: each move to a hue
+-- that is accepted with leave to run gives its task and, once a start of that task is accepted, keeps its schedule. One statement
+-- over a lamp and a whole list. Premises: the lamp is in form; lamp and calls are typed; the demand's own.
+-- Assumes nothing.
+use Prim.Native.Nat.{ℕ, _+_, _≤_}
+use mathlib.Core.Bool.{true, cond, _||_}
+use mathlib.Core.List.{List, [], _∷_, _++_}
+use mathlib.Core.Path.{_≡_}
+use lib.Dec.{eqb}
+use lib.IntN.{pos, natAbs}
+use lib.Signed.{leZ}
+use Rattle.matter.specs.declared.OnOff.{OnOff}
+use Rattle.matter.specs.Flags.{hasFlag, executeIfOff}
+use Rattle.hue.specs.Hue.{distance}
+use Rattle.tasks.specs.declared.GivenTask.{GivenTask}
+use Rattle.lamp.specs.declared.Lamp.{Lamp}
+use Rattle.lamp.specs.declared.Answer.{Answer}
+use Rattle.lamp.specs.Form.{lampForm}
+use Rattle.lamp.specs.Typed.{Call, command, start, TypedLamp}
+use Rattle.commands.specs.Answers.{answer, allowed}
+use Rattle.schedule.specs.Calls.{next, after, accepts, idle, TypedCalls, quiet, acceptedStep, steps, reached, paced}
+use Rattle.schedule.specs.Schedule.{HueCommand, asCommand, target, wayFrom, time, taskOf, Fed, Shown, takes, scheduled}
+
+-- the way travelled, read off a hue: how far it is from the one found, on the side of the way's sign
+abbrev pub travelled : Fed → Lamp → ℕ
+travelled f l = cond (leZ (pos 0) (wayFrom (f .fade) (f .found))) (distance (f .found) (l .color .hue)) (distance (l .color .hue) (f .found))
+
+abbrev pub wholeWay : Fed → ℕ
+wholeWay f = natAbs (wayFrom (f .fade) (f .found))
+
+-- the lamp shows what the schedule says
+pub record Agrees (l : Lamp) (s : Shown) : Type 0 where
+  pub hue : l .color .hue ≡ s .hue
+  pub remaining : l .remaining .tenths ≡ s .remaining
+  pub done : idle l ≡ s .done
+
+-- after the calls `ys` that follow the start, whose answer was `a`
+pub record Keeps (a : Answer) (f : Fed) (ys : List Call) : Type 0 where
+  -- (b) the same hue, remaining time and done
+  pub agrees : Agrees (after (a .lamp) ys) (scheduled f ys)
+  -- (d) "done exactly at the first accepted step at or after its time, or at its start if time or way is zero"
+  pub done : idle (after (a .lamp) ys) ≡ (eqb (time (f .fade)) 0 || eqb (wholeWay f) 0 || reached (f .start + time (f .fade)) (a .lamp) ys)
+  -- (e) "Where each accepted step also comes at or after the wait [..] asked, at most d steps are accepted after the start of a
+  -- fade of d tenths, and once d are, it is done"
+  pub pace : paced (f .start + a .wait) (a .lamp) ys ≡ true → (steps (a .lamp) ys ≤ f .fade .tenths) × (steps (a .lamp) ys ≡ f .fade .tenths → idle (after (a .lamp) ys) ≡ true)
+  -- (f) "no hue lies off the chosen arc"
+  pub arc : travelled f (after (a .lamp) ys) ≤ wholeWay f
+  -- (g) "At done, the hue is the target and the remaining time 0"
+  pub end : idle (after (a .lamp) ys) ≡ true → (after (a .lamp) ys .color .hue ≡ target (f .fade)) × (after (a .lamp) ys .remaining .tenths ≡ 0)
+
+-- at the call `x` that comes after those
+pub record KeepsAt (a : Answer) (f : Fed) (ys : List Call) (x : Call) : Type 0 where
+  -- (b) it is accepted exactly when the schedule takes it
+  pub accepted : accepts (after (a .lamp) ys) x ≡ takes f (scheduled f ys) x
+  -- (c) an accepted step asks for the schedule's wait
+  pub wait : acceptedStep (after (a .lamp) ys) x ≡ true → answer (after (a .lamp) ys) x .wait ≡ scheduled f (ys ++ (x ∷ [])) .wait
+  -- (f) "the way travelled never shrinks"
+  pub grows : travelled f (after (a .lamp) ys) ≤ travelled f (after (a .lamp) (ys ++ (x ∷ [])))
+
+-- a fade, started with the answer `a`: all along the calls that follow
+pub record KeptFade (a : Answer) (f : Fed) (calls : List Call) : Type 0 where
+  -- (c) the start asks for the schedule's wait
+  pub wait : a .wait ≡ scheduled f [] .wait
+  pub everywhere : (ys zs : List Call) → calls ≡ ys ++ zs → Keeps a f ys
+  pub everyCall : (ys : List Call) (x : Call) (zs : List Call) → calls ≡ ys ++ (x ∷ zs) → KeepsAt a f ys x
+
+-- what the schedule of a fade is fed: the command, what the lamp that it found has, and the clock of the start
+abbrev pub fed : HueCommand → Lamp → ℕ → Fed
+fed h l clock =
+    record { fade = h; found = l .color .hue; bounds = l .bounds; executeIfOff = hasFlag (l .options) executeIfOff; start = clock }
+
+-- a move to a hue on the lamp `l`, and the calls that follow it
+pub record Kept (l : Lamp) (h : HueCommand) (onOff : OnOff) (clock : ℕ) (rest : List Call) : Type 0 where
+  -- (a) it gives a task of its way and time
+  pub task : answer l (command (asCommand h) onOff clock) .task ≡ GivenTask.Given (taskOf h (l .color .hue))
+  -- "once a start of that task is accepted [..] at that start the hue is as the command found it, and no other accepted start,
+  -- halt or colour-loop command follows it"
+  pub fades : (between calls : List Call) (at : ℕ) → rest ≡ between ++ (start (taskOf h (l .color .hue)) at ∷ calls) → accepts (after (next l (command (asCommand h) onOff clock)) between) (start (taskOf h (l .color .hue)) at) ≡ true → after (next l (command (asCommand h) onOff clock)) between .color .hue ≡ l .color .hue → quiet (next (after (next l (command (asCommand h) onOff clock)) between) (start (taskOf h (l .color .hue)) at)) calls ≡ true → KeptFade (answer (after (next l (command (asCommand h) onOff clock)) between) (start (taskOf h (l .color .hue)) at)) (fed h l at) calls
+
+abbrev pub Claim : Type 0
+Claim = (l : Lamp) (calls : List Call) → lampForm l ≡ true → TypedLamp l → TypedCalls calls → (before rest : List Call) (h : HueCommand) (onOff : OnOff) (clock : ℕ) → calls ≡ before ++ (command (asCommand h) onOff clock ∷ rest) → accepts (after l before) (command (asCommand h) onOff clock) ≡ true → allowed (after l before) (asCommand h) onOff ≡ true → Kept (after l before) h onOff clock rest

@@ -1,0 +1,290 @@
+-- Fades that meet every premise of the claim at once, and what their lamps show, by computation: with each wait kept, with no
+-- way, with no time, down past 0, and with refused calls, foreign commands and a jump of the clock inside.
+-- Assumes nothing.
+use Prim.Native.Nat.{ℕ, _+_, _<_}
+use mathlib.Core.Bool.{Bool, true, false, _&&_}
+use mathlib.Core.List.{List, [], _∷_, _++_, map}
+use mathlib.Core.Path.{_≡_, refl}
+use lib.Dec.{eqb, lit<}
+use Rattle.matter.specs.declared.ColorLoopActionEnum.{ColorLoopActionEnum}
+use Rattle.matter.specs.declared.ColorLoopDirectionEnum.{ColorLoopDirectionEnum}
+use Rattle.matter.specs.declared.ColorModeEnum.{ColorModeEnum}
+use Rattle.matter.specs.declared.Command.{Command}
+use Rattle.matter.specs.declared.CommandOptions.{CommandOptions}
+use Rattle.matter.specs.declared.DirectionEnum.{DirectionEnum}
+use Rattle.matter.specs.declared.EnhancedColorModeEnum.{EnhancedColorModeEnum}
+use Rattle.matter.specs.declared.MoveModeEnum.{MoveModeEnum}
+use Rattle.matter.specs.declared.OnOff.{OnOff}
+use Rattle.matter.specs.All.{all}
+use Rattle.matter.specs.Flags.{hasFlag}
+use Rattle.matter.specs.Typed.{TypedOptions}
+use Rattle.hue.specs.Hue.{distance, pathDelta, movedHue}
+use Rattle.progress.specs.Progress.{permilleOf}
+use Rattle.color.specs.Form.{colorForm}
+use Rattle.color.specs.Setters.{hueSet}
+use Rattle.tasks.specs.declared.Running.{Running}
+use Rattle.tasks.specs.declared.Task.{Task}
+use Rattle.tasks.specs.Form.{moveToForm, taskForm, runningForm}
+use Rattle.lamp.specs.declared.Lamp.{Lamp}
+use Rattle.lamp.specs.declared.Answer.{Answer}
+use Rattle.lamp.specs.Answers.{formOrClock}
+use Rattle.lamp.specs.Calls.{hueSaturationStart, started, stepped, startAnswer, stepAnswer, haltAnswer}
+use Rattle.lamp.specs.Form.{lampForm}
+use Rattle.lamp.specs.Passes.{hueSaturationPass}
+use Rattle.lamp.specs.Typed.{Call, command, start, step, halt, TypedLamp}
+use Rattle.commands.specs.Commands.{commandEffect}
+use Rattle.commands.specs.Answers.{answer, allowed, commandCause, commandAnswer}
+use Rattle.schedule.specs.Calls.{next, after, accepts, idle, TypedCalls, quiet, steps, paced}
+use Rattle.schedule.specs.Schedule.{HueCommand, asCommand, taskOf}
+
+-- ---- a lamp, and a fade on it
+
+-- an idle lamp at this hue, whose clock is 5000
+abbrev pub lampAt : ℕ → Lamp
+lampAt hue =
+    record {
+      clock = 5000;
+      bounds = record { min = 153; max = 500 };
+      color =
+          record {
+            hue = hue;
+            saturation = 254;
+            mireds = 250;
+            mode = ColorModeEnum.CurrentHueAndCurrentSaturation;
+            emode = EnhancedColorModeEnum.CurrentHueAndCurrentSaturation;
+            stamps = record { hue = 0; saturation = 0; mireds = 0 };
+          };
+      looping = record { active = false; direction = ColorLoopDirectionEnum.Increment; time = 25; start = 8960; stored = 0 };
+      remaining = record { tenths = 0 };
+      options = 0;
+      running = Running.Idle;
+    }
+
+-- a lamp, and the parts of a list of calls: those before the command, the command and its clock, those between it and the start,
+-- the clock of the start, and the calls after it
+pub record Fade : Type 0 where
+  pub lamp : Lamp
+  pub before : List Call
+  pub fade : HueCommand
+  pub clock : ℕ
+  pub between : List Call
+  pub at : ℕ
+  pub calls : List Call
+
+-- the lamp that the command finds
+abbrev pub foundOf : Fade → Lamp
+foundOf e = after (e .lamp) (e .before)
+
+abbrev pub commandOf : Fade → Call
+commandOf e = command (asCommand (e .fade)) OnOff.On (e .clock)
+
+-- the lamp that the start finds
+abbrev pub readyOf : Fade → Lamp
+readyOf e = after (next (foundOf e) (commandOf e)) (e .between)
+
+abbrev pub startOf : Fade → Call
+startOf e = start (taskOf (e .fade) (foundOf e .color .hue)) (e .at)
+
+abbrev pub begunOf : Fade → Answer
+begunOf e = answer (readyOf e) (startOf e)
+
+abbrev pub listOf : Fade → List Call
+listOf e = e .before ++ (commandOf e ∷ (e .between ++ (startOf e ∷ e .calls)))
+
+-- the premises of the claim, but for the types: form, command and start accepted, leave to run, the hue as the command found
+-- it, no other accepted start, halt or colour-loop command after the start, and every wait kept
+unfoldable pub meets : Fade → Bool
+meets e =
+    lampForm (e .lamp)
+    && accepts (foundOf e) (commandOf e)
+    && allowed (foundOf e) (asCommand (e .fade)) OnOff.On
+    && accepts (readyOf e) (startOf e)
+    && eqb (readyOf e .color .hue) (foundOf e .color .hue)
+    && quiet (begunOf e .lamp) (e .calls)
+    && paced (e .at + begunOf e .wait) (begunOf e .lamp) (e .calls)
+
+-- what is seen of a lamp
+pub record Look : Type 0 where
+  pub hue : ℕ
+  pub remaining : ℕ
+  pub idle : Bool
+
+abbrev pub look : Lamp → Look
+look l = record { hue = l .color .hue; remaining = l .remaining .tenths; idle = idle l }
+
+abbrev pub seen : ℕ → ℕ → Bool → Look
+seen hue remaining idle = record { hue = hue; remaining = remaining; idle = idle }
+
+-- at first, and after each call
+unfoldable pub looks : Lamp → List Call → List Look
+looks l [] = look l ∷ []
+looks l (x ∷ xs) = look l ∷ looks (next l x) xs
+
+-- from the start on
+unfoldable pub shows : Fade → List Look
+shows e = looks (begunOf e .lamp) (e .calls)
+
+-- how many steps are accepted after the start
+unfoldable pub taken : Fade → ℕ
+taken e = steps (begunOf e .lamp) (e .calls)
+
+-- ---- the fades
+
+abbrev pub plain : CommandOptions
+plain = record { mask = 0; over = 0 }
+
+-- each wait kept: half way round in two tenths
+abbrev pub paceKept : Fade
+paceKept =
+    record {
+      lamp = lampAt 0;
+      before = [];
+      fade = record { enhanced = false; hue = 128; direction = DirectionEnum.Shortest; tenths = 2; options = plain };
+      clock = 5000;
+      between = [];
+      at = 5000;
+      calls = step 5100 ∷ step 5200 ∷ [];
+    }
+
+-- to the hue that is there
+abbrev pub noWay : Fade
+noWay =
+    record {
+      lamp = lampAt 2560;
+      before = [];
+      fade = record { enhanced = false; hue = 10; direction = DirectionEnum.Longest; tenths = 5; options = plain };
+      clock = 5000;
+      between = [];
+      at = 5000;
+      calls = step 5100 ∷ [];
+    }
+
+-- at once
+abbrev pub noTime : Fade
+noTime =
+    record {
+      lamp = lampAt 0;
+      before = [];
+      fade = record { enhanced = false; hue = 10; direction = DirectionEnum.Down; tenths = 0; options = plain };
+      clock = 5000;
+      between = [];
+      at = 5000;
+      calls = step 5100 ∷ [];
+    }
+
+-- 2000 down from 1000
+abbrev pub pastZero : Fade
+pastZero =
+    record {
+      lamp = lampAt 1000;
+      before = [];
+      fade = record { enhanced = true; hue = 64536; direction = DirectionEnum.Down; tenths = 4; options = plain };
+      clock = 5000;
+      between = [];
+      at = 5000;
+      calls = step 5100 ∷ step 5200 ∷ step 5300 ∷ step 5400 ∷ [];
+    }
+
+-- calls of every kind before, between and after: up past 65,535
+abbrev pub amongOthers : Fade
+amongOthers =
+    record {
+      lamp = lampAt 60000;
+      before = halt 5000 ∷ step 5000 ∷ [];
+      fade = record { enhanced = true; hue = 1000; direction = DirectionEnum.Up; tenths = 10; options = plain };
+      clock = 5000;
+      between = command (Command.MoveToSaturation 100 20 plain) OnOff.NoHandler 5050 ∷ [];
+      at = 5100;
+      calls =
+          step 5200
+          -- refused: an earlier clock
+          ∷ step 5000
+          -- accepted, and its task is not started
+          ∷ command (Command.MoveToColorTemperature 300 20 plain) OnOff.On 5250
+          -- refused: rate 0
+          ∷ command (Command.MoveHue MoveModeEnum.Up 0 false plain) OnOff.On 5260
+          -- refused: the Stop task
+          ∷ start Task.Stop 5260
+          -- refused: an earlier clock
+          ∷ command (Command.ColorLoopSet 1 ColorLoopActionEnum.ActivateFromEnhancedCurrentHue ColorLoopDirectionEnum.Increment 25 0 plain) OnOff.On 5240
+          -- accepted, and passed over
+          ∷ command (Command.MoveToHue 254 DirectionEnum.Shortest 1 plain) OnOff.Off 5270
+          -- refused: past the limit
+          ∷ halt 1_099_511_627_777
+          -- far behind the time
+          ∷ step 2_000_000
+          -- refused: idle
+          ∷ step 2_000_100
+          ∷ [];
+    }
+
+abbrev pub fades : List Fade
+fades = paceKept ∷ noWay ∷ noTime ∷ pastZero ∷ amongOthers ∷ []
+
+-- ---- they meet the premises
+
+-- form, acceptance, leave, hue, quiet and pace
+pub all-meet : map meets fades ≡ true ∷ true ∷ true ∷ true ∷ true ∷ []
+unfolding meets after quiet paced answer commandCause commandAnswer formOrClock lampForm all colorForm runningForm moveToForm taskForm commandEffect startAnswer stepAnswer haltAnswer started stepped hueSaturationStart hueSaturationPass hueSet permilleOf pathDelta distance movedHue hasFlag
+all-meet = refl
+
+-- the types
+pub typed-lamp : (hue : ℕ) → hue < 65536 → TypedLamp (lampAt hue)
+typed-lamp hue h =
+    record {
+      clock = lit< tt;
+      bounds = record { min = lit< tt; max = lit< tt };
+      hue = h;
+      saturation = lit< tt;
+      mireds = lit< tt;
+      hueStamp = lit< tt;
+      saturationStamp = lit< tt;
+      miredsStamp = lit< tt;
+      loopTime = lit< tt;
+      loopStart = lit< tt;
+      loopStored = lit< tt;
+      remaining = lit< tt;
+      options = lit< tt;
+      running = tt;
+    }
+
+typed-plain : TypedOptions plain
+typed-plain = record { mask = lit< tt; over = lit< tt }
+
+pub typed-paceKept : TypedCalls (listOf paceKept)
+unfolding after pathDelta distance
+typed-paceKept = (((lit< tt, lit< tt, typed-plain), lit< tt), ((record { delta = lit< tt; saturation = tt; ms = lit< tt }, lit< tt), (lit< tt, (lit< tt, tt))))
+
+pub typed-noWay : TypedCalls (listOf noWay)
+unfolding after pathDelta distance
+typed-noWay = (((lit< tt, lit< tt, typed-plain), lit< tt), ((record { delta = lit< tt; saturation = tt; ms = lit< tt }, lit< tt), (lit< tt, tt)))
+
+pub typed-noTime : TypedCalls (listOf noTime)
+unfolding after pathDelta distance
+typed-noTime = (((lit< tt, lit< tt, typed-plain), lit< tt), ((record { delta = lit< tt; saturation = tt; ms = lit< tt }, lit< tt), (lit< tt, tt)))
+
+pub typed-pastZero : TypedCalls (listOf pastZero)
+unfolding after pathDelta distance
+typed-pastZero = (((lit< tt, lit< tt, typed-plain), lit< tt), ((record { delta = lit< tt; saturation = tt; ms = lit< tt }, lit< tt), (lit< tt, (lit< tt, (lit< tt, (lit< tt, tt))))))
+
+pub typed-amongOthers : TypedCalls (listOf amongOthers)
+unfolding after pathDelta distance answer haltAnswer stepAnswer formOrClock lampForm all colorForm runningForm
+typed-amongOthers = (lit< tt, (lit< tt, (((lit< tt, lit< tt, typed-plain), lit< tt), (((lit< tt, lit< tt, typed-plain), lit< tt), ((record { delta = lit< tt; saturation = tt; ms = lit< tt }, lit< tt), (lit< tt, (lit< tt, (((lit< tt, lit< tt, typed-plain), lit< tt), (((lit< tt, typed-plain), lit< tt), ((tt, lit< tt), (((lit< tt, lit< tt, lit< tt, typed-plain), lit< tt), (((lit< tt, lit< tt, typed-plain), lit< tt), (lit< tt, (lit< tt, (lit< tt, tt)))))))))))))))
+
+-- ---- what their lamps show, from the start on
+
+pub all-show : map shows fades ≡
+    (seen 0 2 false ∷ seen 16384 1 false ∷ seen 32768 0 true ∷ [])
+    ∷ (seen 2560 0 true ∷ seen 2560 0 true ∷ [])
+    ∷ (seen 2560 0 true ∷ seen 2560 0 true ∷ [])
+    ∷ (seen 1000 4 false ∷ seen 500 3 false ∷ seen 0 2 false ∷ seen 65036 1 false ∷ seen 64536 0 true ∷ [])
+    ∷ (seen 60000 10 false ∷ seen 60653 9 false ∷ seen 60653 9 false ∷ seen 60653 9 false ∷ seen 60653 9 false ∷ seen 60653 9 false
+    ∷ seen 60653 9 false ∷ seen 60653 9 false ∷ seen 60653 9 false ∷ seen 1000 0 true ∷ seen 1000 0 true ∷ [])
+    ∷ []
+unfolding shows looks after quiet paced answer commandCause commandAnswer formOrClock lampForm all colorForm runningForm moveToForm taskForm commandEffect startAnswer stepAnswer haltAnswer started stepped hueSaturationStart hueSaturationPass hueSet permilleOf pathDelta distance movedHue hasFlag
+all-show = refl
+
+-- as many steps as tenths, where each comes as soon as it may
+pub all-take : map taken fades ≡ 2 ∷ 0 ∷ 0 ∷ 4 ∷ 2 ∷ []
+unfolding taken steps after quiet paced answer commandCause commandAnswer formOrClock lampForm all colorForm runningForm moveToForm taskForm commandEffect startAnswer stepAnswer haltAnswer started stepped hueSaturationStart hueSaturationPass hueSet permilleOf pathDelta distance movedHue hasFlag
+all-take = refl

@@ -1,0 +1,4 @@
+pub mod Calls
+pub mod Schedule
+pub mod Claim
+pub mod Examples
