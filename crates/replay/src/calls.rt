@@ -1,7 +1,11 @@
 // A line read as a call. A line whose last word does not end it, or that has a word not as asked, is unreadable.
 use crate::enums;
 use crate::fields;
+use crate::invocations;
+use crate::invocations::Invocation;
 use crate::records;
+use crate::starts;
+use crate::starts::Start;
 use crate::words;
 use crate::words::LOST;
 use lamp::Lamp;
@@ -72,12 +76,17 @@ pub enum LampCall {
     SetHue(HueSetting),
     SetSaturation(SaturationSetting),
     SetMireds(MiredsSetting),
+    Invoke(Invocation),
+    Start(Start),
+    Step(u64),
+    Halt(u64),
 }
 
 pub enum Call {
     Lamp(Lamp),
     New(Making),
     OnLamp(LampCall),
+    StartLast(u64),
     Ask(Leaf),
     Unreadable,
 }
@@ -189,6 +198,48 @@ fn set_call(line: &[u8], at: usize) -> Call {
     mireds_call(line, words::after(line, at, b"ct"))
 }
 
+fn invoke_call(line: &[u8], at: usize) -> Call {
+    let read = invocations::read(line, at);
+    if read.at != line.len() {
+        return Call::Unreadable;
+    }
+    let invocation = read.value;
+    Call::OnLamp(LampCall::Invoke(invocation))
+}
+
+fn start_call(line: &[u8], at: usize) -> Call {
+    let read = starts::start_of(line, at);
+    if read.at != line.len() {
+        return Call::Unreadable;
+    }
+    let start = read.value;
+    Call::OnLamp(LampCall::Start(start))
+}
+
+fn start_last_call(line: &[u8], at: usize) -> Call {
+    let clock = words::long(line, at);
+    if clock.at != line.len() {
+        return Call::Unreadable;
+    }
+    Call::StartLast(clock.value)
+}
+
+fn step_call(line: &[u8], at: usize) -> Call {
+    let clock = words::long(line, at);
+    if clock.at != line.len() {
+        return Call::Unreadable;
+    }
+    Call::OnLamp(LampCall::Step(clock.value))
+}
+
+fn halt_call(line: &[u8], at: usize) -> Call {
+    let clock = words::long(line, at);
+    if clock.at != line.len() {
+        return Call::Unreadable;
+    }
+    Call::OnLamp(LampCall::Halt(clock.value))
+}
+
 fn delta_call(line: &[u8], at: usize) -> Call {
     let current = words::short(line, at);
     let target = words::short(line, current.at);
@@ -277,7 +328,8 @@ fn bench_call(line: &[u8]) -> Call {
     record_call(line, words::first(line, b"record"))
 }
 
-pub fn read(line: &[u8]) -> Call {
+// The calls that look at something on its own, and those of `bench_call`.
+fn other_call(line: &[u8]) -> Call {
     let leaf = words::first(line, b"leaf");
     if leaf != LOST {
         return leaf_call(line, leaf);
@@ -291,4 +343,28 @@ pub fn read(line: &[u8]) -> Call {
         return show_call(line, show);
     }
     bench_call(line)
+}
+
+pub fn read(line: &[u8]) -> Call {
+    let command = words::first(line, b"cmd");
+    if command != LOST {
+        return invoke_call(line, command);
+    }
+    let step = words::first(line, b"step");
+    if step != LOST {
+        return step_call(line, step);
+    }
+    let last = words::first(line, b"startlast");
+    if last != LOST {
+        return start_last_call(line, last);
+    }
+    let start = words::first(line, b"start");
+    if start != LOST {
+        return start_call(line, start);
+    }
+    let halt = words::first(line, b"halt");
+    if halt != LOST {
+        return halt_call(line, halt);
+    }
+    other_call(line)
 }

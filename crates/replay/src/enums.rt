@@ -1,6 +1,8 @@
 // Reading the cluster's enums by their numbers, and the on/off words. A number that no case has is LOST.
 use crate::words;
 use crate::words::LOST;
+use matter::ColorLoopActionEnum;
+use matter::ColorLoopActionFound;
 use matter::ColorLoopDirectionEnum;
 use matter::ColorLoopDirectionFound;
 use matter::ColorModeEnum;
@@ -12,6 +14,8 @@ use matter::EnhancedColorModeFound;
 use matter::MoveModeEnum;
 use matter::MoveModeFound;
 use matter::OnOff;
+use matter::StepModeEnum;
+use matter::StepModeFound;
 
 pub struct DirectionRead {
     pub value: DirectionEnum,
@@ -20,6 +24,16 @@ pub struct DirectionRead {
 
 pub struct MoveModeRead {
     pub value: MoveModeEnum,
+    pub at: usize,
+}
+
+pub struct StepModeRead {
+    pub value: StepModeEnum,
+    pub at: usize,
+}
+
+pub struct LoopActionRead {
+    pub value: ColorLoopActionEnum,
     pub at: usize,
 }
 
@@ -66,6 +80,34 @@ pub fn move_mode(line: &[u8], at: usize) -> MoveModeRead {
         },
         MoveModeFound::Reserved => MoveModeRead {
             value: MoveModeEnum::Stop,
+            at: LOST,
+        },
+    }
+}
+
+pub fn step_mode(line: &[u8], at: usize) -> StepModeRead {
+    let n = words::byte(line, at);
+    match StepModeEnum::of_number(n.value) {
+        StepModeFound::Known(mode) => StepModeRead {
+            value: mode,
+            at: n.at,
+        },
+        StepModeFound::Reserved => StepModeRead {
+            value: StepModeEnum::Up,
+            at: LOST,
+        },
+    }
+}
+
+pub fn loop_action(line: &[u8], at: usize) -> LoopActionRead {
+    let n = words::byte(line, at);
+    match ColorLoopActionEnum::of_number(n.value) {
+        ColorLoopActionFound::Known(action) => LoopActionRead {
+            value: action,
+            at: n.at,
+        },
+        ColorLoopActionFound::Reserved => LoopActionRead {
+            value: ColorLoopActionEnum::Deactivate,
             at: LOST,
         },
     }

@@ -2,10 +2,12 @@
 mod calls;
 mod enums;
 mod fields;
+mod invocations;
 mod moves;
 mod print;
 mod records;
 mod run;
+mod starts;
 mod words;
 
 use libc::STDIN_FILENO;

@@ -11,7 +11,9 @@ use crate::calls::Making;
 use crate::calls::MiredsSetting;
 use crate::calls::RemainingAsked;
 use crate::calls::SaturationSetting;
+use crate::invocations::Invocation;
 use crate::print;
+use crate::starts::Start;
 use color::ColorSet;
 use lamp::ACCEPTED;
 use lamp::Answer;
@@ -22,6 +24,7 @@ use notices::Notices;
 use remaining_time::RemainingTime;
 use tasks::GivenTask;
 use tasks::Running;
+use tasks::Task;
 
 // A line of more bytes is unreadable.
 const LONGEST: usize = 4095;
@@ -198,6 +201,17 @@ fn set_mireds(lamp: Lamp, set: MiredsSetting) -> Answer {
     )
 }
 
+fn invoke(lamp: Lamp, invocation: Invocation) -> Answer {
+    let command = invocation.command;
+    let on_off = invocation.on_off;
+    commands::invoke(lamp, command, on_off, invocation.clock)
+}
+
+fn begin(lamp: Lamp, start: Start) -> Answer {
+    let task = start.task;
+    lamp.start(task, start.clock)
+}
+
 fn on_lamp(lamp: Lamp, call: LampCall) -> Answer {
     match call {
         LampCall::Poke(fields) => poked(lamp, fields),
@@ -206,6 +220,10 @@ fn on_lamp(lamp: Lamp, call: LampCall) -> Answer {
         LampCall::SetHue(set) => set_hue(lamp, set),
         LampCall::SetSaturation(set) => set_saturation(lamp, set),
         LampCall::SetMireds(set) => set_mireds(lamp, set),
+        LampCall::Invoke(invocation) => invoke(lamp, invocation),
+        LampCall::Start(start) => begin(lamp, start),
+        LampCall::Step(clock) => lamp.step(clock),
+        LampCall::Halt(clock) => lamp.halt(clock),
     }
 }
 
@@ -215,6 +233,27 @@ fn on_held(state: State, call: LampCall, out: &mut [u8], at: usize) -> Turn {
     match held {
         Held::Nothing => error(state, out, at),
         Held::Lamp(lamp) => answered(task, on_lamp(lamp, call), out, at),
+    }
+}
+
+fn start_task(state: State, task: Task, clock: u64, out: &mut [u8], at: usize) -> Turn {
+    on_held(
+        state,
+        LampCall::Start(Start {
+            task: task,
+            clock: clock,
+        }),
+        out,
+        at,
+    )
+}
+
+// A start of the task that was given last.
+fn start_last(state: State, clock: u64, out: &mut [u8], at: usize) -> Turn {
+    let last = state.task;
+    match last {
+        GivenTask::Nothing => error(state, out, at),
+        GivenTask::Given(task) => start_task(state, task, clock, out, at),
     }
 }
 
@@ -276,6 +315,7 @@ fn run(state: State, call: Call, out: &mut [u8], at: usize) -> Turn {
         Call::Lamp(lamp) => placed(lamp, out, at),
         Call::New(making) => make(state, making, out, at),
         Call::OnLamp(call) => on_held(state, call, out, at),
+        Call::StartLast(clock) => start_last(state, clock, out, at),
         Call::Ask(leaf) => asked(state, leaf, out, at),
         Call::Unreadable => error(state, out, at),
     }

@@ -1,0 +1,131 @@
+-- The table of causes, read off: each number in its cause and in no other, for every call. For each kind of call the lines below
+-- go through all cases of its tests, in the table's order, so that no two of them meet and none is left out. And: no answer uses
+-- more than 14 of its sixteen places, the rest being 0; a step of a running lamp in form with a good clock is never refused.
+-- Assumes nothing.
+use Prim.Native.Nat.{ℕ, _≤_}
+use mathlib.Core.Bool.{true, false}
+use mathlib.Core.List.{List, []}
+use mathlib.Core.Path.{_≡_, refl}
+use native.Mathlib.Omega.{arith}
+use lib.Dec.{eqb}
+use lib.ListN.{length}
+use Rattle.matter.specs.declared.Command.{Command}
+use Rattle.matter.specs.declared.OnOff.{OnOff}
+use Rattle.matter.specs.Laws.{cond-both}
+use Rattle.notices.specs.Notices.{noted}
+use Rattle.tasks.specs.declared.Task.{Task}
+use Rattle.tasks.specs.Form.{taskForm}
+use Rattle.tasks.specs.Runs.{runs}
+use Rattle.lamp.specs.declared.Lamp.{Lamp}
+use Rattle.lamp.specs.declared.Answer.{Answer}
+use Rattle.lamp.specs.Answers.{atClock, badClock, formOrClock, refusal}
+use Rattle.lamp.specs.Form.{lampForm}
+use Rattle.lamp.specs.Calls.{started, stepped, startAnswer, stepAnswer, haltAnswer, choose, startCause, stepCause}
+use Rattle.lamp.specs.Kept.{started-few, stepped-few}
+use Rattle.lamp.specs.Typed.{Call, command, start, step, halt}
+use Rattle.commands.specs.Commands.{stopMode, numberCause, crossed}
+use Rattle.commands.specs.Answers.{allowed, commandCause, commandDone, commandAnswer, cause, answer}
+use Rattle.commands.specs.Kept.{commands-few}
+
+module _ (l : Lamp) (clock : ℕ) where
+  -- ---- a step: 8, 7, 4
+  pub step-8 : lampForm l ≡ false → cause l (step clock) ≡ 8
+  unfolding cause
+  step-8 f = simp f
+
+  pub step-7 : lampForm l ≡ true → runs (l .running) ≡ false → cause l (step clock) ≡ 7
+  unfolding cause
+  step-7 f r = simp (f, r)
+
+  pub step-4 : lampForm l ≡ true → runs (l .running) ≡ true → badClock l clock ≡ true → cause l (step clock) ≡ 4
+  unfolding cause
+  step-4 f r b = simp (f, r, b)
+
+  -- a step of a running lamp in form with a good clock is never refused
+  pub step-0 : lampForm l ≡ true → runs (l .running) ≡ true → badClock l clock ≡ false → cause l (step clock) ≡ 0
+  unfolding cause
+  step-0 f r b = simp (f, r, b)
+
+  -- ---- a halt: 8, 4
+  pub halt-8 : lampForm l ≡ false → cause l (halt clock) ≡ 8
+  unfolding cause formOrClock
+  halt-8 f = simp f
+
+  pub halt-4 : lampForm l ≡ true → badClock l clock ≡ true → cause l (halt clock) ≡ 4
+  unfolding cause formOrClock
+  halt-4 f b = simp (f, b)
+
+  pub halt-0 : lampForm l ≡ true → badClock l clock ≡ false → cause l (halt clock) ≡ 0
+  unfolding cause formOrClock
+  halt-0 f b = simp (f, b)
+
+  module _ (task : Task) where
+    -- ---- a start: 8, 4, 6
+    pub start-8 : lampForm l ≡ false → cause l (start task clock) ≡ 8
+    unfolding cause formOrClock
+    start-8 f = simp f
+
+    pub start-4 : lampForm l ≡ true → badClock l clock ≡ true → cause l (start task clock) ≡ 4
+    unfolding cause formOrClock
+    start-4 f b = simp (f, b)
+
+    pub start-6 : lampForm l ≡ true → badClock l clock ≡ false → taskForm task ≡ false → cause l (start task clock) ≡ 6
+    unfolding cause formOrClock
+    start-6 f b t = simp (f, b, t)
+
+    pub start-0 : lampForm l ≡ true → badClock l clock ≡ false → taskForm task ≡ true → cause l (start task clock) ≡ 0
+    unfolding cause formOrClock
+    start-0 f b t = simp (f, b, t)
+
+  module _ (c : Command) (onOff : OnOff) where
+    -- ---- a command: 8, 4, Stop mode, its own numbers (1 or 2), off, 3
+    pub command-8 : lampForm l ≡ false → cause l (command c onOff clock) ≡ 8
+    unfolding cause commandCause formOrClock
+    command-8 f = simp f
+
+    pub command-4 : lampForm l ≡ true → badClock l clock ≡ true → cause l (command c onOff clock) ≡ 4
+    unfolding cause commandCause formOrClock
+    command-4 f b = simp (f, b)
+
+    pub command-stop : lampForm l ≡ true → badClock l clock ≡ false → stopMode c ≡ true → cause l (command c onOff clock) ≡ 0
+    unfolding cause commandCause formOrClock
+    command-stop f b s = simp (f, b, s)
+
+    pub command-number : lampForm l ≡ true → badClock l clock ≡ false → stopMode c ≡ false → eqb (numberCause c) 0 ≡ false → cause l (command c onOff clock) ≡ numberCause c
+    unfolding cause commandCause formOrClock
+    command-number f b s n = simp (f, b, s, n)
+
+    pub command-off : lampForm l ≡ true → badClock l clock ≡ false → stopMode c ≡ false → eqb (numberCause c) 0 ≡ true → allowed l c onOff ≡ false → cause l (command c onOff clock) ≡ 0
+    unfolding cause commandCause formOrClock
+    command-off f b s n a = simp (f, b, s, n, a)
+
+    pub command-3 : lampForm l ≡ true → badClock l clock ≡ false → stopMode c ≡ false → eqb (numberCause c) 0 ≡ true → allowed l c onOff ≡ true → crossed (l .bounds) c ≡ true → cause l (command c onOff clock) ≡ 3
+    unfolding cause commandCause formOrClock
+    command-3 f b s n a x = simp (f, b, s, n, a, x)
+
+    pub command-0 : lampForm l ≡ true → badClock l clock ≡ false → stopMode c ≡ false → eqb (numberCause c) 0 ≡ true → allowed l c onOff ≡ true → crossed (l .bounds) c ≡ false → cause l (command c onOff clock) ≡ 0
+    unfolding cause commandCause formOrClock
+    command-0 f b s n a x = simp (f, b, s, n, a, x)
+
+-- ---- at most 14 notices: an answer's list is some list of at most 14 in its places, with zeros behind
+
+pub record Few (a : Answer) : Type 0 where
+  pub told : List ℕ
+  pub listed : a .notices ≡ noted told
+  pub few : length told ≤ 14
+
+chosen : (n : ℕ) (l : Lamp) (a : Answer) → Few a → Few (choose n l a)
+chosen n l a f = cond-both Few (eqb n 0) a (refusal l n) (λ e. f) (λ e. record { told = []; listed = refl; few = omega arith })
+
+pub answer-few : (l : Lamp) (x : Call) → Few (answer l x)
+unfolding answer commandAnswer startAnswer stepAnswer haltAnswer
+answer-few l (command c onOff clock) =
+    chosen (commandCause l c onOff clock) l _
+    (record { told = commandDone (atClock l clock) c onOff .told; listed = refl; few = commands-few (atClock l clock) c onOff })
+answer-few l (start task clock) =
+    chosen (startCause l task clock) l _
+    (record { told = started (atClock l clock) task .told; listed = refl; few = started-few (atClock l clock) task })
+answer-few l (step clock) =
+    chosen (stepCause l clock) l _
+    (record { told = stepped (atClock l clock) (l .running) .told; listed = refl; few = stepped-few (atClock l clock) (l .running) })
+answer-few l (halt clock) = chosen (formOrClock l clock) l _ (record { told = []; listed = refl; few = omega arith })
