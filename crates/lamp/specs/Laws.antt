@@ -1,20 +1,17 @@
 -- Making and refusals: each number in its cause and in no other, and a lamp that is made is in form and typed.
 -- Assumes nothing.
 use Prim.Native.Nat.{ℕ, _≤_, _<_}
-use mathlib.Core.Bool.{Bool, true, false, not, cond, _||_}
-use mathlib.Core.List.{[], _∷_}
-use mathlib.Core.Path.{_≡_, refl, sym, ap, _∙_}
+use mathlib.Core.Bool.{Bool, true, false, cond}
+use mathlib.Core.Path.{_≡_, refl, sym}
 use native.Mathlib.Omega.{arith}
-use lib.Dec.{ltb, leb, eqb}
+use lib.Dec.{eqb}
 use lib.IntN.{pos}
 use borrow.Author.Tests.{eqb-true, lt-ltb, le-ltb, le-leb}
 use Rattle.matter.specs.declared.Bounds.{Bounds}
 use Rattle.matter.specs.declared.EnhancedColorModeEnum.{EnhancedColorModeEnum}
-use Rattle.matter.specs.All.{all}
 use Rattle.matter.specs.Laws.{all-of}
 use Rattle.matter.specs.Limits.{clockLimit}
 use Rattle.matter.specs.Rules.{colorModeOf, defaultColorMode}
-use Rattle.matter.specs.Typed.{Byte, Clock, TypedBounds}
 use Rattle.progress.specs.Progress.{clamp}
 use Rattle.progress.specs.Laws.{clamp-within}
 use Rattle.color.specs.Form.{modesAgree, colorForm}
@@ -25,7 +22,6 @@ use Rattle.lamp.specs.declared.Made.{Made}
 use Rattle.lamp.specs.Answers.{badClock, formOrClock}
 use Rattle.lamp.specs.Form.{lampForm}
 use Rattle.lamp.specs.Making.{freshLamp, makingCause, making, madeNumber}
-use Rattle.lamp.specs.Typed.{TypedLamp}
 
 -- ---- making: 4 exactly above the limit, whatever the bounds; 5 exactly at a good clock with crossed bounds
 

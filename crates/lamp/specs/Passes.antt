@@ -13,7 +13,7 @@ use Rattle.matter.specs.Limits.{saturationLimit}
 use Rattle.notices.specs.Notices.{only}
 use Rattle.notices.specs.Names.{RemainingTime, deviceHueSaturation, deviceMireds}
 use Rattle.hue.specs.Hue.{movedHue}
-use Rattle.progress.specs.Progress.{permilleOf, partOf, wayAtRate, loopWay, broughtWithin, tick, endWait, turnWait}
+use Rattle.progress.specs.Progress.{partOf, wayAtRate, loopWay, broughtWithin, tick, endWait, turnWait}
 use Rattle.remaining_time.specs.declared.Written.{Written}
 use Rattle.remaining_time.specs.RemainingTime.{writtenQuietly}
 use Rattle.color.specs.declared.Color.{Color}

@@ -123,17 +123,17 @@ kept l h onOff clock rest form typed c a e =
     let x : Call = command (asCommand h) onOff clock in
     record {
       task = task-is l h onOff clock a e;
-      fades = λ between calls at split ok hue q.
+      fades = λ between calls at split p.
           let found : Lamp = after (next l x) between in
           let f : Fed = fed h l at in
           let form' : lampForm found ≡ true = form-after (next l x) between (form-kept l x form) in
-          let n : Sane f = record { found = typed .hue; target = target-small h c; time = time-small found h (l .color .hue) at form' ok } in
+          let n : Sane f = record { found = typed .hue; target = target-small h c; time = time-small found h (l .color .hue) at form' (p .accepted) } in
           let b =
           begins f n found form' (bounds-after (next l x) between ∙ bounds-kept l x)
           (ap (λ (o : ℕ). hasFlag o executeIfOff) (options-after (next l x) between ∙ options-kept l x))
-          hue
-          ok in
-          kept-fade f n (answer found (start (taskOf h (l .color .hue)) at)) b calls q;
+          (p .hue)
+          (p .accepted) in
+          kept-fade f n (answer found (start (taskOf h (l .color .hue)) at)) b calls (p .undisturbed);
     }
 
 pub keeps-schedule : Claim

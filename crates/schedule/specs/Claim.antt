@@ -69,13 +69,37 @@ abbrev pub fed : HueCommand → Lamp → ℕ → Fed
 fed h l clock =
     record { fade = h; found = l .color .hue; bounds = l .bounds; executeIfOff = hasFlag (l .options) executeIfOff; start = clock }
 
+-- a move to a hue, as a call, and a start of the task that it gives on the lamp `l`
+abbrev pub moveTo : HueCommand → OnOff → ℕ → Call
+moveTo h onOff clock = command (asCommand h) onOff clock
+
+abbrev pub startOf : HueCommand → Lamp → ℕ → Call
+startOf h l clock = start (taskOf h (l .color .hue)) clock
+
+-- the premises of the schedule, at a start on the lamp `now` of what the command gave on the lamp `l`
+pub record Premises (h : HueCommand) (l now : Lamp) (at : ℕ) (calls : List Call) : Type 0 where
+  -- "once a start of that task is accepted"
+  pub accepted : accepts now (startOf h l at) ≡ true
+  -- "at that start the hue is as the command found it"
+  pub hue : now .color .hue ≡ l .color .hue
+  -- "no other accepted start, halt or colour-loop command follows it"
+  pub undisturbed : quiet (next now (startOf h l at)) calls ≡ true
+
+-- a fade on the lamp `l`, started on the lamp `now`
+abbrev pub FadeFrom : HueCommand → Lamp → Lamp → ℕ → List Call → Type 0
+FadeFrom h l now at calls = Premises h l now at calls → KeptFade (answer now (startOf h l at)) (fed h l at) calls
+
 -- a move to a hue on the lamp `l`, and the calls that follow it
 pub record Kept (l : Lamp) (h : HueCommand) (onOff : OnOff) (clock : ℕ) (rest : List Call) : Type 0 where
   -- (a) it gives a task of its way and time
-  pub task : answer l (command (asCommand h) onOff clock) .task ≡ GivenTask.Given (taskOf h (l .color .hue))
-  -- "once a start of that task is accepted [..] at that start the hue is as the command found it, and no other accepted start,
-  -- halt or colour-loop command follows it"
-  pub fades : (between calls : List Call) (at : ℕ) → rest ≡ between ++ (start (taskOf h (l .color .hue)) at ∷ calls) → accepts (after (next l (command (asCommand h) onOff clock)) between) (start (taskOf h (l .color .hue)) at) ≡ true → after (next l (command (asCommand h) onOff clock)) between .color .hue ≡ l .color .hue → quiet (next (after (next l (command (asCommand h) onOff clock)) between) (start (taskOf h (l .color .hue)) at)) calls ≡ true → KeptFade (answer (after (next l (command (asCommand h) onOff clock)) between) (start (taskOf h (l .color .hue)) at)) (fed h l at) calls
+  pub task : answer l (moveTo h onOff clock) .task ≡ GivenTask.Given (taskOf h (l .color .hue))
+  -- every start of that task that follows, after the calls `between`
+  pub fades : (between calls : List Call) (at : ℕ) → rest ≡ between ++ (startOf h l at ∷ calls) → FadeFrom h l (after (next l (moveTo h onOff clock)) between) at calls
 
+-- every move to a hue in the list, on the lamp that the calls before it left, that is accepted with leave to run
+abbrev pub Everywhere : Lamp → List Call → Type 0
+Everywhere l calls = (before rest : List Call) (h : HueCommand) (onOff : OnOff) (clock : ℕ) → calls ≡ before ++ (moveTo h onOff clock ∷ rest) → accepts (after l before) (moveTo h onOff clock) ≡ true → allowed (after l before) (asCommand h) onOff ≡ true → Kept (after l before) h onOff clock rest
+
+-- the claim: from any lamp in form, for every list of calls
 abbrev pub Claim : Type 0
-Claim = (l : Lamp) (calls : List Call) → lampForm l ≡ true → TypedLamp l → TypedCalls calls → (before rest : List Call) (h : HueCommand) (onOff : OnOff) (clock : ℕ) → calls ≡ before ++ (command (asCommand h) onOff clock ∷ rest) → accepts (after l before) (command (asCommand h) onOff clock) ≡ true → allowed (after l before) (asCommand h) onOff ≡ true → Kept (after l before) h onOff clock rest
+Claim = (l : Lamp) (calls : List Call) → lampForm l ≡ true → TypedLamp l → TypedCalls calls → Everywhere l calls

@@ -1,7 +1,7 @@
 -- The cases marked K, K1 to K12, follow from the definitions, by computation.
 -- Assumes nothing.
 use mathlib.Core.Bool.{true}
-use mathlib.Core.List.{List, [], _∷_, map}
+use mathlib.Core.List.{map}
 use mathlib.Core.Path.{_≡_, refl}
 use Rattle.matter.specs.All.{all}
 use Rattle.matter.specs.Flags.{hasFlag}
