@@ -55,7 +55,7 @@ sameBool a b = (a && b) || (not a && not b)
 abbrev pub lamp : Lamp
 lamp = freshLamp (record { min = 153; max = 500 }) 31 0 5000
 
-abbrev given : Command → Answer
+abbrev pub given : Command → Answer
 given c = commandAnswer lamp c OnOff.On 5000
 
 abbrev startOf : GivenTask → Lamp → Answer
