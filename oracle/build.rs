@@ -2,7 +2,8 @@
 //! (which so reaches what is private in the source), and sees that the text that is
 //! compiled begins with the file, byte for byte.
 //!
-//! `ORACLE_SOURCE` may name another source file, relative to the repository's root.
+//! `ORACLE_SOURCE` may name another source file, and `ORACLE_GUARD` another guard, relative
+//! to the repository's root.
 
 use std::path::{Path, PathBuf};
 use std::{env, fs};
@@ -14,13 +15,16 @@ fn main() {
     let root = here.parent().unwrap().to_path_buf();
     let out = PathBuf::from(env::var("OUT_DIR").unwrap());
 
-    println!("cargo:rerun-if-env-changed=ORACLE_SOURCE");
     println!("cargo:rerun-if-changed=build.rs");
 
-    let source = match env::var("ORACLE_SOURCE") {
-        Ok(name) if !name.is_empty() => root.join(name),
-        _ => root.join(SOURCES).join("color_control.rs"),
+    let named = |variable: &str, file: PathBuf| {
+        println!("cargo:rerun-if-env-changed={variable}");
+        match env::var(variable) {
+            Ok(name) if !name.is_empty() => root.join(name),
+            _ => file,
+        }
     };
+    let source = named("ORACLE_SOURCE", root.join(SOURCES).join("color_control.rs"));
     let driver = here.join("src/driver.rs");
     let line = format!("#[path = {:?}] pub mod driver;\n", driver.to_str().unwrap());
     copy(&source, &out.join("color_control.rs"), &line);
@@ -31,6 +35,12 @@ fn main() {
         &out.join("deferred_persist.rs"),
         "",
     );
+
+    let guard = named("ORACLE_GUARD", here.join("src/guard.rs"));
+    copy(&guard, &out.join("guard.rs"), "");
+    let path = out.join("guard.rs");
+    let line = format!("#[path = {:?}] pub mod guard;\n", path.to_str().unwrap());
+    fs::write(out.join("guard_mod.rs"), line).unwrap();
 
     let mut app = String::new();
     for name in ["color_control", "deferred_persist"] {

@@ -36,10 +36,12 @@ pub mod recorder;
 mod stubs;
 pub use stubs::{dm, error, persist, tlv, utils};
 
-// The protocol.
+// The protocol, and the corners of a comparison.
+pub mod aimed;
+pub mod corners;
 pub mod data;
-pub mod guard;
 pub mod protocol;
 pub mod random;
+include!(concat!(env!("OUT_DIR"), "/guard_mod.rs"));
 
 pub use dm::clusters::app::color_control::driver;

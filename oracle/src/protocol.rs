@@ -36,7 +36,7 @@ struct Lamp {
     running: Option<(usize, Running)>,
 }
 
-enum Call {
+pub enum Call {
     Lamp(Fields),
     New(u16, u16, u32, u8, u64),
     Poke(Fields),
@@ -464,7 +464,7 @@ fn of_clamp(panic: &(dyn std::any::Any + Send)) -> bool {
 }
 
 /// What a start leaves in the lamp, for the form test alone: the Rust keeps it in its future.
-fn record_of(before: &Fields, task: Task, clock: u64) -> Record {
+pub fn record_of(before: &Fields, task: Task, clock: u64) -> Record {
     let task = match task {
         Task::CtTo { target, ms } => Task::CtTo {
             target: target.clamp(before.min, before.max),
@@ -907,7 +907,8 @@ impl<'a> Words<'a> {
     }
 }
 
-fn read(line: &[u8]) -> Option<Call> {
+/// A call, of a line that is not too long.
+pub fn read(line: &[u8]) -> Option<Call> {
     let mut words = Words::of(line)?;
     let call = words.call()?;
     (words.at == words.count).then_some(call)

@@ -18,7 +18,7 @@ use Rattle.matter.specs.declared.ColorLoopActionEnum.{ColorLoopActionEnum}
 use Rattle.matter.specs.Flags.{hasFlag, updateDirection, updateTime, updateStartHue}
 use Rattle.notices.specs.declared.Notices.{Notices}
 use Rattle.notices.specs.Notices.{only, noted, pushed, pushedAll}
-use Rattle.notices.specs.Laws.{only-one, pushed-append, pushed-all-noted}
+use Rattle.notices.specs.Laws.{only-one, pushed-append, pushed-behind, pushed-all-noted}
 use Rattle.color.specs.Setters.{hueSet, hueTold}
 use Rattle.color.specs.Kept.{hue-few}
 use Rattle.tasks.specs.declared.GivenTask.{GivenTask}
@@ -50,11 +50,6 @@ minus-back n h = toZ-ofZ w64 _ (minus-fits n h) ∙ minus-read n h
 
 -- ---- pushes
 
--- a push behind a list
-pub push-behind : (n : Notices) (xs : List ℕ) (x : ℕ) → pushed (pushedAll n xs) x ≡ pushedAll n (xs ++ (x ∷ []))
-unfolding pushedAll
-push-behind n xs x = pushed-append n xs (x ∷ [])
-
 -- the flags' notices
 pub flag-pushes : (n : Notices) (a b c : Bool) → pushed (pushedAll (pushedAll (pushedAll n (only a 9)) (only b 10)) (only c 11)) 13 ≡ pushedAll n (only a 9 ++ only b 10 ++ only c 11 ++ (13 ∷ []))
 unfolding pushedAll
@@ -70,7 +65,7 @@ flag-pushes n false false false = refl
 -- off: a task, the loop, the setter's notices, the device
 pub off-pushes : (n : Notices) (xs : List ℕ) → pushed (pushedAll (pushed (pushed n 17) 8) xs) 15 ≡ pushedAll n (17 ∷ 8 ∷ (xs ++ (15 ∷ [])))
 unfolding pushedAll
-off-pushes n xs = push-behind (pushed (pushed n 17) 8) xs 15
+off-pushes n xs = pushed-behind (pushed (pushed n 17) 8) xs 15
 
 -- on: the stored hue and the loop, the setter's notices, the device, a task
 pub on-pushes : (n : Notices) (active : Bool) (xs : List ℕ) → pushed (pushed (pushedAll (pushedAll (pushedAll n (only (not active) 12)) (only (not active) 8)) xs) 15) 17 ≡ pushedAll n (cond active [] (12 ∷ 8 ∷ []) ++ xs ++ (15 ∷ 17 ∷ []))

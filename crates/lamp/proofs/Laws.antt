@@ -15,7 +15,7 @@ use Rattle.integers.proofs.Sizes as sizes
 use Rattle.matter.specs.Laws.{and-left, and-right}
 use Rattle.notices.specs.declared.Notices.{Notices}
 use Rattle.notices.specs.Notices.{pushed, pushedAll}
-use Rattle.notices.specs.Laws.{pushed-append}
+use Rattle.notices.specs.Laws.{pushed-append, pushed-behind}
 use Rattle.tasks.specs.Form.{small, rateForm}
 
 -- ---- integers within ±65,535
@@ -35,18 +35,8 @@ rate-fits z h =
     sizes.small w32 z
     (omega (arith, small-size z (and-right (ltZ z (pos 0) || ltZ (pos 0) z) (leZ (negℤ (pos 65535)) z) both) (and-right ((ltZ z (pos 0) || ltZ (pos 0) z) && leZ (negℤ (pos 65535)) z) (leZ z (pos 65535)) h)))
 
--- ---- notices: one more is a list of one more
-
-pub then-one : (n : Notices) (xs : List ℕ) (x : ℕ) → pushed (pushedAll n xs) x ≡ pushedAll n (xs ++ (x ∷ []))
-unfolding pushedAll
-then-one n xs x = pushed-append n xs (x ∷ [])
+-- ---- notices
 
 -- two setters, the device, and what may follow
 pub two-setters : (n : Notices) (xs ys : List ℕ) (x : ℕ) (zs : List ℕ) → pushedAll (pushed (pushedAll (pushedAll n xs) ys) x) zs ≡ pushedAll n (xs ++ ys ++ (x ∷ []) ++ zs)
-two-setters n xs ys x zs = rw (pushed-append n xs ys, then-one n (xs ++ ys) x, pushed-append n (xs ++ ys ++ (x ∷ [])) zs)
-
--- ---- neither part of a disjunction that fails holds
-
-pub or-left : (a b : Bool) → (a || b) ≡ false → a ≡ false
-or-left true b e = e
-or-left false b e = refl
+two-setters n xs ys x zs = rw (pushed-append n xs ys, pushed-behind n (xs ++ ys) x, pushed-append n (xs ++ ys ++ (x ∷ [])) zs)

@@ -22,6 +22,11 @@ unfolding pushedAll
 pushed-append n [] ys = refl
 pushed-append n (x ∷ xs) ys = pushed-append (pushed n x) xs ys
 
+-- a push behind a list
+pub pushed-behind : (n : Notices) (xs : List ℕ) (x : ℕ) → pushed (pushedAll n xs) x ≡ pushedAll n (xs ++ (x ∷ []))
+unfolding pushedAll
+pushed-behind n xs x = pushed-append n xs (x ∷ [])
+
 -- the first free place is taken, and the rest stays 0
 filled-more : (xs : List ℕ) (x : ℕ) → length xs < 16 → set (filled xs) (length xs) x ≡ filled (xs ++ (x ∷ []))
 unfolding filled

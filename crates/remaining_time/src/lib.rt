@@ -34,13 +34,9 @@ fn is_told(prev: u16, new_ds: u16, is_start_of_transition: bool) -> bool
 }
 
 impl RemainingTime {
-    // Stores the time that remains, rounded up to tenths and wrapped at sixteen bits.
-    pub fn write_remaining_time_quietly(
-        self,
-        remaining_ms: u64,
-        is_start_of_transition: bool,
-    ) -> Written
-        ensures { λ r. ⌜ r ≡ writtenQuietly self «remaining_ms» «is_start_of_transition» ⌝ }
+    // The rule, by value: the time that remains, rounded up to tenths and wrapped at sixteen bits, and whether the change is told.
+    fn written_quietly(self, remaining_ms: u64, is_start_of_transition: bool) -> Written
+        ensures { λ w. ⌜ w ≡ writtenQuietly self «remaining_ms» «is_start_of_transition» ⌝ }
     {
         let new_ds = (tenths(remaining_ms) % 65536) as u16;
         let prev = self.tenths;
@@ -48,5 +44,28 @@ impl RemainingTime {
             told: is_told(prev, new_ds, is_start_of_transition),
             remaining: RemainingTime { tenths: new_ds },
         }
+    }
+
+    // The record is lent and changed in place, as in the source: the time that remains is stored, and whether it is told is answered.
+    pub fn write_quietly(&mut self, remaining_ms: u64, is_start_of_transition: bool) -> bool
+        ensures { λ r. ⌜ (now (self .exit) ≡ writtenQuietly (now (self .entry)) «remaining_ms» «is_start_of_transition» .remaining)
+            × (r ≡ writtenQuietly (now (self .entry)) «remaining_ms» «is_start_of_transition» .told) ⌝ }
+    {
+        let written = (*self).written_quietly(remaining_ms, is_start_of_transition);
+        *self = written.remaining;
+        written.told
+    }
+
+    // The record in and out by value: it is lent for the write. Starts and passes use this one.
+    pub fn write_remaining_time_quietly(
+        self,
+        remaining_ms: u64,
+        is_start_of_transition: bool,
+    ) -> Written
+        ensures { λ r. ⌜ r ≡ writtenQuietly self «remaining_ms» «is_start_of_transition» ⌝ }
+    {
+        let mut remaining = self;
+        let told = remaining.write_quietly(remaining_ms, is_start_of_transition);
+        Written { told, remaining }
     }
 }

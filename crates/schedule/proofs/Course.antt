@@ -9,7 +9,6 @@ use native.Mathlib.Omega.{arith}
 use lib.Dec.{leb, eqb}
 use lib.IntN.{natAbs}
 use borrow.Author.Tests.{leb-true, leb-false, le-leb, lt-leb, eqb-true, ne-eqb, not-true}
-use Rattle.matter.specs.Laws.{and-left, and-right}
 use Rattle.matter.specs.Limits.{clockLimit}
 use Rattle.hue.specs.Hue.{movedHue}
 use Rattle.hue.specs.Laws.{way-small}
@@ -19,7 +18,8 @@ use Rattle.lamp.specs.Typed.{Call, command, start, step, halt}
 use Rattle.commands.specs.Answers.{clockOf}
 use Rattle.schedule.specs.Calls.{isStep}
 use Rattle.schedule.specs.Schedule.{target, wayFrom, time, Fed, Shown, over, shownAt, takes, moved, followed}
-use Rattle.schedule.proofs.Tests.{either, never, or-left, or-right, positive, leb-same}
+use Rattle.matter.specs.Laws.{and-left, and-right, or-left, or-right}
+use Rattle.schedule.proofs.Tests.{either, never, positive, leb-same}
 use Rattle.schedule.proofs.Arithmetic.{gone, gone-part, gone-whole}
 
 -- the numbers that the schedule is fed are hues, and the time of a task in form

@@ -27,7 +27,8 @@ use Rattle.commands.specs.Answers.{answer, isLoopSet}
 use Rattle.commands.specs.Kept.{form-kept, bounds-kept, options-kept, quiet-command}
 use Rattle.schedule.specs.Calls.{next, accepts, idle, acceptedStep, interrupts}
 use Rattle.schedule.specs.Schedule.{taskOf, time, wayFrom, Fed, Shown, over, shownAt, own, takes, moved, followed}
-use Rattle.schedule.proofs.Tests.{either, never, or-left, positive}
+use Rattle.matter.specs.Laws.{or-left}
+use Rattle.schedule.proofs.Tests.{either, never, positive}
 use Rattle.schedule.proofs.Arithmetic.{no-way-is}
 use Rattle.schedule.proofs.Course.{Sane, Right, wholeOf, at-right, step-open, followed-right, done-is, begins-done}
 use Rattle.schedule.proofs.Pass.{Shows, Meets, runFrom, runOf, runningOf, pass-ends, pass-goes}

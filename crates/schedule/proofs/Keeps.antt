@@ -104,7 +104,7 @@ task-is l h onOff clock a e =
     (elim (either (h .enhanced)) [ inl z ↦ rw (z, rw z at e) | inr z ↦ rw (z, rw z at e) ])
 
 -- the target of a typed command is a hue
-target-small : (h : HueCommand) → TypedCommand (asCommand h) → target h < 65536
+pub target-small : (h : HueCommand) → TypedCommand (asCommand h) → target h < 65536
 target-small h t =
     elim (either (h .enhanced)) [
       | inl z ↦ rw z (let k = (rw z at t) .0 in omega arith)

@@ -6,7 +6,6 @@ use mathlib.Core.Logic.{inl, inr}
 use mathlib.Core.Path.{_≡_, refl, _∙_}
 use lib.Dec.{leb, eqb}
 use borrow.Author.Tests.{eqb-true}
-use Rattle.matter.specs.Laws.{and-left}
 use Rattle.progress.specs.Progress.{permilleOf}
 use Rattle.color.specs.declared.Color.{Color}
 use Rattle.color.specs.Setters.{same, hueSet}
@@ -17,7 +16,8 @@ use Rattle.tasks.specs.declared.Running.{Running}
 use Rattle.lamp.specs.declared.Lamp.{Lamp}
 use Rattle.lamp.specs.Passes.{Effect, hueSaturationPass}
 use Rattle.schedule.specs.Schedule.{target, wayFrom, time, Fed, Shown, over, shownAt}
-use Rattle.schedule.proofs.Tests.{either, or-left}
+use Rattle.matter.specs.Laws.{and-left, or-left}
+use Rattle.schedule.proofs.Tests.{either}
 use Rattle.schedule.proofs.Arithmetic.{whole-arrives, at-end, tenths-fit}
 use Rattle.schedule.proofs.Course.{Sane}
 

@@ -1,7 +1,7 @@
 -- Tests taken apart: by cases with the equation kept, a disjunction that does not hold, and two orders with one test.
 -- Assumes nothing.
 use Prim.Native.Nat.{ℕ, _≤_, _<_}
-use mathlib.Core.Bool.{Bool, true, false, not, _||_, true≢false}
+use mathlib.Core.Bool.{Bool, true, false, not, true≢false}
 use mathlib.Core.Logic.{_⊎_, inl, inr}
 use mathlib.Core.Path.{_≡_, refl, sym, _∙_}
 use native.Mathlib.Omega.{arith}
@@ -14,14 +14,6 @@ either false = inr refl
 
 pub never : {A : Type 0} {b : Bool} → b ≡ true → b ≡ false → A
 never t f = absurd (true≢false (sym t ∙ f))
-
-pub or-left : (a b : Bool) → (a || b) ≡ false → a ≡ false
-or-left true b e = e
-or-left false b e = refl
-
-pub or-right : (a b : Bool) → (a || b) ≡ false → b ≡ false
-or-right true b e = absurd (true≢false e)
-or-right false b e = e
 
 pub positive : (n : ℕ) → eqb n 0 ≡ false → 0 < n
 positive n e = omega (arith, eqb-false n 0 e)

@@ -2,3 +2,4 @@ pub mod Calls
 pub mod Schedule
 pub mod Claim
 pub mod Examples
+pub mod Laws

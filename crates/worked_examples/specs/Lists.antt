@@ -1,5 +1,5 @@
 -- Notice lists in their order, by computation: the three lines that document 01 gives for `fade`, and the lists that
--- docs/DECISIONS.md fixes (points 1 and 5).
+-- docs/DECISIONS.md fixes (points 1 and 5); and the numbers of the loop's snap.
 -- Assumes nothing.
 use Prim.Native.Nat.{ℕ}
 use mathlib.Core.Bool.{Bool, true, false}
@@ -17,7 +17,7 @@ use Rattle.matter.specs.Flags.{hasFlag}
 use Rattle.matter.specs.Rules.{defaultColorMode}
 use Rattle.notices.specs.Notices.{filled}
 use Rattle.hue.specs.Hue.{distance, pathDelta, movedHue}
-use Rattle.progress.specs.Progress.{permilleOf, clamp}
+use Rattle.progress.specs.Progress.{permilleOf, clamp, snapped}
 use Rattle.remaining_time.specs.RemainingTime.{told}
 use Rattle.color.specs.Setters.{hueSet, hueTold, saturationSet, saturationTold}
 use Rattle.color.specs.Form.{colorForm}
@@ -89,3 +89,9 @@ off = looped ColorLoopActionEnum.Deactivate (on .lamp)
 loop-told : map listed (on ∷ looped ColorLoopActionEnum.ActivateFromEnhancedCurrentHue (on .lamp) ∷ off ∷ looped ColorLoopActionEnum.Deactivate (off .lamp) ∷ []) ≡ ((9 ∷ 10 ∷ 11 ∷ 13 ∷ 12 ∷ 8 ∷ 2 ∷ 3 ∷ 6 ∷ 7 ∷ 14 ∷ 15 ∷ 17 ∷ []) ∷ (9 ∷ 10 ∷ 11 ∷ 13 ∷ 2 ∷ 3 ∷ 6 ∷ 7 ∷ 14 ∷ 15 ∷ 17 ∷ []) ∷ (9 ∷ 10 ∷ 11 ∷ 13 ∷ 17 ∷ 8 ∷ 13 ∷ 2 ∷ 3 ∷ 6 ∷ 7 ∷ 14 ∷ 15 ∷ []) ∷ (9 ∷ 10 ∷ 11 ∷ 13 ∷ []) ∷ [])
 unfolding hasFlag defaultColorMode all colorForm runningForm lampForm formOrClock clamp filled hueSet hueTold deactivated activated loopSet commandEffect commandCause commandAnswer
 loop-told = refl
+
+-- ---- the snap at its numbers: a turn's part of 65,152 and more goes up, one of 384 and less goes down, but in the first turn
+
+snap-at : map snapped (65151 ∷ 65152 ∷ 65920 ∷ 65921 ∷ 384 ∷ []) ≡ (65151 ∷ 65536 ∷ 65536 ∷ 65921 ∷ 384 ∷ [])
+unfolding snapped
+snap-at = refl

@@ -5,6 +5,8 @@ use std::collections::BTreeMap;
 use std::fs::File;
 use std::io::{BufRead, BufReader};
 
+use oracle_lib::corners::Corners;
+
 type Source = BufReader<File>;
 
 fn open(name: &str) -> Source {
@@ -69,6 +71,7 @@ fn main() {
     let (mut script, mut oracle, mut replay) = (open(script), open(oracle), open(replay));
     let (mut call, mut ours, mut theirs) = (Vec::new(), Vec::new(), Vec::new());
     let mut counts = Counts::default();
+    let mut corners = Corners::new();
     let (mut line_number, mut compared, mut whole) = (0u64, 0u64, false);
     // What led here: the calls since the last lamp.
     let mut story: Vec<(u64, Vec<u8>)> = Vec::new();
@@ -112,6 +115,7 @@ fn main() {
         }
         compared += 1;
         count(&mut counts, text, answer, &mut last, &mut runs);
+        corners.see(text, answer);
     }
     next(&mut oracle, &mut ours);
     next(&mut replay, &mut theirs);
@@ -137,8 +141,33 @@ fn main() {
         lengths.map(|(i, n)| (format!("{i} notices"), *n)),
     );
     table("tasks given", counts.given.into_iter());
+    let stepped = !counts.passes.is_empty();
     table("starts and steps", counts.passes.into_iter());
+    print_corners(&corners, stepped);
     println!("{compared} calls compared, 0 differences");
+}
+
+/// The corners that were met, group by group; of a script with steps those that were not, too.
+fn print_corners(corners: &Corners, all: bool) {
+    let mut last = "";
+    let mut missed = 0;
+    for (group, name, n) in corners.rows() {
+        if *n == 0 {
+            missed += 1;
+            if !all {
+                continue;
+            }
+        }
+        if *group != last {
+            println!("corners: {group}");
+            last = group;
+        }
+        println!("  {n:>12}  {name}");
+    }
+    if all {
+        let whole = corners.rows().len();
+        println!("{} of {whole} corners met", whole - missed);
+    }
 }
 
 fn count(counts: &mut Counts, text: &[u8], answer: &str, last: &mut String, runs: &mut String) {

@@ -6,6 +6,7 @@
 
 use std::io::{self, Write};
 
+use oracle_lib::aimed;
 use oracle_lib::data::*;
 use oracle_lib::driver::PAIRS;
 use oracle_lib::guard::{self, LIMIT};
@@ -17,7 +18,7 @@ use oracle_lib::recorder;
 
 fn main() {
     let args: Vec<String> = std::env::args().skip(1).collect();
-    let usage = "generate delta|leave|mode_of|remaining|set|all SEED COUNT [few]";
+    let usage = "generate delta|leave|mode_of|remaining|set|corners|random|all SEED COUNT [few]";
     let (Some(kind), Some(seed), Some(count)) = (
         args.first(),
         args.get(1).and_then(|x| x.parse().ok()),
@@ -46,7 +47,13 @@ fn main() {
         "mode_of" => mode_of(&mut out),
         "remaining" => remaining(&mut out, r, count),
         "set" => Maker::new(out, r).sets(count),
-        "all" => Maker::new(out, r).all(count),
+        "corners" => Maker::new(out, r).aimed(),
+        "random" => Maker::new(out, r).random(count),
+        "all" => {
+            let mut maker = Maker::new(out, r);
+            maker.aimed();
+            maker.random(count)
+        }
         _ => {
             eprintln!("{usage}");
             std::process::exit(2);
@@ -125,16 +132,21 @@ fn delta(out: &mut Out, mut r: Random, count: u64) {
         }
     }
     for _ in 0..count {
-        let current = hue(&mut r);
-        let target = match r.below(8) {
-            0 => current,
-            1 => current.wrapping_add(32768),
-            2 => current.wrapping_add(r.pick(&[32766, 32767, 32769, 32770])),
-            3 => current.wrapping_add(r.pick(&[1, 2, 65534, 65535])),
-            _ => hue(&mut r),
-        };
+        let (current, target) = pair_of_hues(&mut r);
         one(out, current, target, r.below(4));
     }
+}
+
+fn pair_of_hues(r: &mut Random) -> (u16, u16) {
+    let current = hue(r);
+    let target = match r.below(8) {
+        0 => current,
+        1 => current.wrapping_add(32768),
+        2 => current.wrapping_add(r.pick(&[32766, 32767, 32769, 32770])),
+        3 => current.wrapping_add(r.pick(&[1, 2, 65534, 65535])),
+        _ => hue(r),
+    };
+    (current, target)
 }
 
 fn leave(out: &mut Out, few: bool) {
@@ -209,33 +221,39 @@ fn remaining(out: &mut Out, mut r: Random, count: u64) {
         }
     }
     for _ in 0..count {
-        let old = match r.below(3) {
-            0 => r.pick(&REMAININGS),
-            1 => r.below(200) as u16,
-            _ => r.next() as u16,
-        };
-        let near = |r: &mut Random, tenths: i64| {
-            (tenths * 100 + r.pick(&[-99i64, -1, 0, 0, 1, 50])).max(0) as u64
-        };
-        let ms = match r.below(6) {
-            0 => {
-                let tenths = old as i64 + r.pick(&[-12i64, -11, -10, -9, -1, 0, 1, 9, 10, 11, 12]);
-                near(&mut r, tenths)
-            }
-            1 => {
-                let tenths = r.below(30) as i64;
-                near(&mut r, tenths)
-            }
-            2 => {
-                let tenths = 65536 * r.between(1, 4) as i64 + r.below(24) as i64 - 12;
-                near(&mut r, tenths)
-            }
-            3 => r.below(6_600_000),
-            _ => r.next() >> r.below(64),
-        };
+        let (old, ms) = old_and_ms(&mut r);
         let start = r.below(2);
         one(out, old, ms, start);
     }
+}
+
+/// A remaining time and milliseconds, often close to each other or to a rule's edge.
+fn old_and_ms(r: &mut Random) -> (u16, u64) {
+    let old = match r.below(3) {
+        0 => r.pick(&REMAININGS),
+        1 => r.below(200) as u16,
+        _ => r.next() as u16,
+    };
+    let near = |r: &mut Random, tenths: i64| {
+        (tenths * 100 + r.pick(&[-99i64, -1, 0, 0, 1, 50])).max(0) as u64
+    };
+    let ms = match r.below(6) {
+        0 => {
+            let tenths = old as i64 + r.pick(&[-12i64, -11, -10, -9, -1, 0, 1, 9, 10, 11, 12]);
+            near(r, tenths)
+        }
+        1 => {
+            let tenths = r.below(30) as i64;
+            near(r, tenths)
+        }
+        2 => {
+            let tenths = 65536 * r.between(1, 4) as i64 + r.below(24) as i64 - 12;
+            near(r, tenths)
+        }
+        3 => r.below(6_600_000),
+        _ => r.next() >> r.below(64),
+    };
+    (old, ms)
 }
 
 // ---- scripts with lamps ----
@@ -648,10 +666,11 @@ impl Maker {
     /// A record in form for this lamp.
     fn record(&mut self, f: &Fields) -> Record {
         let clock = f.clock
-            - match self.r.below(5) {
+            - match self.r.below(6) {
                 0 => 0,
                 1 => self.r.between(0, f.clock),
-                2 => f
+                2 => f.clock,
+                3 => f
                     .clock
                     .min(self.r.pick(&[1, 99, 100, 101, 999, 1000, 5000])),
                 _ => f.clock.min(self.r.below(8000)),
@@ -818,10 +837,11 @@ impl Maker {
             _ => self.r.below(32) as u32,
         };
         let mut clock = self.start_clock();
-        match self.r.below(8) {
+        match self.r.below(9) {
             0 => clock = self.past(LIMIT),
             1 => (min, max) = (max.max(1), max.max(1) - 1),
-            2 => {
+            2 => (min, max) = (65535, self.r.pick(&[0, 1, 500, 65533])),
+            3 => {
                 clock = self.past(LIMIT);
                 (min, max) = (65535, 0);
             }
@@ -1114,7 +1134,7 @@ impl Maker {
             11 if self.r.one_in(4) => return self.r.pick(&[LIMIT, LIMIT + 1, u64::MAX, LIMIT - 1]),
             12 if self.r.one_in(4) => now.saturating_add(self.r.next() >> self.r.between(24, 50)),
             _ => match self.player.record().copied() {
-                Some(record) => self.aimed(&f, &record),
+                Some(record) => self.aim(&f, &record),
                 None => now.saturating_add(self.r.below(200)),
             },
         };
@@ -1125,7 +1145,7 @@ impl Maker {
         aim
     }
 
-    fn aimed(&mut self, f: &Fields, record: &Record) -> u64 {
+    fn aim(&mut self, f: &Fields, record: &Record) -> u64 {
         let near = self.r.pick(&[-1i64, 0, 0, 1]);
         let elapsed = match record.task {
             Task::MoveTo { ms, .. } | Task::CtTo { ms, .. } => match self.r.below(3) {
@@ -1159,9 +1179,11 @@ impl Maker {
                 match self.r.below(4) {
                     0 => turn,
                     // 384 units before or after a whole turn, and their neighbours.
-                    1 => (turn + (total * self.r.pick(&[383, 384, 385])) / 65_536)
-                        .saturating_add(self.bit()),
-                    2 => turn.saturating_sub((total * self.r.pick(&[383, 384, 385])) / 65_536),
+                    1 => turn + (total * self.r.pick(&[383, 384, 385])).div_ceil(65_536),
+                    2 => {
+                        let part = self.r.pick(&[65_150, 65_151, 65_152, 65_153]);
+                        turn.saturating_sub(total) + (total * part).div_ceil(65_536)
+                    }
                     _ => turn + self.r.below(total),
                 }
             }
@@ -1301,9 +1323,10 @@ impl Maker {
                 say!(self, "cmd move_to_saturation {on} {sat} {tenths} {tail}")
             }
             10 => {
-                let hue8 = match self.r.below(5) {
+                let hue8 = match self.r.below(6) {
                     0 => (f.hue >> 8) as u8,
-                    1 => 255,
+                    1 => (f.hue >> 8) as u8 ^ 128,
+                    2 => 255,
                     _ => self.byte(),
                 };
                 let sat = match self.r.below(5) {
@@ -1370,6 +1393,14 @@ impl Maker {
             true => self.task(min, max),
             false => self.task(153, 500),
         };
+        if let Task::MoveTo { ms, .. } | Task::CtTo { ms, .. } = &mut task {
+            // About ten tenths from the remaining time.
+            if self.r.one_in(6) {
+                let old = self.player.fields().map_or(0, |f| f.remaining);
+                let near = old as i64 + self.r.pick(&[-12, -11, -10, -9, 0, 9, 10, 11, 12]);
+                *ms = 100 * near.clamp(0, 65535) as u32;
+            }
+        }
         if self.r.one_in(8) {
             task = self.broken_task(task);
         }
@@ -1386,10 +1417,41 @@ impl Maker {
         say!(self, "step {clock}")
     }
 
-    fn all(mut self, count: u64) {
-        say!(self, "step 5000");
-        say!(self, "startlast 5000");
-        say!(self, "cmd stop_move_step on 0 0 5000");
+    /// Each corner at least once.
+    fn aimed(&mut self) {
+        for line in aimed::lines() {
+            self.line = line;
+            let lines = self.out.lines;
+            self.emit();
+            let shown = self.line.escape_ascii();
+            assert!(self.out.lines > lines, "not comparable: {shown}");
+        }
+    }
+
+    fn say_show_or_leaf(&mut self) {
+        match self.r.below(5) {
+            0 => {
+                let (current, target) = pair_of_hues(&mut self.r);
+                let direction = self.r.below(4);
+                say!(self, "leaf delta {current} {target} {direction}");
+            }
+            1 => {
+                let (old, ms) = old_and_ms(&mut self.r);
+                let start = self.bit();
+                say!(self, "leaf remaining {old} {ms} {start}");
+            }
+            2 => {
+                let on = self.on_off();
+                let (options, mask, over) = (self.byte(), self.byte(), self.byte());
+                say!(self, "leaf leave {on} {options} {mask} {over}");
+            }
+            _ => {
+                say!(self, "show");
+            }
+        }
+    }
+
+    fn random(mut self, count: u64) {
         for &(min, max) in PAIRS {
             say!(self, "new {min} {max} 31 0 5000");
             for task in [
@@ -1454,9 +1516,7 @@ impl Maker {
                     37 | 38 => {
                         self.say_set();
                     }
-                    39 => {
-                        say!(self, "show");
-                    }
+                    39 => self.say_show_or_leaf(),
                     40 | 41 => {
                         if let Some(f) = f.filter(|f| guard::fields_in_form(f)) {
                             let record = self.record(&f);

@@ -7,6 +7,14 @@ use oracle_lib::protocol::Player;
 const FULL: usize = 1 << 16;
 
 fn main() -> io::Result<()> {
+    match answer() {
+        // The reader has gone.
+        Err(e) if e.kind() == io::ErrorKind::BrokenPipe => Ok(()),
+        result => result,
+    }
+}
+
+fn answer() -> io::Result<()> {
     let mut input = BufReader::with_capacity(1 << 16, io::stdin().lock());
     let mut output = io::stdout().lock();
     let mut player = Player::new();

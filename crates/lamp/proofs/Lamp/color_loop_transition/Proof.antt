@@ -4,7 +4,7 @@ use mir.Syntax.{w64}
 use mir.ValLaws.{toZ-ofZ}
 use borrow.Author.Needs.{sfits-of}
 use Rattle.lamp.specs.Passes.{loopPass}
-use Rattle.lamp.proofs.Laws.{then-one}
+use Rattle.notices.specs.Laws.{pushed-behind}
 use borrow.Author.Needs.{needs}
 use Rattle.lamp.proofs.Lamp.color_loop_transition.Statement.{statement}
 use Rattle.lamp.proofs.Lamp.color_loop_transition.Tie as tie
@@ -35,7 +35,7 @@ returns c =
     let k3 = k2 .before .before in
     let k4 = k3 .before in
     let k5 = k4 .before in
-    rw (c .wait-for-turn .ensures, k1 .push .ensures, k2 .set-hue .ensures, k3 .moved-hue .ensures, toZ-ofZ w64 (k4 .loop-way .result) (sfits-of (k4 .loop-way .ok)), k4 .loop-way .ensures, k5 .elapsed .ensures, then-one)
+    rw (c .wait-for-turn .ensures, k1 .push .ensures, k2 .set-hue .ensures, k3 .moved-hue .ensures, toZ-ofZ w64 (k4 .loop-way .result) (sfits-of (k4 .loop-way .ok)), k4 .loop-way .ensures, k5 .elapsed .ensures, pushed-behind)
 
 pub color-loop-transition-spec : {M : Type 1} → statement M
 color-loop-transition-spec =

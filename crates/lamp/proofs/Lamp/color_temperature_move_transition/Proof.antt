@@ -7,7 +7,8 @@ use mir.Val.{toZ, ofZ}
 use mir.ValLaws.{toZ-ofZ}
 use borrow.Author.Needs.{sfits-of}
 use Rattle.lamp.specs.Passes.{temperaturePass}
-use Rattle.lamp.proofs.Laws.{rate-fits, then-one}
+use Rattle.lamp.proofs.Laws.{rate-fits}
+use Rattle.notices.specs.Laws.{pushed-behind}
 use borrow.Author.Needs.{needs}
 use Rattle.lamp.proofs.Lamp.color_temperature_move_transition.Statement.{statement}
 use Rattle.lamp.proofs.Lamp.color_temperature_move_transition.Tie as tie
@@ -53,7 +54,7 @@ returns c =
     let k6 = k5 .before in
     let k7 = k6 .before in
     let k8 = k7 .before in
-    rw (c .wait-unless .ensures, k1 .push .ensures, k2 .running-unless .ensures, k3 .set-color-temperature .ensures, k4 .mireds-done .ensures, k5 .brought-within .ensures, toZ-ofZ w64 (k6 .way-at-rate .result) (sfits-of (k6 .way-at-rate .ok)), k6 .way-at-rate .ensures, k7 .elapsed .ensures, read k8, toZ-ofZ w32 _ (rate-fits (k8 .before .before .args .run .rate) (k8 .before .before .pre)), then-one)
+    rw (c .wait-unless .ensures, k1 .push .ensures, k2 .running-unless .ensures, k3 .set-color-temperature .ensures, k4 .mireds-done .ensures, k5 .brought-within .ensures, toZ-ofZ w64 (k6 .way-at-rate .result) (sfits-of (k6 .way-at-rate .ok)), k6 .way-at-rate .ensures, k7 .elapsed .ensures, read k8, toZ-ofZ w32 _ (rate-fits (k8 .before .before .args .run .rate) (k8 .before .before .pre)), pushed-behind)
 
 pub color-temperature-move-transition-spec : {M : Type 1} → statement M
 color-temperature-move-transition-spec =

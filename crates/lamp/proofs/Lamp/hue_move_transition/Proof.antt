@@ -8,7 +8,7 @@ use mir.Syntax.{w32, w64}
 use mir.ValLaws.{toZ-ofZ}
 use borrow.Author.Needs.{sfits-of}
 use Rattle.lamp.specs.Passes.{huePass}
-use Rattle.lamp.proofs.Laws.{then-one}
+use Rattle.notices.specs.Laws.{pushed-behind}
 use borrow.Author.Needs.{needs}
 use Rattle.lamp.proofs.Lamp.hue_move_transition.Statement.{statement}
 use Rattle.lamp.proofs.Lamp.hue_move_transition.Tie as tie
@@ -43,7 +43,7 @@ returns c =
     let k3 = k2 .before in
     let k4 = k3 .before in
     let k5 = k4 .before in
-    rw (c .push .ensures, k1 .set-hue .ensures, k2 .moved-hue .ensures, toZ-ofZ w64 (k3 .way-at-rate .result) (sfits-of (k3 .way-at-rate .ok)), k3 .way-at-rate .ensures, k4 .elapsed .ensures, toZ-ofZ w32 (k5 .signed-rate .result) (sfits-of (k5 .signed-rate .ok)), k5 .signed-rate .ensures, then-one)
+    rw (c .push .ensures, k1 .set-hue .ensures, k2 .moved-hue .ensures, toZ-ofZ w64 (k3 .way-at-rate .result) (sfits-of (k3 .way-at-rate .ok)), k3 .way-at-rate .ensures, k4 .elapsed .ensures, toZ-ofZ w32 (k5 .signed-rate .result) (sfits-of (k5 .signed-rate .ok)), k5 .signed-rate .ensures, pushed-behind)
 
 pub hue-move-transition-spec : {M : Type 1} → statement M
 hue-move-transition-spec =

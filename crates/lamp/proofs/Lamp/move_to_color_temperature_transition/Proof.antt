@@ -1,8 +1,7 @@
 -- `Lamp::move_to_color_temperature_transition`: each call's contract is its part of the definition.
 -- Assumes nothing.
-use Rattle.notices.specs.Laws.{pushed-append}
 use Rattle.lamp.specs.Passes.{temperatureToPass}
-use Rattle.lamp.proofs.Laws.{then-one}
+use Rattle.notices.specs.Laws.{pushed-append, pushed-behind}
 use borrow.Author.Needs.{needs}
 use Rattle.lamp.proofs.Lamp.move_to_color_temperature_transition.Statement.{statement}
 use Rattle.lamp.proofs.Lamp.move_to_color_temperature_transition.Tie as tie
@@ -49,7 +48,7 @@ returns c =
     let k7 = k6 .before .before in
     let k8 = k7 .before in
     let k9 = k8 .before .before in
-    rw (c .wait-unless .ensures, k1 .wait-for-end .ensures, k2 .push-if .ensures, k3 .push .ensures, k4 .running-unless .ensures, k5 .write-remaining-time-quietly .ensures, k6 .left-unless .ensures, k7 .elapsed .ensures, k8 .set-color-temperature .ensures, k9 .mireds-now .ensures, then-one, pushed-append)
+    rw (c .wait-unless .ensures, k1 .wait-for-end .ensures, k2 .push-if .ensures, k3 .push .ensures, k4 .running-unless .ensures, k5 .write-remaining-time-quietly .ensures, k6 .left-unless .ensures, k7 .elapsed .ensures, k8 .set-color-temperature .ensures, k9 .mireds-now .ensures, pushed-behind, pushed-append)
 
 pub move-to-color-temperature-transition-spec : {M : Type 1} → statement M
 move-to-color-temperature-transition-spec =

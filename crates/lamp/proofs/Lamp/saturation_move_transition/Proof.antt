@@ -8,7 +8,7 @@ use mir.Syntax.{w32, w64}
 use mir.ValLaws.{toZ-ofZ}
 use borrow.Author.Needs.{sfits-of}
 use Rattle.lamp.specs.Passes.{saturationPass}
-use Rattle.lamp.proofs.Laws.{then-one}
+use Rattle.notices.specs.Laws.{pushed-behind}
 use borrow.Author.Needs.{needs}
 use Rattle.lamp.proofs.Lamp.saturation_move_transition.Statement.{statement}
 use Rattle.lamp.proofs.Lamp.saturation_move_transition.Tie as tie
@@ -55,7 +55,7 @@ returns c =
     let k6 = k5 .before in
     let k7 = k6 .before in
     let k8 = k7 .before in
-    rw (c .wait-unless .ensures, k1 .push .ensures, k2 .running-unless .ensures, k3 .set-saturation .ensures, k4 .saturation-done .ensures, k5 .moved-saturation .ensures, toZ-ofZ w64 (k6 .way-at-rate .result) (sfits-of (k6 .way-at-rate .ok)), k6 .way-at-rate .ensures, k7 .elapsed .ensures, toZ-ofZ w32 (k8 .signed-rate .result) (sfits-of (k8 .signed-rate .ok)), k8 .signed-rate .ensures, then-one)
+    rw (c .wait-unless .ensures, k1 .push .ensures, k2 .running-unless .ensures, k3 .set-saturation .ensures, k4 .saturation-done .ensures, k5 .moved-saturation .ensures, toZ-ofZ w64 (k6 .way-at-rate .result) (sfits-of (k6 .way-at-rate .ok)), k6 .way-at-rate .ensures, k7 .elapsed .ensures, toZ-ofZ w32 (k8 .signed-rate .result) (sfits-of (k8 .signed-rate .ok)), k8 .signed-rate .ensures, pushed-behind)
 
 pub saturation-move-transition-spec : {M : Type 1} → statement M
 saturation-move-transition-spec =

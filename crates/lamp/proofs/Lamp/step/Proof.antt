@@ -4,13 +4,12 @@
 use native.Mathlib.Omega.{arith}
 use mathlib.Core.List.{[]}
 use borrow.Author.Tests.{ltb-false, not-true, not-false}
-use Rattle.matter.specs.Laws.{each}
 use Rattle.notices.specs.Laws.{pushed-all-noted}
 use Rattle.lamp.specs.Answers.{atClock}
 use Rattle.lamp.specs.Form.{lampForm}
 use Rattle.lamp.specs.Calls.{stepped, stepAnswer}
 use Rattle.lamp.specs.Kept.{running-later, stepped-few}
-use Rattle.lamp.proofs.Laws.{or-left}
+use Rattle.matter.specs.Laws.{each, or-left}
 use borrow.Author.Needs.{needs}
 use Rattle.lamp.proofs.Lamp.step.Statement.{statement}
 use Rattle.lamp.proofs.Lamp.step.Tie as tie

@@ -1,0 +1,53 @@
+-- The test asked of some fades, by computation.
+-- Assumes nothing.
+use Prim.Native.Nat.{ℕ}
+use mathlib.Core.Bool.{Bool, true, false}
+use mathlib.Core.List.{List, [], _∷_, map}
+use mathlib.Core.Path.{_≡_, refl}
+use Rattle.matter.specs.declared.DirectionEnum.{DirectionEnum}
+use Rattle.hue.specs.Hue.{distance, pathDelta}
+use Rattle.arc.specs.declared.Band.{Band}
+use Rattle.arc.specs.Arc.{inBand, meet, passesThrough, shownBand}
+
+-- green: the shown hues 64 to 106, stored 16,384 to 27,391
+abbrev pub green : Band
+green = shownBand 64 106
+
+-- red: the shown hues 240 to 255 and 0 to 15
+abbrev pub red : Band
+red = shownBand 240 15
+
+-- a band has its ends, and may go past 0
+pub in-green : map (inBand green) (16383 ∷ 16384 ∷ 27391 ∷ 27392 ∷ []) ≡ false ∷ true ∷ true ∷ false ∷ []
+unfolding inBand
+in-green = refl
+
+pub in-red : map (inBand red) (61439 ∷ 61440 ∷ 65535 ∷ 0 ∷ 4095 ∷ 4096 ∷ []) ≡ false ∷ true ∷ true ∷ true ∷ true ∷ false ∷ []
+unfolding inBand
+in-red = refl
+
+-- the answers for Shortest, Longest, Up and Down
+abbrev pub asked : ℕ → ℕ → Band → List Bool
+asked found target b =
+    map (λ (d : DirectionEnum). passesThrough found target d b)
+    (DirectionEnum.Shortest ∷ DirectionEnum.Longest ∷ DirectionEnum.Up ∷ DirectionEnum.Down ∷ [])
+
+-- from red to cyan, half way round: up, and with Shortest, through green; down, and with Longest, not
+pub red-to-cyan : asked 0 32768 green ≡ true ∷ false ∷ true ∷ false ∷ []
+unfolding passesThrough meet pathDelta distance
+red-to-cyan = refl
+
+-- from blue to orange, the band of red past 0: up through red, down through green
+pub blue-to-orange : (asked 43520 5376 red ≡ true ∷ false ∷ true ∷ false ∷ []) × (asked 43520 5376 green ≡ false ∷ true ∷ false ∷ true ∷ [])
+unfolding passesThrough meet pathDelta distance
+blue-to-orange = (refl, refl)
+
+-- the ends are in the band: a target that is one, and one short of it
+pub ends : (asked 0 16384 green ≡ true ∷ true ∷ true ∷ true ∷ []) × (asked 0 16383 green ≡ false ∷ true ∷ false ∷ true ∷ []) × (asked 32768 27391 green ≡ true ∷ true ∷ true ∷ true ∷ []) × (asked 32768 27392 green ≡ false ∷ true ∷ true ∷ false ∷ [])
+unfolding passesThrough meet pathDelta distance
+ends = (refl, refl, refl, refl)
+
+-- no way: the hue found alone
+pub no-way : (asked 20000 20000 green ≡ true ∷ true ∷ true ∷ true ∷ []) × (asked 0 0 green ≡ false ∷ false ∷ false ∷ false ∷ [])
+unfolding passesThrough meet pathDelta distance
+no-way = (refl, refl)

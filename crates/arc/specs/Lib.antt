@@ -1,0 +1,3 @@
+pub mod Arc
+pub mod Laws
+pub mod Examples

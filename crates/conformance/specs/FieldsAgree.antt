@@ -1,0 +1,168 @@
+-- The port refuses with ConstraintError exactly the commands whose fields are out of the text's constraints, where times and
+-- mireds are within the text's; and with InvalidCommand exactly the text's invalid ones, for every command.
+-- Assumes nothing.
+use Prim.Native.Nat.{ℕ, zero, suc, _≤_}
+use mathlib.Core.Bool.{Bool, true, false, not, cond, _&&_, _||_}
+use mathlib.Core.Path.{_≡_, refl, sym, ap, _∙_}
+use native.Mathlib.Omega.{arith}
+use lib.Dec.{leb, ltb, eqb}
+use borrow.Author.Tests.{leb-true, leb-false, le-leb, lt-ltb, le-ltb, eqb-true, ne-eqb}
+use Rattle.matter.specs.declared.Command.{Command}
+use Rattle.matter.specs.declared.CommandOptions.{CommandOptions}
+use Rattle.matter.specs.declared.DirectionEnum.{DirectionEnum}
+use Rattle.matter.specs.declared.MoveModeEnum.{MoveModeEnum}
+use Rattle.matter.specs.declared.StepModeEnum.{StepModeEnum}
+use Rattle.matter.specs.declared.OnOff.{OnOff}
+use Rattle.lamp.specs.declared.Lamp.{Lamp}
+use Rattle.commands.specs.Commands.{isStop, stopMode, numberCause, crossed}
+use Rattle.commands.specs.Answers.{allowed, afterClock}
+use Rattle.conformance.specs.Fields.{fieldsGood, invalidMove, invalid}
+
+-- ---- the fields that the port does not look at are within the text's constraints
+
+-- the numbers fit their widths, times end at 65,534 (of a plain step at 255), and mireds at 65,279
+abbrev pub Roomy : Command → Type 0
+Roomy (Command.MoveToHue hue direction time options) = time ≤ 65534
+Roomy (Command.MoveHue mode rate enhanced options) = rate ≤ 255
+Roomy (Command.StepHue mode size time options) = (size ≤ 255) × (time ≤ 255)
+Roomy (Command.MoveToSaturation saturation time options) = time ≤ 65534
+Roomy (Command.MoveSaturation mode rate options) = rate ≤ 255
+Roomy (Command.StepSaturation mode size time options) = (size ≤ 255) × (time ≤ 255)
+Roomy (Command.MoveToHueAndSaturation hue saturation time enhanced enhancedHue options) = (time ≤ 65534) × (enhancedHue ≤ 65535)
+Roomy (Command.EnhancedMoveToHue hue direction time options) = (hue ≤ 65535) × (time ≤ 65534)
+Roomy (Command.EnhancedMoveHue mode rate options) = rate ≤ 65535
+Roomy (Command.EnhancedStepHue mode size time options) = (size ≤ 65535) × (time ≤ 65534)
+Roomy (Command.MoveToColorTemperature mireds time options) = (mireds ≤ 65279) × (time ≤ 65534)
+Roomy (Command.MoveColorTemperature mode rate min max options) = (rate ≤ 65535) × (min ≤ 65279) × (max ≤ 65279)
+Roomy (Command.StepColorTemperature mode size time min max options) = (size ≤ 65535) × (time ≤ 65534) × (min ≤ 65279) × (max ≤ 65279)
+Roomy (Command.ColorLoopSet flags action direction time startHue options) = (flags ≤ 255) × (time ≤ 65535) × (startHue ≤ 65535)
+Roomy (Command.StopMoveStep options) = Unit
+
+within : (most n : ℕ) → n ≤ most → (leb 0 n && leb n most) ≡ true
+within most n h = rw (le-leb 0 n (omega arith), le-leb n most h)
+
+-- above 254, or not
+above : (n : ℕ) → (leb 0 n && leb n 254) ≡ not (ltb 254 n)
+above n = by (leb n 254) refl
+  where
+    by : (t : Bool) → leb n 254 ≡ t → (leb 0 n && leb n 254) ≡ not (ltb 254 n)
+    by true t = rw (le-leb 0 n (omega arith), t, le-ltb 254 n (leb-true n 254 t))
+    by false t = rw (le-leb 0 n (omega arith), t, lt-ltb 254 n (leb-false n 254 t))
+
+-- at least 1, or 0
+some : (n : ℕ) → n ≤ 65279 → (leb 1 n && leb n 65279) ≡ not (eqb n 0)
+some zero h = refl
+some (suc n) h = rw (le-leb 1 (suc n) (omega arith), le-leb (suc n) 65279 h, ne-eqb (suc n) 0 (λ e. omega arith))
+
+-- one field that is looked at, and two
+refused-by : (b : Bool) → eqb (cond b 1 0) 1 ≡ not (not b && true)
+refused-by true = refl
+refused-by false = refl
+
+refused-by-either : (a b : Bool) → eqb (cond (a || b) 1 0) 1 ≡ not (not a && (not b && true))
+refused-by-either true b = refl
+refused-by-either false true = refl
+refused-by-either false false = refl
+
+never-by : (b : Bool) → eqb (cond b 2 0) 1 ≡ false
+never-by true = refl
+never-by false = refl
+
+-- where the rest of the fields are good, ConstraintError is the port's answer exactly where a field is not
+pub fields-agree : (c : Command) → Roomy c → eqb (numberCause c) 1 ≡ not (fieldsGood c)
+unfolding fieldsGood
+fields-agree (Command.MoveToHue hue direction time options) r =
+    rw (above hue, within 65534 time r) (refused-by (ltb 254 hue))
+fields-agree (Command.MoveHue mode rate enhanced options) r = rw (within 255 rate r) (never-by (eqb rate 0))
+fields-agree (Command.StepHue mode size time options) r = rw (within 255 size (r .0), within 255 time (r .1)) (never-by (eqb size 0))
+fields-agree (Command.MoveToSaturation saturation time options) r =
+    rw (above saturation, within 65534 time r) (refused-by (ltb 254 saturation))
+fields-agree (Command.MoveSaturation mode rate options) r = rw (within 255 rate r) (never-by (eqb rate 0))
+fields-agree (Command.StepSaturation mode size time options) r = rw (within 255 size (r .0), within 255 time (r .1)) (never-by (eqb size 0))
+fields-agree (Command.MoveToHueAndSaturation hue saturation time true enhancedHue options) r =
+    rw (within 65535 enhancedHue (r .1), above saturation, within 65534 time (r .0)) (refused-by (ltb 254 saturation))
+fields-agree (Command.MoveToHueAndSaturation hue saturation time false enhancedHue options) r =
+    rw (above hue, above saturation, within 65534 time (r .0)) (refused-by-either (ltb 254 hue) (ltb 254 saturation))
+fields-agree (Command.EnhancedMoveToHue hue direction time options) r = rw (within 65535 hue (r .0), within 65534 time (r .1))
+fields-agree (Command.EnhancedMoveHue mode rate options) r = rw (within 65535 rate r) (never-by (eqb rate 0))
+fields-agree (Command.EnhancedStepHue mode size time options) r = rw (within 65535 size (r .0), within 65534 time (r .1)) (never-by (eqb size 0))
+fields-agree (Command.MoveToColorTemperature mireds time options) r =
+    rw (some mireds (r .0), within 65534 time (r .1)) (refused-by (eqb mireds 0))
+fields-agree (Command.MoveColorTemperature mode rate min max options) r =
+    rw (within 65535 rate (r .0), within 65279 min (r .1), within 65279 max (r .2)) (never-by (eqb rate 0))
+fields-agree (Command.StepColorTemperature mode size time min max options) r =
+    rw (within 65535 size (r .0), within 65534 time (r .1), within 65279 min (r .2), within 65279 max (r .3)) (never-by (eqb size 0))
+fields-agree (Command.ColorLoopSet flags action direction time startHue options) r =
+    rw (within 255 flags (r .0), within 65535 time (r .1), within 65535 startHue (r .2))
+fields-agree (Command.StopMoveStep options) r = refl
+
+-- the smallest commands that differ: the text refuses them, the port takes them
+abbrev no-options : CommandOptions
+no-options = record { mask = 0; over = 0 }
+
+pub time-differs : (fieldsGood (Command.MoveToHue 0 DirectionEnum.Shortest 65535 no-options) ≡ false) × (numberCause (Command.MoveToHue 0 DirectionEnum.Shortest 65535 no-options) ≡ 0)
+unfolding fieldsGood
+time-differs = (refl, refl)
+
+pub mireds-differ : (fieldsGood (Command.MoveToColorTemperature 65280 0 no-options) ≡ false) × (numberCause (Command.MoveToColorTemperature 65280 0 no-options) ≡ 0)
+unfolding fieldsGood
+mireds-differ = (refl, refl)
+
+pub limits-differ : (fieldsGood (Command.MoveColorTemperature MoveModeEnum.Up 1 65280 0 no-options) ≡ false) × (numberCause (Command.MoveColorTemperature MoveModeEnum.Up 1 65280 0 no-options) ≡ 0)
+unfolding fieldsGood
+limits-differ = (refl, refl)
+
+pub step-time-differs : (fieldsGood (Command.StepHue StepModeEnum.Up 1 256 no-options) ≡ false) × (numberCause (Command.StepHue StepModeEnum.Up 1 256 no-options) ≡ 0)
+unfolding fieldsGood
+step-time-differs = (refl, refl)
+
+-- ---- INVALID_COMMAND
+
+-- the port's cause past form and clock is 2 where that of its numbers is: crossed limits are 3, which is not 2
+limits-by : (n : ℕ) (t a b : Bool) → eqb n 0 ≡ t → eqb (cond t (cond (a && b) 3 0) n) 2 ≡ eqb n 2
+limits-by n true true true e = ap (λ (m : ℕ). eqb m 2) (sym (eqb-true n 0 e))
+limits-by n true true false e = ap (λ (m : ℕ). eqb m 2) (sym (eqb-true n 0 e))
+limits-by n true false b e = ap (λ (m : ℕ). eqb m 2) (sym (eqb-true n 0 e))
+limits-by n false a b e = refl
+
+zero-by : (b : Bool) → eqb (cond b 2 0) 2 ≡ b
+zero-by true = refl
+zero-by false = refl
+
+one-by : (b : Bool) → eqb (cond b 1 0) 2 ≡ false
+one-by true = refl
+one-by false = refl
+
+module _ (l : Lamp) (onOff : OnOff) where
+  looked : (c : Command) → eqb (afterClock l c onOff) 2 ≡ cond (stopMode c) false (eqb (numberCause c) 2)
+  looked c = by (stopMode c)
+    where
+      by : (s : Bool) → eqb (cond s 0 (cond (eqb (numberCause c) 0) (cond (allowed l c onOff && crossed (l .bounds) c) 3 0) (numberCause c))) 2 ≡ cond s false (eqb (numberCause c) 2)
+      by true = refl
+      by false = limits-by (numberCause c) (eqb (numberCause c) 0) (allowed l c onOff) (crossed (l .bounds) c) refl
+
+  move-by : (mode : MoveModeEnum) (rate : ℕ) → cond (isStop mode) false (eqb (cond (eqb rate 0) 2 0) 2) ≡ invalidMove mode rate
+  move-by MoveModeEnum.Stop rate = refl
+  move-by MoveModeEnum.Up rate = zero-by (eqb rate 0)
+  move-by MoveModeEnum.Down rate = zero-by (eqb rate 0)
+
+  -- past form and clock, InvalidCommand is the port's answer exactly where the text's is
+  pub invalid-agree : (c : Command) → eqb (afterClock l c onOff) 2 ≡ invalid c
+  unfolding invalid
+  invalid-agree (Command.MoveToHue hue direction time options) = looked (Command.MoveToHue hue direction time options) ∙ one-by (ltb 254 hue)
+  invalid-agree (Command.MoveHue mode rate enhanced options) = looked (Command.MoveHue mode rate enhanced options) ∙ move-by mode rate
+  invalid-agree (Command.StepHue mode size time options) = looked (Command.StepHue mode size time options) ∙ zero-by (eqb size 0)
+  invalid-agree (Command.MoveToSaturation saturation time options) = looked (Command.MoveToSaturation saturation time options) ∙ one-by (ltb 254 saturation)
+  invalid-agree (Command.MoveSaturation mode rate options) = looked (Command.MoveSaturation mode rate options) ∙ move-by mode rate
+  invalid-agree (Command.StepSaturation mode size time options) = looked (Command.StepSaturation mode size time options) ∙ zero-by (eqb size 0)
+  invalid-agree (Command.MoveToHueAndSaturation hue saturation time enhanced enhancedHue options) =
+      looked (Command.MoveToHueAndSaturation hue saturation time enhanced enhancedHue options) ∙ one-by ((not enhanced && ltb 254 hue) || ltb 254 saturation)
+  invalid-agree (Command.EnhancedMoveToHue hue direction time options) = looked (Command.EnhancedMoveToHue hue direction time options)
+  invalid-agree (Command.EnhancedMoveHue mode rate options) = looked (Command.EnhancedMoveHue mode rate options) ∙ move-by mode rate
+  invalid-agree (Command.EnhancedStepHue mode size time options) = looked (Command.EnhancedStepHue mode size time options) ∙ zero-by (eqb size 0)
+  invalid-agree (Command.MoveToColorTemperature mireds time options) = looked (Command.MoveToColorTemperature mireds time options) ∙ one-by (eqb mireds 0)
+  invalid-agree (Command.MoveColorTemperature mode rate min max options) = looked (Command.MoveColorTemperature mode rate min max options) ∙ move-by mode rate
+  invalid-agree (Command.StepColorTemperature mode size time min max options) =
+      looked (Command.StepColorTemperature mode size time min max options) ∙ zero-by (eqb size 0)
+  invalid-agree (Command.ColorLoopSet flags action direction time startHue options) = looked (Command.ColorLoopSet flags action direction time startHue options)
+  invalid-agree (Command.StopMoveStep options) = looked (Command.StopMoveStep options)

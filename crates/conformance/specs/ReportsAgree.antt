@@ -1,0 +1,229 @@
+-- The remaining time is told exactly where the text has it reportable, for all numbers; a colour attribute is told of a change
+-- exactly where the text allows it. Where the port tells more, or less.
+-- Assumes nothing.
+use Prim.Native.Nat.{ℕ, _+_, _<_}
+use mathlib.Core.Bool.{Bool, true, false, not, cond, _&&_, true≢false, _||_, or-true, and-false}
+use mathlib.Core.List.{[], _∷_}
+use mathlib.Core.Path.{_≡_, refl, sym, ap, _∙_}
+use native.Mathlib.Omega.{arith}
+use lib.Dec.{ltb, eqb}
+use borrow.Author.Tests.{leb-true, le-leb, lt-leb, ltb-true, ltb-false, lt-ltb, le-ltb, eqb-true, eqb-false, ne-eqb, not-true}
+use Rattle.matter.specs.declared.ColorModeEnum.{ColorModeEnum}
+use Rattle.matter.specs.Laws.{and-left, and-right}
+use Rattle.notices.specs.Notices.{only}
+use Rattle.notices.specs.Names.{CurrentHue, EnhancedCurrentHue, CurrentSaturation, ColorTemperatureMireds, ColorMode}
+use Rattle.color.specs.declared.Color.{Color}
+use Rattle.color.specs.Setters.{due, same, changeNotices, hueSet, hueTold, saturationSet, saturationTold, miredsSet, miredsTold}
+use Rattle.progress.specs.Progress.{tenthsOf}
+use Rattle.remaining_time.specs.RemainingTime.{apart, told}
+use Rattle.conformance.specs.Reports.{RemainingTimeIs, Reportable, fromZero, risen, fallen, toZero, hushed, MayReport, onceASecond, atTheEnd, tells}
+
+-- ---- RemainingTime
+
+pub remaining-agrees : (ms : ℕ) → RemainingTimeIs ms (tenthsOf ms)
+remaining-agrees ms = record { enough = omega arith; fewest = λ n h. omega arith }
+
+third : (a b : Bool) {c : Bool} → c ≡ true → (a || b || c) ≡ true
+third true b e = refl
+third false true e = refl
+third false false e = e
+
+-- what is reportable is told
+pub reportable-told : {old new : ℕ} {start : Bool} → Reportable old new start → told old new start ≡ true
+unfolding told
+reportable-told (fromZero new start h) = rw (ne-eqb new 0 (λ e. omega arith), lt-ltb 10 new h)
+reportable-told (risen old new h) = third (eqb new 0 && not (eqb old 0)) (eqb old 0 && ltb 10 new) (rw (lt-ltb 10 (apart new old) (omega arith)))
+reportable-told (fallen old new h) = third (eqb new 0 && not (eqb old 0)) (eqb old 0 && ltb 10 new) (rw (lt-ltb 10 (apart new old) (omega arith)))
+reportable-told (toZero old start h) = rw (ne-eqb old 0 (λ e. omega arith))
+
+-- what is told is reportable
+module _ (old new : ℕ) where
+  changed-by : (t : Bool) → ltb old new ≡ t → 10 < apart new old → Reportable old new true
+  changed-by true e h = risen old new (omega (arith, ltb-true old new e))
+  changed-by false e h = fallen old new (omega (arith, ltb-false old new e))
+
+  to-zero : eqb new 0 ≡ true → eqb old 0 ≡ false → (start : Bool) → Reportable old new start
+  to-zero a b start = rw (eqb-true new 0 a) (toZero old start (omega (arith, eqb-false old 0 b)))
+
+  from-zero : eqb old 0 ≡ true → ltb 10 new ≡ true → (start : Bool) → Reportable old new start
+  from-zero b c start = rw (eqb-true old 0 b) (fromZero new start (ltb-true 10 new c))
+
+  by : (a b c d start : Bool) → eqb new 0 ≡ a → eqb old 0 ≡ b → ltb 10 new ≡ c → ltb 10 (apart new old) ≡ d → ((a && not b) || (b && c) || (d && start)) ≡ true → Reportable old new start
+  by true false c d start ea eb ec ed e = to-zero ea eb start
+  by true true true d start ea eb ec ed e = from-zero eb ec start
+  by true true false true true ea eb ec ed e = changed-by (ltb old new) refl (ltb-true 10 (apart new old) ed)
+  by true true false true false ea eb ec ed e = absurd (true≢false (sym e))
+  by true true false false start ea eb ec ed e = absurd (true≢false (sym e))
+  by false true true d start ea eb ec ed e = from-zero eb ec start
+  by false true false true true ea eb ec ed e = changed-by (ltb old new) refl (ltb-true 10 (apart new old) ed)
+  by false true false true false ea eb ec ed e = absurd (true≢false (sym e))
+  by false true false false start ea eb ec ed e = absurd (true≢false (sym e))
+  by false false c true true ea eb ec ed e = changed-by (ltb old new) refl (ltb-true 10 (apart new old) ed)
+  by false false c true false ea eb ec ed e = absurd (true≢false (sym e))
+  by false false c false start ea eb ec ed e = absurd (true≢false (sym e))
+
+  pub told-reportable : (start : Bool) → told old new start ≡ true → Reportable old new start
+  unfolding told
+  told-reportable start e = by (eqb new 0) (eqb old 0) (ltb 10 new) (ltb 10 (apart new old)) start refl refl refl refl e
+
+-- the sentence on times below a second: the start of such a fade from rest is silent, as it asks
+pub short-start : (time : ℕ) → hushed time → told 0 time true ≡ false
+unfolding told
+short-start time h = rw (le-ltb 10 time (omega arith), le-ltb 10 (apart time 0) (omega arith)) (silent (eqb time 0))
+  where
+    silent : (a : Bool) → ((a && not true) || (true && false) || (false && true)) ≡ false
+    silent true = refl
+    silent false = refl
+
+-- and its end is told, where it asks for silence: the smallest is a fade of a tenth
+pub short-end-differs : hushed 1 × (told 1 0 false ≡ true)
+unfolding told
+short-end-differs = (omega arith, refl)
+
+-- ---- the colour attributes
+
+-- what is due may be reported, and what may be is due
+due-by : (end : Bool) (stamp clock : ℕ) → due end stamp clock ≡ true → MayReport stamp clock end
+due-by true stamp clock e = atTheEnd stamp clock
+due-by false stamp clock e = onceASecond stamp clock false (leb-true (stamp + 1000) clock e)
+
+by-due : {stamp clock : ℕ} {end : Bool} → MayReport stamp clock end → due end stamp clock ≡ true
+by-due (onceASecond stamp clock end h) = rw (le-leb (stamp + 1000) clock h) (or-true end)
+by-due (atTheEnd stamp clock) = refl
+
+-- which notices of a change are told
+hue-by : (s a d e : Bool) → tells CurrentHue (cond s [] (changeNotices a d (CurrentHue ∷ only e EnhancedCurrentHue))) ≡ not s && d
+hue-by true a d e = refl
+hue-by false true true e = refl
+hue-by false true false e = refl
+hue-by false false true e = refl
+hue-by false false false e = refl
+
+saturation-by : (s a d : Bool) → tells CurrentSaturation (cond s [] (changeNotices a d (CurrentSaturation ∷ []))) ≡ not s && d
+saturation-by true a d = refl
+saturation-by false true true = refl
+saturation-by false true false = refl
+saturation-by false false true = refl
+saturation-by false false false = refl
+
+mireds-by : (s a d : Bool) → tells ColorTemperatureMireds (cond s [] (changeNotices a d (ColorTemperatureMireds ∷ []))) ≡ not s && d
+mireds-by true a d = refl
+mireds-by false true true = refl
+mireds-by false true false = refl
+mireds-by false false true = refl
+mireds-by false false false = refl
+
+module _ (c : Color) (new : ℕ) (end : Bool) (clock : ℕ) (active : Bool) where
+  -- a notice of a change is one that may be reported, and of a change each that may be is told
+  told-may : (old stamp : ℕ) (t : Bool) → t ≡ not (same old new end) && due end stamp clock → t ≡ true → MayReport stamp clock end
+  told-may old stamp t e h = due-by end stamp clock (and-right (not (same old new end)) (due end stamp clock) (sym e ∙ h))
+
+  may-told : (old stamp : ℕ) (t : Bool) → t ≡ not (same old new end) && due end stamp clock → (old ≡ new → ⊥) → MayReport stamp clock end → t ≡ true
+  may-told old stamp t e h m = e ∙ rw (ne-eqb old new h, by-due m)
+
+  pub hue-reported : (enhanced : Bool) → tells CurrentHue (hueTold c new end enhanced clock active) ≡ true → MayReport (c .stamps .hue) clock end
+  unfolding hueTold
+  hue-reported enhanced = told-may (c .hue) (c .stamps .hue) _ (hue-by (same (c .hue) new end) active (due end (c .stamps .hue) clock) enhanced)
+
+  pub hue-change-told : (enhanced : Bool) → (c .hue ≡ new → ⊥) → MayReport (c .stamps .hue) clock end → tells CurrentHue (hueTold c new end enhanced clock active) ≡ true
+  unfolding hueTold
+  hue-change-told enhanced = may-told (c .hue) (c .stamps .hue) _ (hue-by (same (c .hue) new end) active (due end (c .stamps .hue) clock) enhanced)
+
+  pub saturation-reported : tells CurrentSaturation (saturationTold c new end clock active) ≡ true → MayReport (c .stamps .saturation) clock end
+  unfolding saturationTold
+  saturation-reported = told-may (c .saturation) (c .stamps .saturation) _ (saturation-by (same (c .saturation) new end) active (due end (c .stamps .saturation) clock))
+
+  pub saturation-change-told : (c .saturation ≡ new → ⊥) → MayReport (c .stamps .saturation) clock end → tells CurrentSaturation (saturationTold c new end clock active) ≡ true
+  unfolding saturationTold
+  saturation-change-told = may-told (c .saturation) (c .stamps .saturation) _ (saturation-by (same (c .saturation) new end) active (due end (c .stamps .saturation) clock))
+
+  pub mireds-reported : tells ColorTemperatureMireds (miredsTold c new end clock active) ≡ true → MayReport (c .stamps .mireds) clock end
+  unfolding miredsTold
+  mireds-reported = told-may (c .mireds) (c .stamps .mireds) _ (mireds-by (same (c .mireds) new end) active (due end (c .stamps .mireds) clock))
+
+  pub mireds-change-told : (c .mireds ≡ new → ⊥) → MayReport (c .stamps .mireds) clock end → tells ColorTemperatureMireds (miredsTold c new end clock active) ≡ true
+  unfolding miredsTold
+  mireds-change-told = may-told (c .mireds) (c .stamps .mireds) _ (mireds-by (same (c .mireds) new end) active (due end (c .stamps .mireds) clock))
+
+-- "at most once per second": what was told at one clock is not told again within the second, but at an end
+
+module _ (c : Color) (clock later : ℕ) (soon : later < clock + 1000) (end : Bool) (new next : ℕ) (active : Bool) where
+  -- a notice that was told sets its stamp to the clock, and then is not due
+  not-due : (old stamp : ℕ) (t : Bool) (after : ℕ) → t ≡ not (same old new end) && due end stamp clock → t ≡ true → (same old new end ≡ false → due end stamp clock ≡ true → after ≡ clock) → due false after later ≡ false
+  not-due old stamp t after e h f =
+      let a : after ≡ clock = f (not-true (same old new end) (and-left (not (same old new end)) (due end stamp clock) (sym e ∙ h))) (and-right (not (same old new end)) (due end stamp clock) (sym e ∙ h)) in
+      lt-leb (after + 1000) later (omega arith)
+
+  hue-stamp : (enhanced : Bool) → same (c .hue) new end ≡ false → due end (c .stamps .hue) clock ≡ true → hueSet c new end enhanced clock .stamps .hue ≡ clock
+  unfolding hueSet
+  hue-stamp enhanced e d = rw (e, d)
+
+  pub hue-once : (enhanced enhancedNext : Bool) → tells CurrentHue (hueTold c new end enhanced clock active) ≡ true → tells CurrentHue (hueTold (hueSet c new end enhanced clock) next false enhancedNext later active) ≡ false
+  unfolding hueTold
+  hue-once enhanced enhancedNext e =
+      let after : Color = hueSet c new end enhanced clock in
+      hue-by (same (after .hue) next false) active (due false (after .stamps .hue) later) enhancedNext
+      ∙ ap (λ (d : Bool). not (same (after .hue) next false) && d) (not-due (c .hue) (c .stamps .hue) _ (after .stamps .hue) (hue-by (same (c .hue) new end) active (due end (c .stamps .hue) clock) enhanced) e (hue-stamp enhanced))
+      ∙ and-false (not (same (after .hue) next false))
+
+  saturation-stamp : same (c .saturation) new end ≡ false → due end (c .stamps .saturation) clock ≡ true → saturationSet c new end clock .stamps .saturation ≡ clock
+  unfolding saturationSet
+  saturation-stamp e d = rw (e, d)
+
+  pub saturation-once : tells CurrentSaturation (saturationTold c new end clock active) ≡ true → tells CurrentSaturation (saturationTold (saturationSet c new end clock) next false later active) ≡ false
+  unfolding saturationTold
+  saturation-once e =
+      let after : Color = saturationSet c new end clock in
+      saturation-by (same (after .saturation) next false) active (due false (after .stamps .saturation) later)
+      ∙ ap (λ (d : Bool). not (same (after .saturation) next false) && d) (not-due (c .saturation) (c .stamps .saturation) _ (after .stamps .saturation) (saturation-by (same (c .saturation) new end) active (due end (c .stamps .saturation) clock)) e saturation-stamp)
+      ∙ and-false (not (same (after .saturation) next false))
+
+  mireds-stamp : same (c .mireds) new end ≡ false → due end (c .stamps .mireds) clock ≡ true → miredsSet c new end clock .stamps .mireds ≡ clock
+  unfolding miredsSet
+  mireds-stamp e d = rw (e, d)
+
+  pub mireds-once : tells ColorTemperatureMireds (miredsTold c new end clock active) ≡ true → tells ColorTemperatureMireds (miredsTold (miredsSet c new end clock) next false later active) ≡ false
+  unfolding miredsTold
+  mireds-once e =
+      let after : Color = miredsSet c new end clock in
+      mireds-by (same (after .mireds) next false) active (due false (after .stamps .mireds) later)
+      ∙ ap (λ (d : Bool). not (same (after .mireds) next false) && d) (not-due (c .mireds) (c .stamps .mireds) _ (after .stamps .mireds) (mireds-by (same (c .mireds) new end) active (due end (c .stamps .mireds) clock)) e mireds-stamp)
+      ∙ and-false (not (same (after .mireds) next false))
+
+-- ---- where the port tells more, or less
+
+mode-by : (s a d e : Bool) → tells ColorMode (cond s [] (changeNotices a d (CurrentHue ∷ only e EnhancedCurrentHue))) ≡ not s && d
+mode-by true a d e = refl
+mode-by false true true true = refl
+mode-by false true true false = refl
+mode-by false true false e = refl
+mode-by false false true true = refl
+mode-by false false true false = refl
+mode-by false false false e = refl
+
+plain-by : (s a d : Bool) → tells EnhancedCurrentHue (cond s [] (changeNotices a d (CurrentHue ∷ []))) ≡ false
+plain-by true a d = refl
+plain-by false true true = refl
+plain-by false true false = refl
+plain-by false false true = refl
+plain-by false false false = refl
+
+module _ (c : Color) (clock : ℕ) (active : Bool) where
+  -- more: at an end the number is told though it is the old one, where the text speaks of changes. Smallest: hue 0 to 0
+  pub unchanged-told : (enhanced : Bool) → tells CurrentHue (hueTold c (c .hue) true enhanced clock active) ≡ true
+  unfolding hueTold
+  unchanged-told enhanced =
+      hue-by (same (c .hue) (c .hue) true) active true enhanced ∙ rw (and-false (eqb (c .hue) (c .hue)))
+
+  module _ (new : ℕ) (moved : c .hue ≡ new → ⊥) where
+    -- less: the modes change with the number and are withheld with it, where the text limits no report of ColorMode or
+    -- EnhancedColorMode. Smallest: in XY mode, from hue 0 to 1 at clock 999, the last notice being at 0
+    pub mode-untold : (enhanced : Bool) → clock < c .stamps .hue + 1000 → (hueSet c new false enhanced clock .mode ≡ ColorModeEnum.CurrentHueAndCurrentSaturation) × (tells ColorMode (hueTold c new false enhanced clock active) ≡ false)
+    unfolding hueSet hueTold
+    mode-untold enhanced h =
+        (rw (ne-eqb (c .hue) new moved), mode-by (same (c .hue) new false) active (due false (c .stamps .hue) clock) enhanced ∙ rw (ne-eqb (c .hue) new moved, lt-leb (c .stamps .hue + 1000) clock h))
+
+  -- less: a plain move tells no EnhancedCurrentHue, which it changes
+  pub enhanced-untold : (new : ℕ) (end : Bool) → tells EnhancedCurrentHue (hueTold c new end false clock active) ≡ false
+  unfolding hueTold
+  enhanced-untold new end = plain-by (same (c .hue) new end) active (due end (c .stamps .hue) clock)

@@ -1,0 +1,20 @@
+-- A transition from here to there in this time: Matter Application Cluster Specification, Color Control, "Effect on receipt" of
+-- MoveToHue, MoveToSaturation, MoveToColorTemperature and the others with a TransitionTime. Written from that text as known,
+-- what stands in quotes too: no copy was at hand. "The movement SHALL be continuous, i.e., not a step function, and the time
+-- taken to move to the new [..] SHALL be equal to the TransitionTime field". That it goes at one speed is our reading.
+-- Assumes nothing.
+use Prim.Native.Nat.{ℕ, _*_, _/_}
+use mathlib.Core.Bool.{cond}
+use lib.Dec.{leb}
+
+-- "in 1/10ths of a second"
+abbrev pub tenth : ℕ
+tenth = 100
+
+abbrev pub milliseconds : ℕ → ℕ
+milliseconds transitionTime = transitionTime * tenth
+
+-- how much of a way of this size is behind, in whole units, so long after the start: that share of it which the time elapsed is
+-- of the time, and from then on all of it
+unfoldable pub travelled : ℕ → ℕ → ℕ → ℕ
+travelled size elapsed time = cond (leb time elapsed) size (size * elapsed / time)

@@ -1,0 +1,209 @@
+-- The port's transition is the text's at its start, at its end and wherever the elapsed time is a whole number of thousandths
+-- of the time; between, it is behind the text's by less than a thousandth of the way and one unit, and never ahead.
+-- Assumes nothing.
+use Prim.Native.Nat.{ℕ, zero, suc, _+_, _-_, _*_, _/_, _≤_, _<_, min}
+use mathlib.Core.Bool.{Bool, true, false, cond}
+use mathlib.Core.Path.{_≡_, refl, sym, ap, _∙_}
+use native.Mathlib.Nat.{le-div-iff-mul-le, div-lt-iff-lt-mul, mul-le-mul-left, mul-le-mul-right, mul-comm, mul-assoc, mul-right-comm, one-mul, zero-mul, div-eq-of-eq-mul-left, mul-add, add-mul, zero-div, mul-zero, div-mul-le-self, lt-div-mul-add, mul-div-mul-right, div-eq-of-lt}
+use native.Mathlib.Omega.{arith}
+use lib.Dec.{leb, ltb}
+use lib.IntN.{ℤ, pos, negsuc, negℤ, natAbs, _-ℤ_}
+use borrow.Author.Tests.{ltb-true, ltb-false, leb-true, leb-false, le-leb, lt-leb}
+use Rattle.matter.specs.declared.Bounds.{Bounds}
+use Rattle.matter.specs.Laws.{cond-both}
+use Rattle.integers.proofs.Sizes.{abs-neg}
+use Rattle.progress.specs.Progress.{permilleOf, partOf, broughtWithin}
+use Rattle.progress.specs.Laws.{permille-is, permille-full, permille-short, permille-most, part-down, part-size, part-within, part-whole}
+use Rattle.lamp.specs.Passes.{saturationNow, miredsNow}
+use Rattle.conformance.specs.StepsAgree.{within-up, within-down}
+use Rattle.conformance.specs.Transition.{travelled}
+
+-- the size of the port's part, so long after the start
+abbrev pub gone : ℤ → ℕ → ℕ → ℕ
+gone way elapsed time = natAbs (partOf way (permilleOf elapsed time))
+
+-- ---- the arithmetic: s the way, e the time elapsed, t the time, p the thousandths, g the part
+
+module _ (s e t p g : ℕ) where
+  -- products written another way round
+  part-time : g * 1000 * t ≡ g * t * 1000
+  part-time = mul-right-comm g 1000 t
+
+  way-elapsed : s * (e * 1000) ≡ s * e * 1000
+  way-elapsed = sym (mul-assoc s e 1000)
+
+  way-permille : s * p * t ≡ s * (p * t)
+  way-permille = mul-assoc s p t
+
+  never-ahead : g * 1000 ≤ s * p → p * t ≤ e * 1000 → g * t ≤ s * e
+  never-ahead h k =
+      omega (arith, part-time, way-elapsed, way-permille, mul-le-mul-right t h, mul-le-mul-left s k)
+
+  little-behind : 0 < t → s * p < g * 1000 + 1000 → e * 1000 < p * t + t → s * e * 1000 < (g + 1) * t * 1000 + s * t
+  little-behind z h k =
+      let a : (s * p + 1) * t ≤ (g * 1000 + 1000) * t = mul-le-mul-right t (omega arith) in
+      let b : s * (e * 1000) ≤ s * (p * t + t) = mul-le-mul-left s (omega arith) in
+      omega (arith, part-time, way-elapsed, way-permille, add-mul (s * p) 1 t, add-mul (g * 1000) 1000 t, mul-add s (p * t) t, add-mul g 1 t)
+
+whole-thousandths : (s e t k : ℕ) → 0 < t → e * 1000 ≡ k * t → s * k / 1000 ≡ s * e / t
+whole-thousandths s e t k h f =
+    let a : s * e * 1000 ≡ s * k * t = mul-assoc s e 1000 ∙ ap (λ (x : ℕ). s * x) f ∙ sym (mul-assoc s k t) in
+    sym (mul-div-mul-right (s * k) 1000 h) ∙ ap (λ (x : ℕ). x / (1000 * t)) (sym a) ∙ ap (λ (x : ℕ). s * e * 1000 / x) (mul-comm 1000 t) ∙ mul-div-mul-right (s * e) t (omega arith)
+
+-- of two units, one is behind from the middle on
+two-by : (e t : ℕ) (b : Bool) → leb t (2 * e) ≡ b → e < t → 2 * (e * 1000 / t) / 1000 ≡ 2 * e / t
+two-by e t true f h =
+    let l : t ≤ 2 * e = leb-true t (2 * e) f in
+    let a : 500 ≤ e * 1000 / t = le-div-iff-mul-le {k = t} {x = 500} {y = e * 1000} (omega arith) .1 (omega arith) in
+    let b : e * 1000 / t < 1000 = div-lt-iff-lt-mul {k = t} {x = e * 1000} {y = 1000} (omega arith) .1 (omega arith) in
+    let c : 1 ≤ 2 * e / t = le-div-iff-mul-le {k = t} {x = 1} {y = 2 * e} (omega arith) .1 (omega arith) in
+    let d : 2 * e / t < 2 = div-lt-iff-lt-mul {k = t} {x = 2 * e} {y = 2} (omega arith) .1 (omega arith) in
+    omega arith
+two-by e t false f h =
+    let l : 2 * e < t = leb-false t (2 * e) f in
+    let b : e * 1000 / t < 500 = div-lt-iff-lt-mul {k = t} {x = e * 1000} {y = 500} (omega arith) .1 (omega arith) in
+    let d : 2 * e / t ≡ 0 = div-eq-of-lt l in
+    omega arith
+
+two-or-less : (s e t : ℕ) → e < t → s ≤ 2 → s * (e * 1000 / t) / 1000 ≡ s * e / t
+two-or-less zero e t h k = rw (zero-mul (e * 1000 / t), zero-mul e, zero-div t)
+two-or-less (suc zero) e t h k =
+    let b : e * 1000 / t < 1000 = div-lt-iff-lt-mul {k = t} {x = e * 1000} {y = 1000} (omega arith) .1 (omega arith) in
+    let d : e / t ≡ 0 = div-eq-of-lt h in
+    rw (one-mul (e * 1000 / t), one-mul e) (omega arith)
+two-or-less (suc (suc zero)) e t h k = two-by e t (leb t (2 * e)) refl h
+two-or-less (suc (suc (suc n))) e t h k = absurd (omega arith)
+
+module _ (way : ℤ) (time : ℕ) where
+  -- at the time and after it: the whole way, in both
+  pub transition-end : (elapsed : ℕ) → time ≤ elapsed → gone way elapsed time ≡ travelled (natAbs way) elapsed time
+  unfolding travelled
+  transition-end elapsed h =
+      rw (le-leb time elapsed h) (ap (λ (p : ℕ). natAbs (partOf way p)) (permille-full elapsed time h) ∙ ap natAbs (part-whole way))
+
+  -- at the start of a time: nothing, in both
+  pub transition-start : 0 < time → gone way 0 time ≡ travelled (natAbs way) 0 time
+  unfolding travelled
+  transition-start h =
+      rw (lt-leb time 0 h, mul-zero (natAbs way), zero-div time)
+      (ap (λ (p : ℕ). natAbs (partOf way p)) (permille-is 0 time h ∙ ap (min 1000) (zero-div time)) ∙ part-size way 0 ∙ rw (mul-zero (natAbs way)))
+
+  module _ (elapsed : ℕ) (before : elapsed < time) where
+    -- before the time, the quotients
+    permille-before : permilleOf elapsed time ≡ elapsed * 1000 / time
+    permille-before = omega (arith, permille-is elapsed time (omega arith), permille-short elapsed time before)
+
+    travelled-before : travelled (natAbs way) elapsed time ≡ natAbs way * elapsed / time
+    unfolding travelled
+    travelled-before = rw (lt-leb time elapsed before)
+
+    gone-before : gone way elapsed time ≡ natAbs way * (elapsed * 1000 / time) / 1000
+    gone-before = part-size way (permilleOf elapsed time) ∙ ap (λ (p : ℕ). natAbs way * p / 1000) permille-before
+
+    -- never ahead
+    pub transition-not-ahead : gone way elapsed time ≤ travelled (natAbs way) elapsed time
+    transition-not-ahead =
+        rw (travelled-before, gone-before)
+        (le-div-iff-mul-le {k = time} {x = natAbs way * (elapsed * 1000 / time) / 1000} {y = natAbs way * elapsed} (omega arith) .1
+        (never-ahead (natAbs way) elapsed time (elapsed * 1000 / time) (natAbs way * (elapsed * 1000 / time) / 1000) (omega arith) (div-mul-le-self (elapsed * 1000) time)))
+
+    -- behind by less than one unit and a thousandth of the way: way × elapsed / time < gone + 1 + way / 1000, multiplied out
+    pub transition-near : natAbs way * elapsed * 1000 < (gone way elapsed time + 1) * time * 1000 + natAbs way * time
+    transition-near =
+        rw gone-before
+        (little-behind (natAbs way) elapsed time (elapsed * 1000 / time) (natAbs way * (elapsed * 1000 / time) / 1000) (omega arith) (omega arith) (lt-div-mul-add (omega arith)))
+
+    -- equal where the elapsed time is a whole number of thousandths of the time
+    pub transition-exact : (k : ℕ) → elapsed * 1000 ≡ k * time → gone way elapsed time ≡ travelled (natAbs way) elapsed time
+    transition-exact k h =
+        gone-before ∙ ap (λ (q : ℕ). natAbs way * q / 1000) (div-eq-of-eq-mul-left {k = k} (omega arith) h) ∙ whole-thousandths (natAbs way) elapsed time k (omega arith) h ∙ sym travelled-before
+
+    -- equal on ways of two units or less
+    pub transition-small : natAbs way ≤ 2 → gone way elapsed time ≡ travelled (natAbs way) elapsed time
+    transition-small h = gone-before ∙ two-or-less (natAbs way) elapsed time before h ∙ sym travelled-before
+
+-- the text's whole units before the time: that share of the way is behind and one unit more is not
+pub travelled-exact : (size elapsed time : ℕ) → elapsed < time → (travelled size elapsed time * time ≤ size * elapsed) × (size * elapsed < travelled size elapsed time * time + time)
+unfolding travelled
+travelled-exact size elapsed time h =
+    rw (lt-leb time elapsed h) (div-mul-le-self (size * elapsed) time, lt-div-mul-add (omega arith))
+
+-- the smallest way that differs: 3 units in 300 ms, after 100 ms
+pub transition-differs : (gone (pos 3) 100 300 ≡ 0) × (travelled 3 100 300 ≡ 1)
+unfolding permilleOf travelled
+transition-differs = (refl, refl)
+
+-- ---- saturation and mireds: numbers on a line, brought within their bounds
+
+up-by : (s t : ℕ) (b : Bool) → ltb t (suc s) ≡ b → suc s ≤ t → cond b (negsuc (suc s - suc t)) (pos (t - suc s)) ≡ pos (t - suc s)
+up-by s t true e h = absurd (omega (arith, ltb-true t (suc s) e))
+up-by s t false e h = refl
+
+-- the way from a start to a target above it, and below it
+way-up : (s t : ℕ) → s ≤ t → pos t -ℤ pos s ≡ pos (t - s)
+way-up zero t h = ap pos (omega arith)
+way-up (suc s) t h = up-by s t (ltb t (suc s)) refl h
+
+down-by : (s t : ℕ) (b : Bool) → ltb t (suc s) ≡ b → t < suc s → cond b (negsuc (suc s - suc t)) (pos (t - suc s)) ≡ negℤ (pos (suc s - t))
+down-by s t true e h = let f : suc (suc s - suc t) ≡ suc s - t = omega arith in ap (λ (n : ℕ). negℤ (pos n)) f
+down-by s t false e h = absurd (omega (arith, ltb-false t (suc s) e))
+
+way-down : (s t : ℕ) → t < s → pos t -ℤ pos s ≡ negℤ (pos (s - t))
+way-down zero t h = absurd (omega arith)
+way-down (suc s) t h = down-by s t (ltb t (suc s)) refl h
+
+module _ (lo hi start target p : ℕ) (few : p ≤ 1000) where
+  -- a number on its way to a target above it: the start and the part
+  line-up : lo ≤ start → start ≤ target → target ≤ hi → broughtWithin lo hi start (partOf (pos target -ℤ pos start) p) ≡ start + natAbs (partOf (pos target -ℤ pos start) p)
+  line-up low h high =
+      let w : pos target -ℤ pos start ≡ pos (target - start) = way-up start target h in
+      let k : (target - start) * p / 1000 ≤ target - start = part-within (pos (target - start)) p few in
+      ap (λ (z : ℤ). broughtWithin lo hi start (partOf z p)) w ∙ within-up lo hi start ((target - start) * p / 1000) low ∙ omega arith
+      ∙ sym (ap (λ (z : ℤ). start + natAbs (partOf z p)) w)
+
+  -- and to one below it: the start less the part
+  line-down : lo ≤ target → target < start → start ≤ hi → broughtWithin lo hi start (partOf (pos target -ℤ pos start) p) ≡ start - natAbs (partOf (pos target -ℤ pos start) p)
+  line-down low h high =
+      let w : partOf (pos target -ℤ pos start) p ≡ negℤ (pos ((start - target) * p / 1000)) = ap (λ (z : ℤ). partOf z p) (way-down start target h) ∙ part-down (start - target) p in
+      let k : (start - target) * p / 1000 ≤ start - target = part-within (pos (start - target)) p few in
+      ap (broughtWithin lo hi start) w ∙ within-down lo hi start ((start - target) * p / 1000) (omega arith) high ∙ omega arith
+      ∙ sym (ap (λ (z : ℤ). start - natAbs z) w ∙ ap (λ (n : ℕ). start - n) (abs-neg (pos ((start - target) * p / 1000))))
+
+-- at permille 1000 the target, which is the start and the whole way
+module _ (start target p : ℕ) (few : p ≤ 1000) where
+  whole-up : start ≤ target → leb 1000 p ≡ true → target ≡ start + natAbs (partOf (pos target -ℤ pos start) p)
+  whole-up h e =
+      let q : p ≡ 1000 = omega (arith, leb-true 1000 p e) in
+      sym (ap (λ (n : ℕ). start + natAbs (partOf (pos target -ℤ pos start) n)) q ∙ ap (λ (z : ℤ). start + natAbs z) (part-whole (pos target -ℤ pos start) ∙ way-up start target h) ∙ omega arith)
+
+  whole-down : target < start → leb 1000 p ≡ true → target ≡ start - natAbs (partOf (pos target -ℤ pos start) p)
+  whole-down h e =
+      let q : p ≡ 1000 = omega (arith, leb-true 1000 p e) in
+      sym (ap (λ (n : ℕ). start - natAbs (partOf (pos target -ℤ pos start) n)) q ∙ ap (λ (z : ℤ). start - natAbs z) (part-whole (pos target -ℤ pos start) ∙ way-down start target h) ∙ ap (λ (n : ℕ). start - n) (abs-neg (pos (start - target))) ∙ omega arith)
+
+module _ (start target elapsed time : ℕ) where
+  -- the saturation that a pass sets: the start, and up or down from it what `gone` says
+  pub saturation-up : start ≤ target → target ≤ 254 → saturationNow start target (permilleOf elapsed time) ≡ start + gone (pos target -ℤ pos start) elapsed time
+  saturation-up h k =
+      cond-both (λ (n : ℕ). n ≡ start + gone (pos target -ℤ pos start) elapsed time) (leb 1000 (permilleOf elapsed time)) target _
+      (whole-up start target (permilleOf elapsed time) (permille-most elapsed time) h)
+      (λ e. line-up 0 254 start target (permilleOf elapsed time) (permille-most elapsed time) (omega arith) h k)
+
+  pub saturation-down : target < start → start ≤ 254 → saturationNow start target (permilleOf elapsed time) ≡ start - gone (pos target -ℤ pos start) elapsed time
+  saturation-down h k =
+      cond-both (λ (n : ℕ). n ≡ start - gone (pos target -ℤ pos start) elapsed time) (leb 1000 (permilleOf elapsed time)) target _
+      (whole-down start target (permilleOf elapsed time) (permille-most elapsed time) h)
+      (λ e. line-down 0 254 start target (permilleOf elapsed time) (permille-most elapsed time) (omega arith) h k)
+
+  -- and the mireds, between the bounds
+  pub mireds-up : (bounds : Bounds) → bounds .min ≤ start → start ≤ target → target ≤ bounds .max → miredsNow bounds start target (permilleOf elapsed time) ≡ start + gone (pos target -ℤ pos start) elapsed time
+  mireds-up bounds low h high =
+      cond-both (λ (n : ℕ). n ≡ start + gone (pos target -ℤ pos start) elapsed time) (leb 1000 (permilleOf elapsed time)) target _
+      (whole-up start target (permilleOf elapsed time) (permille-most elapsed time) h)
+      (λ e. line-up (bounds .min) (bounds .max) start target (permilleOf elapsed time) (permille-most elapsed time) low h high)
+
+  pub mireds-down : (bounds : Bounds) → bounds .min ≤ target → target < start → start ≤ bounds .max → miredsNow bounds start target (permilleOf elapsed time) ≡ start - gone (pos target -ℤ pos start) elapsed time
+  mireds-down bounds low h high =
+      cond-both (λ (n : ℕ). n ≡ start - gone (pos target -ℤ pos start) elapsed time) (leb 1000 (permilleOf elapsed time)) target _
+      (whole-down start target (permilleOf elapsed time) (permille-most elapsed time) h)
+      (λ e. line-down (bounds .min) (bounds .max) start target (permilleOf elapsed time) (permille-most elapsed time) low h high)

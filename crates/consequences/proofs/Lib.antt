@@ -1,0 +1,4 @@
+pub mod Kept
+pub mod NeverThrough
+pub mod Together
+pub mod Instances

@@ -1,0 +1,179 @@
+-- Fades that meet the premises, by computation: from red to cyan through green, and the other way round; and two lamps that fade
+-- together, one of them among other calls.
+-- Assumes nothing.
+use Prim.Native.Nat.{ℕ}
+use mathlib.Core.Bool.{Bool, true, false}
+use mathlib.Core.List.{List, [], _∷_, map}
+use mathlib.Core.Path.{_≡_, refl}
+use lib.Dec.{lit<}
+use Rattle.matter.specs.declared.Command.{Command}
+use Rattle.matter.specs.declared.CommandOptions.{CommandOptions}
+use Rattle.matter.specs.declared.DirectionEnum.{DirectionEnum}
+use Rattle.matter.specs.declared.MoveModeEnum.{MoveModeEnum}
+use Rattle.matter.specs.declared.OnOff.{OnOff}
+use Rattle.matter.specs.All.{all}
+use Rattle.matter.specs.Flags.{hasFlag}
+use Rattle.matter.specs.Typed.{TypedOptions}
+use Rattle.hue.specs.Hue.{distance, pathDelta, movedHue}
+use Rattle.arc.specs.Arc.{meet, passesThrough}
+use Rattle.arc.specs.Examples.{green}
+use Rattle.progress.specs.Progress.{permilleOf}
+use Rattle.color.specs.Form.{colorForm}
+use Rattle.color.specs.Setters.{hueSet}
+use Rattle.tasks.specs.Form.{moveToForm, taskForm, runningForm}
+use Rattle.lamp.specs.Answers.{formOrClock}
+use Rattle.lamp.specs.Calls.{hueSaturationStart, started, stepped, startAnswer, stepAnswer, haltAnswer}
+use Rattle.lamp.specs.Form.{lampForm}
+use Rattle.lamp.specs.Passes.{hueSaturationPass}
+use Rattle.lamp.specs.Typed.{command, step, halt}
+use Rattle.commands.specs.Commands.{commandEffect}
+use Rattle.commands.specs.Answers.{answer, commandCause, commandAnswer}
+use Rattle.schedule.specs.Calls.{after, quiet}
+use Rattle.schedule.specs.Schedule.{target}
+use Rattle.schedule.specs.Examples.{lampAt, plain, Look, seen, looks, typed-lamp}
+use Rattle.consequences.specs.Fades.{Fade, found, begun, Premised}
+use Rattle.consequences.specs.Together.{stepClocks, Alike}
+
+-- ---- from red to cyan
+
+-- in four tenths, from 0 to 32,768
+abbrev pub redToCyan : DirectionEnum → Fade
+redToCyan d =
+    record {
+      lamp = lampAt 0;
+      before = [];
+      move = record { enhanced = false; hue = 128; direction = d; tenths = 4; options = plain };
+      onOff = OnOff.On;
+      clock = 5000;
+      between = [];
+      start = 5000;
+      calls = step 5100 ∷ step 5200 ∷ step 5300 ∷ step 5400 ∷ [];
+    }
+
+-- ---- two lamps
+
+-- the fade alone, given by the plain command
+abbrev pub alone : Fade
+alone =
+    record {
+      lamp = lampAt 60000;
+      before = [];
+      move = record { enhanced = false; hue = 10; direction = DirectionEnum.Up; tenths = 10; options = plain };
+      onOff = OnOff.On;
+      clock = 5000;
+      between = [];
+      start = 5100;
+      calls = step 5200 ∷ step 5450 ∷ step 2_000_000 ∷ [];
+    }
+
+-- leave to run while off
+abbrev pub whileOff : CommandOptions
+whileOff = record { mask = 1; over = 1 }
+
+-- the same move by the enhanced command, at another clock, without a handler, and other calls before, between and after
+abbrev pub among : Fade
+among =
+    record {
+      lamp = lampAt 60000;
+      before = halt 5000 ∷ step 5000 ∷ [];
+      move = record { enhanced = true; hue = 2560; direction = DirectionEnum.Up; tenths = 10; options = whileOff };
+      onOff = OnOff.NoHandler;
+      clock = 5050;
+      between = command (Command.MoveToSaturation 100 20 plain) OnOff.On 5060 ∷ [];
+      start = 5100;
+      calls =
+          step 5200
+          -- refused: an earlier clock
+          ∷ step 5000
+          -- accepted, and its task is not started
+          ∷ command (Command.MoveToColorTemperature 300 20 plain) OnOff.On 5250
+          -- refused: rate 0
+          ∷ command (Command.MoveHue MoveModeEnum.Up 0 false plain) OnOff.On 5260
+          ∷ step 5450
+          -- refused: past the limit
+          ∷ halt 1_099_511_627_777
+          ∷ step 2_000_000
+          -- refused: idle
+          ∷ step 2_000_100
+          ∷ [];
+    }
+
+-- ---- what is asked and shown
+
+-- what a console asks before it sends a fade: Shortest goes up, half way round, and through green; Down does not
+abbrev pub ask : Fade → Bool
+ask e = passesThrough (found e) (target (e .move)) (e .move .direction) green
+
+pub asked : (ask (redToCyan DirectionEnum.Shortest) ≡ true) × (ask (redToCyan DirectionEnum.Down) ≡ false)
+unfolding passesThrough meet pathDelta distance after
+asked = (refl, refl)
+
+-- what the lamp shows, from the start on, and the clocks of the accepted steps
+abbrev pub shown : Fade → List Look
+shown e = looks (begun e .lamp) (e .calls)
+
+abbrev pub clocks : Fade → List ℕ
+clocks e = stepClocks (begun e .lamp) (e .calls)
+
+-- 16,384 and 24,576 are green
+pub through-green : shown (redToCyan DirectionEnum.Shortest) ≡ seen 0 4 false ∷ seen 8192 3 false ∷ seen 16384 2 false ∷ seen 24576 1 false ∷ seen 32768 0 true ∷ []
+unfolding looks after answer commandCause commandAnswer formOrClock lampForm all colorForm runningForm moveToForm taskForm commandEffect startAnswer stepAnswer haltAnswer started stepped hueSaturationStart hueSaturationPass hueSet permilleOf pathDelta distance movedHue hasFlag
+through-green = refl
+
+pub never-green : shown (redToCyan DirectionEnum.Down) ≡ seen 0 4 false ∷ seen 57344 3 false ∷ seen 49152 2 false ∷ seen 40960 1 false ∷ seen 32768 0 true ∷ []
+unfolding looks after answer commandCause commandAnswer formOrClock lampForm all colorForm runningForm moveToForm taskForm commandEffect startAnswer stepAnswer haltAnswer started stepped hueSaturationStart hueSaturationPass hueSet permilleOf pathDelta distance movedHue hasFlag
+never-green = refl
+
+-- three steps of each lamp are accepted, at the same clocks, and after each they show the same
+pub same-clocks : (clocks alone ≡ 5200 ∷ 5450 ∷ 2_000_000 ∷ []) × (clocks among ≡ 5200 ∷ 5450 ∷ 2_000_000 ∷ [])
+unfolding stepClocks after answer commandCause commandAnswer formOrClock lampForm all colorForm runningForm moveToForm taskForm commandEffect startAnswer stepAnswer haltAnswer started stepped hueSaturationStart hueSaturationPass hueSet permilleOf pathDelta distance movedHue hasFlag
+same-clocks = (refl, refl)
+
+pub same-shown : map shown (alone ∷ among ∷ []) ≡
+    (seen 60000 10 false ∷ seen 60809 9 false ∷ seen 62833 7 false ∷ seen 2560 0 true ∷ [])
+    ∷ (seen 60000 10 false ∷ seen 60809 9 false ∷ seen 60809 9 false ∷ seen 60809 9 false ∷ seen 60809 9 false ∷ seen 62833 7 false
+    ∷ seen 62833 7 false ∷ seen 2560 0 true ∷ seen 2560 0 true ∷ [])
+    ∷ []
+unfolding looks after answer commandCause commandAnswer formOrClock lampForm all colorForm runningForm moveToForm taskForm commandEffect startAnswer stepAnswer haltAnswer started stepped hueSaturationStart hueSaturationPass hueSet permilleOf pathDelta distance movedHue hasFlag
+same-shown = refl
+
+-- ---- they meet the premises
+
+pub alike : Alike alone among
+unfolding after answer haltAnswer stepAnswer formOrClock lampForm all colorForm runningForm
+alike = record { found = refl; target = refl; direction = refl; tenths = refl; start = refl }
+
+typed-plain : TypedOptions plain
+typed-plain = record { mask = lit< tt; over = lit< tt }
+
+typed-whileOff : TypedOptions whileOff
+typed-whileOff = record { mask = lit< tt; over = lit< tt }
+
+pub premised : Premised (redToCyan DirectionEnum.Down) × Premised alone × Premised among
+unfolding quiet after answer commandCause commandAnswer formOrClock lampForm all colorForm runningForm moveToForm taskForm commandEffect startAnswer stepAnswer haltAnswer started stepped hueSaturationStart hueSaturationPass hueSet permilleOf pathDelta distance movedHue hasFlag
+premised = (
+  record {
+    form = refl;
+    typedLamp = typed-lamp 0 (lit< tt);
+    typedCalls = (((lit< tt, lit< tt, typed-plain), lit< tt), ((record { delta = lit< tt; saturation = tt; ms = lit< tt }, lit< tt), (lit< tt, (lit< tt, (lit< tt, (lit< tt, tt))))));
+    accepted = refl;
+    leave = refl;
+    started = record { accepted = refl; hue = refl; undisturbed = refl };
+  },
+  record {
+    form = refl;
+    typedLamp = typed-lamp 60000 (lit< tt);
+    typedCalls = (((lit< tt, lit< tt, typed-plain), lit< tt), ((record { delta = lit< tt; saturation = tt; ms = lit< tt }, lit< tt), (lit< tt, (lit< tt, (lit< tt, tt)))));
+    accepted = refl;
+    leave = refl;
+    started = record { accepted = refl; hue = refl; undisturbed = refl };
+  },
+  record {
+    form = refl;
+    typedLamp = typed-lamp 60000 (lit< tt);
+    typedCalls = (lit< tt, (lit< tt, (((lit< tt, lit< tt, typed-whileOff), lit< tt), (((lit< tt, lit< tt, typed-plain), lit< tt), ((record { delta = lit< tt; saturation = tt; ms = lit< tt }, lit< tt), (lit< tt, (lit< tt, (((lit< tt, lit< tt, typed-plain), lit< tt), (((lit< tt, typed-plain), lit< tt), (lit< tt, (lit< tt, (lit< tt, (lit< tt, tt)))))))))))));
+    accepted = refl;
+    leave = refl;
+    started = record { accepted = refl; hue = refl; undisturbed = refl };
+  },
+)

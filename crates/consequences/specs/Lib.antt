@@ -1,0 +1,4 @@
+pub mod Fades
+pub mod Together
+pub mod NeverThrough
+pub mod Examples

@@ -1,0 +1,54 @@
+-- The line of `fade` (document 01), read a byte at a time. That this is the line of `Line` is shown in `LineLaws`.
+-- Assumes nothing.
+use Prim.Native.Nat.{ℕ, _+_, _-_, _*_, _^_}
+use mathlib.Core.Bool.{Bool, true, false, cond, not, _&&_, _||_}
+use mathlib.Core.List.{List, [], _∷_}
+use lib.Dec.{eqb, ltb, leb}
+use Rattle.fade_line.specs.declared.reader.Asked.{Asked}
+use Rattle.fade_line.specs.declared.reader.Reader.{Reader}
+use Rattle.fade_line.specs.Line.{isDigit, wanted}
+
+-- nothing has been read
+abbrev pub fresh : Reader
+fresh = record { bad = false; over = false; begun = false; blanks = 0; first = 0; second = 0; third = 0; last = 0 }
+
+-- no line that begins so has the form
+abbrev pub spoilt : Reader → Reader
+spoilt r = record { bad = true; over = r .over; begun = r .begun; blanks = r .blanks; first = r .first; second = r .second; third = r .third; last = r .last }
+
+abbrev pub ended : Reader → Reader
+ended r = record { bad = r .bad; over = true; begun = r .begun; blanks = r .blanks; first = r .first; second = r .second; third = r .third; last = r .last }
+
+-- a blank: the word before it has a digit, and there are four words at most
+unfoldable pub nextWord : Reader → Reader
+nextWord r =
+    cond (r .begun && ltb (r .blanks) 3)
+    (record { bad = r .bad; over = r .over; begun = false; blanks = r .blanks + 1; first = r .second; second = r .third; third = r .last; last = 0 })
+    (spoilt r)
+
+-- a digit: the number stays within 64 bits
+unfoldable pub nextDigit : Reader → ℕ → Reader
+nextDigit r d =
+    cond (ltb (r .last * 10 + d) (2 ^ 64))
+    (record { bad = r .bad; over = r .over; begun = true; blanks = r .blanks; first = r .first; second = r .second; third = r .third; last = r .last * 10 + d })
+    (spoilt r)
+
+-- a byte: after the newline, or after what spoils the line, none counts
+unfoldable pub readByte : Reader → ℕ → Reader
+readByte r b =
+    cond (r .bad || r .over) r
+    (cond (eqb b 10) (ended r)
+    (cond (eqb b 32) (nextWord r)
+    (cond (isDigit b) (nextDigit r (b - 48))
+    (spoilt r))))
+
+unfoldable pub readAll : Reader → List ℕ → Reader
+readAll r [] = r
+readAll r (b ∷ bs) = readAll (readByte r b) bs
+
+-- what was asked for, once all is read
+unfoldable pub lineRead : Reader → Asked
+lineRead r =
+    cond (not (r .bad) && eqb (r .blanks) 3 && r .begun)
+    (wanted (r .first) (r .second) (r .third) (r .last))
+    Asked.BadLine

@@ -1,0 +1,25 @@
+-- The next step fits in 64 bits, and what is told is the answer to the start.
+-- Assumes nothing.
+use Rattle.fade_run.specs.Laws.{start-clock}
+use Rattle.lamp.specs.declared.Answer.{Answer}
+use Prim.Native.Nat.{_+_, _<_, _^_}
+use mathlib.Core.Path.{sym, subst⁻¹}
+use native.Mathlib.Omega.{arith}
+use borrow.Author.Needs.{needs}
+use Rattle.fade_run.proofs.start.Statement.{statement}
+use Rattle.fade_run.proofs.start.Tie as tie
+
+start-requires : tie.Need-start-requires
+start-requires c κs = search needs
+
+told-requires : tie.Need-told-requires
+told-requires c κs = subst⁻¹ (λ (a : Answer). c .before .before .before .before .args .starting .clock + a .wait < 2 ^ 64) (c .before .start .ensures) (start-clock (c .before .before .before .before .args .starting .lamp) (c .before .before .before .before .args .starting .clock) (omega arith) (c .before .before .before .before .args .starting .task))
+
+same-length : tie.Need-same-length
+same-length c = search needs
+
+returns : tie.Need-returns
+returns c = simp (sym (c .before .before .before .before .start .ensures)) (c .before .before .told .ensures)
+
+pub start-spec : {M : Type 1} → statement M
+start-spec = tie.close (tie.spec start-requires told-requires same-length returns)

@@ -1,0 +1,25 @@
+-- The next step fits in 64 bits, and what is told is the answer to the step.
+-- Assumes nothing.
+use Rattle.fade_run.specs.Laws.{step-clock}
+use Rattle.lamp.specs.declared.Answer.{Answer}
+use Prim.Native.Nat.{_+_, _<_, _^_}
+use mathlib.Core.Path.{sym, subst⁻¹}
+use native.Mathlib.Omega.{arith}
+use borrow.Author.Needs.{needs}
+use Rattle.fade_run.proofs.step.Statement.{statement}
+use Rattle.fade_run.proofs.step.Tie as tie
+
+step-requires : tie.Need-step-requires
+step-requires c κs = search needs
+
+told-requires : tie.Need-told-requires
+told-requires c κs = subst⁻¹ (λ (a : Answer). c .before .before .before .before .args .stepping .clock + a .wait < 2 ^ 64) (c .before .step .ensures) (step-clock (c .before .before .before .before .args .stepping .lamp) (c .before .before .before .before .args .stepping .clock) (omega arith))
+
+same-length : tie.Need-same-length
+same-length c = search needs
+
+returns : tie.Need-returns
+returns c = simp (sym (c .before .before .before .before .step .ensures)) (c .before .before .told .ensures)
+
+pub step-spec : {M : Type 1} → statement M
+step-spec = tie.close (tie.spec step-requires told-requires same-length returns)
