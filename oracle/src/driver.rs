@@ -1,7 +1,8 @@
 //! A child of the source's module, and so within reach of its private functions and types.
 //! It runs them on plain data and decides nothing.
 
-use std::pin::Pin;
+use std::pin::{pin, Pin};
+use std::task::{Context as TaskContext, Poll, Waker};
 
 use super::*;
 use crate::data::{self, Command, Fields, OnOff};
@@ -23,6 +24,11 @@ pub trait Handler {
     ) -> (Result<(), Error>, Option<data::Task>);
     /// The transition of a task in form, not polled yet.
     fn transition(&'static self, task: &data::Task) -> Running;
+    /// Polls a task's transition, at its start and then once a step, as long as `more` says so.
+    /// It stands on the stack, as it does in the source's dispatcher. For measurements.
+    fn run(&'static self, task: &data::Task, more: impl FnMut(Poll<()>) -> bool)
+    where
+        Self: Sized;
     fn set_hue(&self, new: u16, end: bool, enhanced: bool);
     fn set_saturation(&self, new: u8, end: bool);
     fn set_color_temperature(&self, new: u16, end: bool);
@@ -39,22 +45,29 @@ static CONTEXT: Context = Context;
 impl AttrChangeNotifier for Context {
     fn notify_attr_changed(&self, endpoint: EndptId, cluster: ClusterId, attr: AttrId) {
         assert!(endpoint == ENDPOINT && cluster == FULL_CLUSTER.id);
-        const ATTRIBUTES: [AttributeId; 12] = [
-            AttributeId::RemainingTime,
-            AttributeId::CurrentHue,
-            AttributeId::EnhancedCurrentHue,
-            AttributeId::CurrentSaturation,
-            AttributeId::ColorTemperatureMireds,
-            AttributeId::ColorMode,
-            AttributeId::EnhancedColorMode,
-            AttributeId::ColorLoopActive,
-            AttributeId::ColorLoopDirection,
-            AttributeId::ColorLoopTime,
-            AttributeId::ColorLoopStartEnhancedHue,
-            AttributeId::ColorLoopStoredEnhancedHue,
-        ];
-        let place = ATTRIBUTES.iter().position(|a| *a as AttrId == attr);
-        recorder::notice(place.expect("an attribute without a number") as u8 + 1);
+        // A chain of tests, which the compiler follows where it knows the attribute.
+        macro_rules! numbered {
+            ($($number:literal $name:ident,)*) => {
+                $(if attr == AttributeId::$name as AttrId {
+                    return recorder::notice($number);
+                })*
+            };
+        }
+        numbered! {
+            1 RemainingTime,
+            2 CurrentHue,
+            3 EnhancedCurrentHue,
+            4 CurrentSaturation,
+            5 ColorTemperatureMireds,
+            6 ColorMode,
+            7 EnhancedColorMode,
+            8 ColorLoopActive,
+            9 ColorLoopDirection,
+            10 ColorLoopTime,
+            11 ColorLoopStartEnhancedHue,
+            12 ColorLoopStoredEnhancedHue,
+        }
+        panic!("an attribute without a number");
     }
 
     fn notify_cluster_changed(&self, _: EndptId, _: ClusterId) {
@@ -100,6 +113,11 @@ impl<const MIN: u16, const MAX: u16> ColorControlHooks for Device<MIN, MAX> {
 }
 
 fn made<const MIN: u16, const MAX: u16>() -> &'static dyn Handler {
+    direct::<MIN, MAX>()
+}
+
+/// The handler by its own type, so that a call of it goes through no table.
+pub fn direct<const MIN: u16, const MAX: u16>() -> &'static impl Handler {
     Box::leak(Box::new(
         Lamp::<Device<MIN, MAX>>::new(Dataver::new(0), ENDPOINT, 0, Device)
             .with_scene_invalidator(&SCENES),
@@ -259,6 +277,13 @@ impl<H: ColorControlHooks + 'static> Handler for Lamp<H> {
 
     fn transition(&'static self, task: &data::Task) -> Running {
         Box::pin(self.task_manager(&CONTEXT, taken(task)))
+    }
+
+    #[inline(always)]
+    fn run(&'static self, task: &data::Task, mut more: impl FnMut(Poll<()>) -> bool) {
+        let mut transition = pin!(self.task_manager(&CONTEXT, taken(task)));
+        let mut context = TaskContext::from_waker(Waker::noop());
+        while more(transition.as_mut().poll(&mut context)) {}
     }
 
     fn set_hue(&self, new: u16, end: bool, enhanced: bool) {

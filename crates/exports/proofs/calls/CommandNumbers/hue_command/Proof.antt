@@ -1,0 +1,67 @@
+-- `calls::CommandNumbers::hue_command`: the definition takes the case that the tests on the way have found.
+-- Assumes nothing.
+use Rattle.exports.specs.Calls.{hueCommand}
+use borrow.Author.Tests.{eq-eqb, ne-eqb}
+use borrow.Author.Needs.{needs}
+use Rattle.exports.proofs.calls.CommandNumbers.hue_command.Statement.{statement}
+use Rattle.exports.proofs.calls.CommandNumbers.hue_command.Tie as tie
+
+options-requires : tie.Need-options-requires
+options-requires c κs = search needs
+
+byte-requires : tie.Need-byte-requires
+byte-requires c κs = search needs
+
+direction-requires : tie.Need-direction-requires
+direction-requires c κs = search needs
+
+short-requires : tie.Need-short-requires
+short-requires c κs = search needs
+
+returns : tie.Need-returns
+unfolding hueCommand
+returns c = simp (c .short .ensures, c .before .direction .ensures, c .before .before .byte .ensures, eq-eqb _ _ (c .before .before .before .if1 .taken), c .before .before .before .before .before .options .ensures)
+
+move-mode-requires : tie.Need-move-mode-requires
+move-mode-requires c κs = search needs
+
+byte-requires-2 : tie.Need-byte-requires-2
+byte-requires-2 c κs = search needs
+
+flag-requires : tie.Need-flag-requires
+flag-requires c κs = search needs
+
+returns-2 : tie.Need-returns-2
+unfolding hueCommand
+returns-2 c = simp (c .flag .ensures, c .before .byte2 .ensures, c .before .before .move-mode .ensures, eq-eqb _ _ (c .before .before .before .if2 .taken), ne-eqb _ _ (c .before .before .before .before .before .if1 .left), c .before .before .before .before .before .before .before .options .ensures)
+
+step-mode-requires : tie.Need-step-mode-requires
+step-mode-requires c κs = search needs
+
+byte-requires-3 : tie.Need-byte-requires-3
+byte-requires-3 c κs = search needs
+
+short-requires-2 : tie.Need-short-requires-2
+short-requires-2 c κs = search needs
+
+returns-3 : tie.Need-returns-3
+unfolding hueCommand
+returns-3 c = simp (c .short2 .ensures, c .before .byte3 .ensures, c .before .before .step-mode .ensures, ne-eqb _ _ (c .before .before .before .if2 .left), ne-eqb _ _ (c .before .before .before .before .before .if1 .left), c .before .before .before .before .before .before .before .options .ensures)
+
+pub hue-command-spec : {M : Type 1} → statement M
+hue-command-spec =
+    tie.close
+    (tie.spec
+    options-requires
+    byte-requires
+    direction-requires
+    short-requires
+    returns
+    move-mode-requires
+    byte-requires-2
+    flag-requires
+    returns-2
+    step-mode-requires
+    byte-requires-3
+    short-requires-2
+    returns-3)

@@ -1,0 +1,40 @@
+-- `calls::CommandNumbers::loop_command`: the parts are those of the definition.
+-- Assumes nothing.
+use Rattle.exports.specs.Calls.{loopCommand}
+use borrow.Author.Needs.{needs}
+use Rattle.exports.proofs.calls.CommandNumbers.loop_command.Statement.{statement}
+use Rattle.exports.proofs.calls.CommandNumbers.loop_command.Tie as tie
+
+options-requires : tie.Need-options-requires
+options-requires c κs = search needs
+
+byte-requires : tie.Need-byte-requires
+byte-requires c κs = search needs
+
+loop-action-requires : tie.Need-loop-action-requires
+loop-action-requires c κs = search needs
+
+loop-direction-requires : tie.Need-loop-direction-requires
+loop-direction-requires c κs = search needs
+
+short-requires : tie.Need-short-requires
+short-requires c κs = search needs
+
+short-requires-2 : tie.Need-short-requires-2
+short-requires-2 c κs = search needs
+
+returns : tie.Need-returns
+unfolding loopCommand
+returns c = simp (c .short2 .ensures, c .before .short .ensures, c .before .before .loop-direction .ensures, c .before .before .before .loop-action .ensures, c .before .before .before .before .byte .ensures, c .before .before .before .before .before .options .ensures)
+
+pub loop-command-spec : {M : Type 1} → statement M
+loop-command-spec =
+    tie.close
+    (tie.spec
+    options-requires
+    byte-requires
+    loop-action-requires
+    loop-direction-requires
+    short-requires
+    short-requires-2
+    returns)

@@ -1,0 +1,16 @@
+-- `moves::TaskNumbers::known`: the parts are those of the definition.
+-- Assumes nothing.
+use Rattle.exports.specs.Moves.{taskKnown}
+use borrow.Author.Needs.{needs}
+use Rattle.exports.proofs.moves.TaskNumbers.known.Statement.{statement}
+use Rattle.exports.proofs.moves.TaskNumbers.known.Tie as tie
+
+move-mode-known-requires : tie.Need-move-mode-known-requires
+move-mode-known-requires c κs = search needs
+
+returns : tie.Need-returns
+unfolding taskKnown
+returns c = simp (c .before .before .before .before .before .before .move-mode-known .ensures)
+
+pub known-spec : {M : Type 1} → statement M
+known-spec = tie.close (tie.spec move-mode-known-requires returns)

@@ -1,0 +1,39 @@
+-- `moves::of_mireds_move`: the parts are the definition's, and a signed one is read back from its bits.
+-- Assumes nothing.
+use mathlib.Core.Path.{_≡_}
+use mir.Syntax.{w64}
+use mir.Val.{toZ, ofZ}
+use borrow.Author.Needs.{needs}
+use Rattle.exports.proofs.moves.of_mireds_move.Statement.{statement}
+use Rattle.exports.proofs.moves.of_mireds_move.Tie as tie
+
+sign-of-requires : tie.Need-sign-of-requires
+sign-of-requires c κs = search needs
+
+size-of-requires : tie.Need-size-of-requires
+size-of-requires c κs = search needs
+
+cast-numbers : tie.Need-cast-numbers
+cast-numbers c = search needs
+
+cast-numbers-2 : tie.Need-cast-numbers-2
+cast-numbers-2 c = search needs
+
+numbers-requires : tie.Need-numbers-requires
+numbers-requires c κs = search needs
+
+returns : tie.Need-returns
+returns c =
+    let e : toZ w64 (ofZ w64 (c .before .before .before .before .before .before .before .args .t .rate)) ≡ c .before .before .before .before .before .before .before .args .t .rate = search needs in
+    simp (c .numbers .ensures, c .before .before .before .size-of .ensures, c .before .before .before .before .before .sign-of .ensures, e)
+
+pub of-mireds-move-spec : {M : Type 1} → statement M
+of-mireds-move-spec =
+    tie.close
+    (tie.spec
+    sign-of-requires
+    size-of-requires
+    cast-numbers
+    cast-numbers-2
+    numbers-requires
+    returns)

@@ -1,0 +1,287 @@
+// A call in ten words: its kind, the clock, the on/off number; then a command's mask, override and five arguments, or a
+// task's kind and six numbers.
+use crate::enums;
+use crate::moves::TaskNumbers;
+use crate::words;
+use crate::words::at;
+use commands::invoke;
+use lamp::Answer;
+use lamp::Lamp;
+use matter::Command;
+use matter::CommandOptions;
+ghost use mathlib.Core.Path.{_≡_};
+ghost use Rattle.exports.specs.Calls as C;
+ghost use Rattle.exports.specs.Calls.{optionsOf, hueCommand, saturationCommand, enhancedCommand, miredsCommand, loopCommand, commandOf, commandKnown, commandNumbers, startNumbers, callKnown};
+
+pub const CALL_WORDS: usize = 10;
+
+// The kinds of calls: a command's number in the cluster, and these.
+pub const START: u64 = 256;
+
+pub const STEP: u64 = 257;
+
+pub const HALT: u64 = 258;
+
+// The number of a call or a lamp that cannot be read.
+pub const UNREADABLE: u8 = 100;
+
+// A command's number, options and arguments.
+pub struct CommandNumbers {
+    pub kind: u64,
+    pub mask: u64,
+    pub over: u64,
+    pub a: u64,
+    pub b: u64,
+    pub c: u64,
+    pub d: u64,
+    pub e: u64,
+}
+
+impl CommandNumbers {
+    fn options(self) -> CommandOptions
+        ensures { λ r. ⌜ r ≡ optionsOf self ⌝ }
+    {
+        CommandOptions {
+            mask: words::byte(self.mask),
+            over: words::byte(self.over),
+        }
+    }
+
+    fn hue_command(self) -> Command
+        ensures { λ r. ⌜ r ≡ hueCommand self ⌝ }
+    {
+        let options = self.options();
+        if self.kind == 0 {
+            return Command::MoveToHue {
+                hue: words::byte(self.a),
+                direction: enums::direction(self.b),
+                time: words::short(self.c),
+                options: options,
+            };
+        }
+        if self.kind == 1 {
+            return Command::MoveHue {
+                mode: enums::move_mode(self.a),
+                rate: words::byte(self.b),
+                enhanced: words::flag(self.c),
+                options: options,
+            };
+        }
+        Command::StepHue {
+            mode: enums::step_mode(self.a),
+            size: words::byte(self.b),
+            time: words::short(self.c),
+            options: options,
+        }
+    }
+
+    fn saturation_command(self) -> Command
+        ensures { λ r. ⌜ r ≡ saturationCommand self ⌝ }
+    {
+        let options = self.options();
+        if self.kind == 3 {
+            return Command::MoveToSaturation {
+                saturation: words::byte(self.a),
+                time: words::short(self.b),
+                options: options,
+            };
+        }
+        if self.kind == 4 {
+            return Command::MoveSaturation {
+                mode: enums::move_mode(self.a),
+                rate: words::byte(self.b),
+                options: options,
+            };
+        }
+        if self.kind == 5 {
+            return Command::StepSaturation {
+                mode: enums::step_mode(self.a),
+                size: words::byte(self.b),
+                time: words::short(self.c),
+                options: options,
+            };
+        }
+        Command::MoveToHueAndSaturation {
+            hue: words::byte(self.a),
+            saturation: words::byte(self.b),
+            time: words::short(self.c),
+            enhanced: words::flag(self.d),
+            enhanced_hue: words::short(self.e),
+            options: options,
+        }
+    }
+
+    fn enhanced_command(self) -> Command
+        ensures { λ r. ⌜ r ≡ enhancedCommand self ⌝ }
+    {
+        let options = self.options();
+        if self.kind == 64 {
+            return Command::EnhancedMoveToHue {
+                hue: words::short(self.a),
+                direction: enums::direction(self.b),
+                time: words::short(self.c),
+                options: options,
+            };
+        }
+        if self.kind == 65 {
+            return Command::EnhancedMoveHue {
+                mode: enums::move_mode(self.a),
+                rate: words::short(self.b),
+                options: options,
+            };
+        }
+        Command::EnhancedStepHue {
+            mode: enums::step_mode(self.a),
+            size: words::short(self.b),
+            time: words::short(self.c),
+            options: options,
+        }
+    }
+
+    fn mireds_command(self) -> Command
+        ensures { λ r. ⌜ r ≡ miredsCommand self ⌝ }
+    {
+        let options = self.options();
+        if self.kind == 10 {
+            return Command::MoveToColorTemperature {
+                mireds: words::short(self.a),
+                time: words::short(self.b),
+                options: options,
+            };
+        }
+        if self.kind == 75 {
+            return Command::MoveColorTemperature {
+                mode: enums::move_mode(self.a),
+                rate: words::short(self.b),
+                min: words::short(self.c),
+                max: words::short(self.d),
+                options: options,
+            };
+        }
+        Command::StepColorTemperature {
+            mode: enums::step_mode(self.a),
+            size: words::short(self.b),
+            time: words::short(self.c),
+            min: words::short(self.d),
+            max: words::short(self.e),
+            options: options,
+        }
+    }
+
+    fn loop_command(self) -> Command
+        ensures { λ r. ⌜ r ≡ loopCommand self ⌝ }
+    {
+        let options = self.options();
+        Command::ColorLoopSet {
+            flags: words::byte(self.a),
+            action: enums::loop_action(self.b),
+            direction: enums::loop_direction(self.c),
+            time: words::short(self.d),
+            start_hue: words::short(self.e),
+            options: options,
+        }
+    }
+
+    fn command(self) -> Command
+        ensures { λ r. ⌜ r ≡ commandOf self ⌝ }
+    {
+        if self.kind <= 2 {
+            return self.hue_command();
+        }
+        if self.kind <= 6 {
+            return self.saturation_command();
+        }
+        if self.kind == 68 {
+            return self.loop_command();
+        }
+        if self.kind == 71 {
+            let options = self.options();
+            return Command::StopMoveStep { options: options };
+        }
+        if (64 <= self.kind) & (self.kind <= 66) {
+            return self.enhanced_command();
+        }
+        self.mireds_command()
+    }
+
+    // Whether the kind and the enums' numbers exist.
+    fn known(self) -> bool
+        ensures { λ r. ⌜ r ≡ commandKnown self ⌝ }
+    {
+        let k = self.kind;
+        (((k == 0) | (k == 64)) & (self.b <= 3))
+            | (((k == 1) | (k == 4) | (k == 65) | (k == 75)) & enums::move_mode_known(self.a))
+            | (((k == 2) | (k == 5) | (k == 66) | (k == 76)) & enums::step_mode_known(self.a))
+            | (k == 3)
+            | (k == 6)
+            | (k == 10)
+            | (k == 71)
+            | ((k == 68) & (self.b <= 2) & (self.c <= 1))
+    }
+}
+
+fn command_numbers(w: &[u64]) -> CommandNumbers
+    ensures { λ r. ⌜ r ≡ commandNumbers (now (w .entry)) ⌝ }
+{
+    CommandNumbers {
+        kind: at(w, 0),
+        mask: at(w, 3),
+        over: at(w, 4),
+        a: at(w, 5),
+        b: at(w, 6),
+        c: at(w, 7),
+        d: at(w, 8),
+        e: at(w, 9),
+    }
+}
+
+fn task_numbers(w: &[u64]) -> TaskNumbers
+    ensures { λ r. ⌜ r ≡ startNumbers (now (w .entry)) ⌝ }
+{
+    TaskNumbers {
+        kind: at(w, 3),
+        a: at(w, 4),
+        b: at(w, 5),
+        c: at(w, 6),
+        d: at(w, 7),
+        e: at(w, 8),
+        f: at(w, 9),
+    }
+}
+
+// Whether the words are a call: as many as it has, with a kind and enums' numbers that exist.
+pub fn call_known(w: &[u64]) -> bool
+    ensures { λ r. ⌜ r ≡ callKnown (now (w .entry)) ⌝ }
+{
+    let kind = at(w, 0);
+    let task = task_numbers(w);
+    let command = command_numbers(w);
+    (w.len() == CALL_WORDS)
+        & (((kind == START) & task.known())
+            | (kind == STEP)
+            | (kind == HALT)
+            | (command.known() & (at(w, 2) <= 2)))
+}
+
+// Sends a call to the lamp. A kind past the last one is no call.
+pub fn sent(lamp: Lamp, w: &[u64]) -> Answer
+    ensures { λ r. ⌜ r ≡ C.sent lamp (now (w .entry)) ⌝ }
+{
+    let kind = at(w, 0);
+    let clock = at(w, 1);
+    if HALT < kind {
+        return lamp.refused(UNREADABLE);
+    }
+    if kind == STEP {
+        return lamp.step(clock);
+    }
+    if kind == START {
+        let numbers = task_numbers(w);
+        return lamp.start(numbers.task(), clock);
+    }
+    if kind == HALT {
+        return lamp.halt(clock);
+    }
+    let numbers = command_numbers(w);
+    invoke(lamp, numbers.command(), enums::on_off(at(w, 2)), clock)
+}

@@ -1,0 +1,78 @@
+-- `sums::Sums::add_color`: the parts are those of the definition.
+-- Assumes nothing.
+use Rattle.measure.specs.Sums.{addedAll}
+use borrow.Author.Needs.{needs}
+use Rattle.measure.proofs.sums.Sums.add_color.Statement.{statement}
+use Rattle.measure.proofs.sums.Sums.add_color.Tie as tie
+use Rattle.matter.proofs.ColorModeEnum.number.Reads as ColorModeEnum-number-reads
+use Rattle.matter.proofs.EnhancedColorModeEnum.number.Reads as EnhancedColorModeEnum-number-reads
+
+add-requires : tie.Need-add-requires
+add-requires c κs = search needs
+
+add-requires-2 : tie.Need-add-requires-2
+add-requires-2 c κs = search needs
+
+add-requires-3 : tie.Need-add-requires-3
+add-requires-3 c κs = search needs
+
+cast-add : tie.Need-cast-add
+cast-add c = search needs
+
+add-requires-4 : tie.Need-add-requires-4
+add-requires-4 c κs = search needs
+
+cast-add-2 : tie.Need-cast-add-2
+cast-add-2 c = search needs
+
+add-requires-5 : tie.Need-add-requires-5
+add-requires-5 c κs = search needs
+
+cast-add-3 : tie.Need-cast-add-3
+cast-add-3 c = search needs
+
+add-requires-6 : tie.Need-add-requires-6
+add-requires-6 c κs = search needs
+
+number-requires : tie.Need-number-requires
+number-requires c κs = search needs
+
+cast-add-4 : tie.Need-cast-add-4
+cast-add-4 c = search needs
+
+add-requires-7 : tie.Need-add-requires-7
+add-requires-7 c κs = search needs
+
+number-requires-2 : tie.Need-number-requires-2
+number-requires-2 c κs = search needs
+
+cast-add-5 : tie.Need-cast-add-5
+cast-add-5 c = search needs
+
+add-requires-8 : tie.Need-add-requires-8
+add-requires-8 c κs = search needs
+
+returns : tie.Need-returns
+unfolding addedAll
+returns c = simp (c .add8 .ensures, c .before .number2 .ensures, c .before .before .add7 .ensures, c .before .before .before .number .ensures, c .before .before .before .before .add6 .ensures, c .before .before .before .before .before .before .add5 .ensures, c .before .before .before .before .before .before .before .before .add4 .ensures, c .before .before .before .before .before .before .before .before .before .before .add3 .ensures, c .before .before .before .before .before .before .before .before .before .before .before .add2 .ensures, c .before .before .before .before .before .before .before .before .before .before .before .before .add .ensures)
+
+pub add-color-spec : {M : Type 1} → statement M
+add-color-spec =
+    tie.close
+    (tie.spec
+    add-requires
+    add-requires-2
+    add-requires-3
+    cast-add
+    add-requires-4
+    cast-add-2
+    add-requires-5
+    cast-add-3
+    add-requires-6
+    number-requires
+    cast-add-4
+    add-requires-7
+    number-requires-2
+    cast-add-5
+    add-requires-8
+    returns)
