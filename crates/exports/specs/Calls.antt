@@ -2,7 +2,7 @@
 -- task's kind and six numbers. The kind of a command is its number in the cluster; 256 is a start, 257 a step, 258 a halt.
 -- Assumes nothing.
 use Prim.Native.Nat.{ℕ}
-use mathlib.Core.Bool.{Bool, cond, _&&_, _||_}
+use mathlib.Core.Bool.{Bool, cond, not, _&&_, _||_}
 use mathlib.Core.List.{List}
 use lib.Dec.{leb, ltb, eqb}
 use lib.ListN.{length}
@@ -64,14 +64,29 @@ commandOf n =
     (cond (eqb (n .kind) 71) (Command.StopMoveStep (optionsOf n))
     (cond (leb 64 (n .kind) && leb (n .kind) 66) (enhancedCommand n) (miredsCommand n)))))
 
--- which can be read: the kind exists, and the enums' numbers do
+-- each argument is within its field: sixteen bits at most, eight for some, 0 or 1 for a flag
+unfoldable pub commandFits : CommandNumbers → Bool
+commandFits n =
+    leb (n .mask) 255 && leb (n .over) 255
+    && leb (n .a) 65535
+    && leb (n .b) 65535
+    && leb (n .c) 65535
+    && leb (n .d) 65535
+    && leb (n .e) 65535
+    && (not (eqb (n .kind) 0 || eqb (n .kind) 3 || eqb (n .kind) 6 || eqb (n .kind) 68) || leb (n .a) 255)
+    && (not (eqb (n .kind) 1 || eqb (n .kind) 2 || eqb (n .kind) 4 || eqb (n .kind) 5 || eqb (n .kind) 6) || leb (n .b) 255)
+    && (not (eqb (n .kind) 1) || leb (n .c) 1)
+    && (not (eqb (n .kind) 6) || leb (n .d) 1)
+
+-- which can be read: the kind exists, the enums' numbers do, and each argument is within its field
 unfoldable pub commandKnown : CommandNumbers → Bool
 commandKnown n =
-    ((eqb (n .kind) 0 || eqb (n .kind) 64) && leb (n .b) 3)
+    commandFits n
+    && (((eqb (n .kind) 0 || eqb (n .kind) 64) && leb (n .b) 3)
     || ((eqb (n .kind) 1 || eqb (n .kind) 4 || eqb (n .kind) 65 || eqb (n .kind) 75) && moveModeKnown (n .a))
     || ((eqb (n .kind) 2 || eqb (n .kind) 5 || eqb (n .kind) 66 || eqb (n .kind) 76) && stepModeKnown (n .a))
     || eqb (n .kind) 3 || eqb (n .kind) 6 || eqb (n .kind) 10 || eqb (n .kind) 71
-    || (eqb (n .kind) 68 && leb (n .b) 2 && leb (n .c) 1)
+    || (eqb (n .kind) 68 && leb (n .b) 2 && leb (n .c) 1))
 
 -- ---- calls
 
@@ -88,7 +103,7 @@ callOf w =
     (cond (eqb (at w 0) 256) (start (taskOf (startNumbers w)) (at w 1))
     (cond (eqb (at w 0) 258) (halt (at w 1)) (command (commandOf (commandNumbers w)) (onOffOf (at w 2)) (at w 1))))
 
--- words that are a call: ten of them, with a kind and enums' numbers that exist
+-- words that are a call: ten of them, with a kind and enums' numbers that exist, and each within its field
 unfoldable pub callKnown : List ℕ → Bool
 callKnown w =
     eqb (length w) 10

@@ -59,9 +59,21 @@ lampOf w =
       running = runningOf (recordOf w);
     }
 
--- whether the enums have their numbers
+-- each number is within its field
+unfoldable pub lampFits : List ℕ → Bool
+lampFits w =
+    leb (at w 0) 65535 && leb (at w 1) 65535 && leb (at w 3) 255 && leb (at w 4) 65535
+    && leb (at w 8) 65535
+    && leb (at w 9) 255
+    && leb (at w 10) 65535
+    && leb (at w 13) 1
+    && leb (at w 15) 65535
+    && leb (at w 16) 65535
+    && leb (at w 17) 65535
+
+-- the enums have their numbers, and each number is within its field
 unfoldable pub lampKnown : List ℕ → Bool
-lampKnown w = leb (at w 11) 2 && leb (at w 12) 3 && leb (at w 14) 1 && recordKnown (recordOf w)
+lampKnown w = lampFits w && leb (at w 11) 2 && leb (at w 12) 3 && leb (at w 14) 1 && recordKnown (recordOf w)
 
 -- ---- writing
 

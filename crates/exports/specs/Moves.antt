@@ -3,7 +3,7 @@
 -- 5 ColorTemperatureMove; 6 ColorLoop; 7 Stop.
 -- Assumes nothing.
 use Prim.Native.Nat.{ℕ}
-use mathlib.Core.Bool.{Bool, cond, _&&_, _||_}
+use mathlib.Core.Bool.{Bool, cond, not, _&&_, _||_}
 use lib.Dec.{eqb, leb}
 use Rattle.matter.specs.Numbers.{moveModeNumber, loopDirectionNumber}
 use Rattle.tasks.specs.declared.HueDelta.{HueDelta}
@@ -72,14 +72,28 @@ startedWith r Task.Stop = Running.Idle
 abbrev pub runningOf : RecordNumbers → Running
 runningOf r = startedWith r (taskOf (r .task))
 
--- which numbers can be read: the kind exists, and the enums' numbers do
+-- each number is within its field
+unfoldable pub taskFits : TaskNumbers → Bool
+taskFits n =
+    (not (eqb (n .kind) 1) || (leb (n .b) 9223372036854775807 && leb (n .c) 1 && leb (n .d) 255 && leb (n .e) 4294967295 && leb (n .f) 1))
+    && (not (eqb (n .kind) 2) || (leb (n .b) 4294967295 && leb (n .c) 1))
+    && (not (eqb (n .kind) 3) || leb (n .b) 4294967295)
+    && (not (eqb (n .kind) 4) || (leb (n .a) 65535 && leb (n .b) 4294967295))
+    && (not (eqb (n .kind) 5) || (leb (n .b) 9223372036854775807 && leb (n .c) 65535 && leb (n .d) 65535))
+    && (not (eqb (n .kind) 6) || leb (n .b) 65535)
+
+-- which numbers can be read: the kind exists, the enums' numbers do, and each is within its field
 unfoldable pub taskKnown : TaskNumbers → Bool
 taskKnown n =
-    (eqb (n .kind) 1 && leb (n .a) 2) || ((eqb (n .kind) 2 || eqb (n .kind) 3) && moveModeKnown (n .a)) || eqb (n .kind) 4
-    || (eqb (n .kind) 5 && leb (n .a) 2) || (eqb (n .kind) 6 && leb (n .a) 1) || eqb (n .kind) 7
+    taskFits n
+    && ((eqb (n .kind) 1 && leb (n .a) 2) || ((eqb (n .kind) 2 || eqb (n .kind) 3) && moveModeKnown (n .a)) || eqb (n .kind) 4
+    || (eqb (n .kind) 5 && leb (n .a) 2) || (eqb (n .kind) 6 && leb (n .a) 1) || eqb (n .kind) 7)
 
 unfoldable pub recordKnown : RecordNumbers → Bool
-recordKnown r = eqb (r .task .kind) 0 || (leb (r .task .kind) 6 && taskKnown (r .task))
+recordKnown r =
+    leb (r .x) 65535 && leb (r .y) 255
+    && (not (eqb (r .task .kind) 3) || leb (r .x) 255)
+    && (eqb (r .task .kind) 0 || (leb (r .task .kind) 6 && taskKnown (r .task)))
 
 -- ---- writing
 

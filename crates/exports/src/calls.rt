@@ -11,7 +11,7 @@ use matter::Command;
 use matter::CommandOptions;
 ghost use mathlib.Core.Path.{_≡_};
 ghost use Rattle.exports.specs.Calls as C;
-ghost use Rattle.exports.specs.Calls.{optionsOf, hueCommand, saturationCommand, enhancedCommand, miredsCommand, loopCommand, commandOf, commandKnown, commandNumbers, startNumbers, callKnown};
+ghost use Rattle.exports.specs.Calls.{optionsOf, hueCommand, saturationCommand, enhancedCommand, miredsCommand, loopCommand, commandOf, commandFits, commandKnown, commandNumbers, startNumbers, callKnown};
 
 pub const CALL_WORDS: usize = 10;
 
@@ -204,19 +204,38 @@ impl CommandNumbers {
         self.mireds_command()
     }
 
-    // Whether the kind and the enums' numbers exist.
+    // Whether each argument is within its field: sixteen bits at most, eight for some, 0 or 1 for a flag.
+    fn fits(self) -> bool
+        ensures { λ r. ⌜ r ≡ commandFits self ⌝ }
+    {
+        let k = self.kind;
+        (self.mask <= 255)
+            & (self.over <= 255)
+            & (self.a <= 65535)
+            & (self.b <= 65535)
+            & (self.c <= 65535)
+            & (self.d <= 65535)
+            & (self.e <= 65535)
+            & (!((k == 0) | (k == 3) | (k == 6) | (k == 68)) | (self.a <= 255))
+            & (!((k == 1) | (k == 2) | (k == 4) | (k == 5) | (k == 6)) | (self.b <= 255))
+            & (!(k == 1) | (self.c <= 1))
+            & (!(k == 6) | (self.d <= 1))
+    }
+
+    // Whether the kind and the enums' numbers exist, and each argument is within its field.
     fn known(self) -> bool
         ensures { λ r. ⌜ r ≡ commandKnown self ⌝ }
     {
         let k = self.kind;
-        (((k == 0) | (k == 64)) & (self.b <= 3))
-            | (((k == 1) | (k == 4) | (k == 65) | (k == 75)) & enums::move_mode_known(self.a))
-            | (((k == 2) | (k == 5) | (k == 66) | (k == 76)) & enums::step_mode_known(self.a))
-            | (k == 3)
-            | (k == 6)
-            | (k == 10)
-            | (k == 71)
-            | ((k == 68) & (self.b <= 2) & (self.c <= 1))
+        self.fits()
+            & ((((k == 0) | (k == 64)) & (self.b <= 3))
+                | (((k == 1) | (k == 4) | (k == 65) | (k == 75)) & enums::move_mode_known(self.a))
+                | (((k == 2) | (k == 5) | (k == 66) | (k == 76)) & enums::step_mode_known(self.a))
+                | (k == 3)
+                | (k == 6)
+                | (k == 10)
+                | (k == 71)
+                | ((k == 68) & (self.b <= 2) & (self.c <= 1)))
     }
 }
 
@@ -249,7 +268,7 @@ fn task_numbers(w: &[u64]) -> TaskNumbers
     }
 }
 
-// Whether the words are a call: as many as it has, with a kind and enums' numbers that exist.
+// Whether the words are a call: as many as it has, with a kind and enums' numbers that exist, and each within its field.
 pub fn call_known(w: &[u64]) -> bool
     ensures { λ r. ⌜ r ≡ callKnown (now (w .entry)) ⌝ }
 {

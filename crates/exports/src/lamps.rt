@@ -14,7 +14,7 @@ use matter::Bounds;
 use remaining_time::RemainingTime;
 ghost use mathlib.Core.Path.{_≡_};
 ghost use Rattle.exports.specs.Words.{at, short};
-ghost use Rattle.exports.specs.Lamps.{colorOf, loopingOf, recordOf, lampOf, lampKnown, lampWords};
+ghost use Rattle.exports.specs.Lamps.{colorOf, loopingOf, recordOf, lampOf, lampFits, lampKnown, lampWords};
 
 pub const LAMP_WORDS: usize = 28;
 
@@ -92,12 +92,29 @@ pub fn lamp_of(w: &[u64]) -> Lamp
     }
 }
 
-// Whether the enums have their numbers.
+// Whether each number is within its field.
+fn lamp_fits(w: &[u64]) -> bool
+    ensures { λ r. ⌜ r ≡ lampFits (now (w .entry)) ⌝ }
+{
+    (at(w, 0) <= 65535)
+        & (at(w, 1) <= 65535)
+        & (at(w, 3) <= 255)
+        & (at(w, 4) <= 65535)
+        & (at(w, 8) <= 65535)
+        & (at(w, 9) <= 255)
+        & (at(w, 10) <= 65535)
+        & (at(w, 13) <= 1)
+        & (at(w, 15) <= 65535)
+        & (at(w, 16) <= 65535)
+        & (at(w, 17) <= 65535)
+}
+
+// Whether the enums have their numbers, and each number is within its field.
 pub fn lamp_known(w: &[u64]) -> bool
     ensures { λ r. ⌜ r ≡ lampKnown (now (w .entry)) ⌝ }
 {
     let record = record(w);
-    (at(w, 11) <= 2) & (at(w, 12) <= 3) & (at(w, 14) <= 1) & record.known()
+    lamp_fits(w) & (at(w, 11) <= 2) & (at(w, 12) <= 3) & (at(w, 14) <= 1) & record.known()
 }
 
 pub fn lamp_words(lamp: Lamp) -> [u64; 28]

@@ -21,7 +21,7 @@ use tasks::Task;
 ghost use mathlib.Core.Path.{_≡_};
 ghost use Rattle.exports.specs.Words.{short};
 ghost use Rattle.exports.specs.Moves as M;
-ghost use Rattle.exports.specs.Moves.{deltaOf, targetOf, moveToOf, hueMoveOf, saturationMoveOf, miredsToOf, miredsMoveOf, colorLoopOf, taskOf, runningOf, taskKnown, recordKnown, deltaSign, deltaSize, targetGiven, targetNumber, moveToNumbers, hueMoveNumbers, saturationMoveNumbers, miredsToNumbers, miredsMoveNumbers, colorLoopNumbers, taskNumbers, givenNumbers, found, recordNumbers};
+ghost use Rattle.exports.specs.Moves.{deltaOf, targetOf, moveToOf, hueMoveOf, saturationMoveOf, miredsToOf, miredsMoveOf, colorLoopOf, taskOf, runningOf, taskFits, taskKnown, recordKnown, deltaSign, deltaSize, targetGiven, targetNumber, moveToNumbers, hueMoveNumbers, saturationMoveNumbers, miredsToNumbers, miredsMoveNumbers, colorLoopNumbers, taskNumbers, givenNumbers, found, recordNumbers};
 
 // The kinds of tasks and records. 0 is no task, and an idle lamp.
 pub const MOVE_TO: u64 = 1;
@@ -37,6 +37,9 @@ pub const MIREDS_MOVE: u64 = 5;
 pub const LOOP: u64 = 6;
 
 pub const STOP: u64 = 7;
+
+// The largest size of a signed number.
+const LARGEST: u64 = 9223372036854775807;
 
 // A task's kind and its six numbers.
 pub struct TaskNumbers {
@@ -136,17 +139,36 @@ impl TaskNumbers {
         }
     }
 
-    // Whether the kind and the enums' numbers exist.
+    // Whether each number is within its field.
+    fn fits(self) -> bool
+        ensures { λ r. ⌜ r ≡ taskFits self ⌝ }
+    {
+        let k = self.kind;
+        (!(k == MOVE_TO)
+            | ((self.b <= LARGEST)
+                & (self.c <= 1)
+                & (self.d <= 255)
+                & (self.e <= 4294967295)
+                & (self.f <= 1)))
+            & (!(k == HUE_MOVE) | ((self.b <= 4294967295) & (self.c <= 1)))
+            & (!(k == SATURATION_MOVE) | (self.b <= 4294967295))
+            & (!(k == MIREDS_TO) | ((self.a <= 65535) & (self.b <= 4294967295)))
+            & (!(k == MIREDS_MOVE) | ((self.b <= LARGEST) & (self.c <= 65535) & (self.d <= 65535)))
+            & (!(k == LOOP) | (self.b <= 65535))
+    }
+
+    // Whether the kind and the enums' numbers exist, and each number is within its field.
     pub fn known(self) -> bool
         ensures { λ r. ⌜ r ≡ taskKnown self ⌝ }
     {
-        ((self.kind == MOVE_TO) & (self.a <= 2))
-            | (((self.kind == HUE_MOVE) | (self.kind == SATURATION_MOVE))
-                & enums::move_mode_known(self.a))
-            | (self.kind == MIREDS_TO)
-            | ((self.kind == MIREDS_MOVE) & (self.a <= 2))
-            | ((self.kind == LOOP) & (self.a <= 1))
-            | (self.kind == STOP)
+        self.fits()
+            & (((self.kind == MOVE_TO) & (self.a <= 2))
+                | (((self.kind == HUE_MOVE) | (self.kind == SATURATION_MOVE))
+                    & enums::move_mode_known(self.a))
+                | (self.kind == MIREDS_TO)
+                | ((self.kind == MIREDS_MOVE) & (self.a <= 2))
+                | ((self.kind == LOOP) & (self.a <= 1))
+                | (self.kind == STOP))
     }
 
     pub fn task(self) -> Task
@@ -175,12 +197,15 @@ impl TaskNumbers {
 }
 
 impl RecordNumbers {
-    // Whether the kind and the enums' numbers exist.
+    // The same of a record.
     pub fn known(self) -> bool
         ensures { λ r. ⌜ r ≡ recordKnown self ⌝ }
     {
         let task = self.task;
-        (task.kind == 0) | ((task.kind <= 6) & task.known())
+        (self.x <= 65535)
+            & (self.y <= 255)
+            & (!(task.kind == SATURATION_MOVE) | (self.x <= 255))
+            & ((task.kind == 0) | ((task.kind <= 6) & task.known()))
     }
 
     fn mireds_run(self, task: ColorTemperatureMove) -> ColorTemperatureRun

@@ -5,12 +5,15 @@ use borrow.Author.Needs.{needs}
 use Rattle.exports.proofs.moves.TaskNumbers.known.Statement.{statement}
 use Rattle.exports.proofs.moves.TaskNumbers.known.Tie as tie
 
+fits-requires : tie.Need-fits-requires
+fits-requires c κs = search needs
+
 move-mode-known-requires : tie.Need-move-mode-known-requires
 move-mode-known-requires c κs = search needs
 
 returns : tie.Need-returns
 unfolding taskKnown
-returns c = simp (c .before .before .before .before .before .before .move-mode-known .ensures)
+returns c = simp (c .before .before .before .before .before .before .move-mode-known .ensures, c .before .before .before .before .before .before .before .before .before .before .before .fits2 .ensures)
 
 pub known-spec : {M : Type 1} → statement M
-known-spec = tie.close (tie.spec move-mode-known-requires returns)
+known-spec = tie.close (tie.spec fits-requires move-mode-known-requires returns)
