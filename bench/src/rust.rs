@@ -5,8 +5,9 @@
 use std::hint::black_box;
 use std::task::Poll;
 
-use oracle_lib::data::{Fields, Record, Task};
+use oracle_lib::data::{Fields, Task};
 use oracle_lib::driver::Handler;
+use oracle_lib::protocol::record_of;
 use oracle_lib::recorder;
 
 use crate::sums::Sums;
@@ -75,29 +76,6 @@ impl<H: Handler + 'static> Side<'_, H> {
                 _ => false,
             }
         });
-    }
-}
-
-/// What a start saves, which the Rust keeps in its future.
-fn record_of(before: &Fields, task: Task, clock: u64) -> Record {
-    let task = match task {
-        Task::CtTo { target, ms } => Task::CtTo {
-            target: target.clamp(before.min, before.max),
-            ms,
-        },
-        Task::CtMove { rate, min, max } => Task::CtMove {
-            rate,
-            min: min.max(before.min),
-            max: max.min(before.max),
-        },
-        task => task,
-    };
-    Record {
-        clock,
-        hue: before.hue,
-        sat: before.sat,
-        mireds: before.mireds,
-        task,
     }
 }
 
