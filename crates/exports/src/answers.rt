@@ -14,7 +14,7 @@ pub fn place(p: [u8; 16], i: usize) -> u64
     if i < 16 { p[i] as u64 } else { 0 }
 }
 
-pub fn answer_words(answer: Answer) -> [u64; 25]
+pub(crate) fn answer_words(answer: Answer) -> [u64; 25]
     ensures { λ r. ⌜ r ≡ answerWords answer ⌝ }
 {
     let notices = answer.notices;

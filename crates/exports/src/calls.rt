@@ -269,7 +269,7 @@ fn task_numbers(w: &[u64]) -> TaskNumbers
 }
 
 // Whether the words are a call: as many as it has, with a kind and enums' numbers that exist, and each within its field.
-pub fn call_known(w: &[u64]) -> bool
+pub(crate) fn call_known(w: &[u64]) -> bool
     ensures { λ r. ⌜ r ≡ callKnown (now (w .entry)) ⌝ }
 {
     let kind = at(w, 0);

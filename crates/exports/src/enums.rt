@@ -10,7 +10,7 @@ use matter::StepModeEnum;
 ghost use mathlib.Core.Path.{_≡_};
 ghost use Rattle.exports.specs.Enums.{directionOf, moveModeOf, stepModeOf, loopActionOf, loopDirectionOf, colorModeOf, enhancedModeOf, onOffOf, moveModeKnown, stepModeKnown};
 
-pub fn direction(n: u64) -> DirectionEnum
+pub(crate) fn direction(n: u64) -> DirectionEnum
     ensures { λ r. ⌜ r ≡ directionOf n ⌝ }
 {
     if n == 1 {
@@ -25,7 +25,7 @@ pub fn direction(n: u64) -> DirectionEnum
     DirectionEnum::Shortest
 }
 
-pub fn move_mode(n: u64) -> MoveModeEnum
+pub(crate) fn move_mode(n: u64) -> MoveModeEnum
     ensures { λ r. ⌜ r ≡ moveModeOf n ⌝ }
 {
     if n == 1 {
@@ -37,7 +37,7 @@ pub fn move_mode(n: u64) -> MoveModeEnum
     MoveModeEnum::Stop
 }
 
-pub fn step_mode(n: u64) -> StepModeEnum
+pub(crate) fn step_mode(n: u64) -> StepModeEnum
     ensures { λ r. ⌜ r ≡ stepModeOf n ⌝ }
 {
     if n == 1 {
@@ -46,7 +46,7 @@ pub fn step_mode(n: u64) -> StepModeEnum
     StepModeEnum::Down
 }
 
-pub fn loop_action(n: u64) -> ColorLoopActionEnum
+pub(crate) fn loop_action(n: u64) -> ColorLoopActionEnum
     ensures { λ r. ⌜ r ≡ loopActionOf n ⌝ }
 {
     if n == 1 {
@@ -58,7 +58,7 @@ pub fn loop_action(n: u64) -> ColorLoopActionEnum
     ColorLoopActionEnum::Deactivate
 }
 
-pub fn loop_direction(n: u64) -> ColorLoopDirectionEnum
+pub(crate) fn loop_direction(n: u64) -> ColorLoopDirectionEnum
     ensures { λ r. ⌜ r ≡ loopDirectionOf n ⌝ }
 {
     if n == 1 {
@@ -67,7 +67,7 @@ pub fn loop_direction(n: u64) -> ColorLoopDirectionEnum
     ColorLoopDirectionEnum::Decrement
 }
 
-pub fn color_mode(n: u64) -> ColorModeEnum
+pub(crate) fn color_mode(n: u64) -> ColorModeEnum
     ensures { λ r. ⌜ r ≡ colorModeOf n ⌝ }
 {
     if n == 1 {
@@ -79,7 +79,7 @@ pub fn color_mode(n: u64) -> ColorModeEnum
     ColorModeEnum::CurrentHueAndCurrentSaturation
 }
 
-pub fn enhanced_mode(n: u64) -> EnhancedColorModeEnum
+pub(crate) fn enhanced_mode(n: u64) -> EnhancedColorModeEnum
     ensures { λ r. ⌜ r ≡ enhancedModeOf n ⌝ }
 {
     if n == 1 {
@@ -94,7 +94,7 @@ pub fn enhanced_mode(n: u64) -> EnhancedColorModeEnum
     EnhancedColorModeEnum::CurrentHueAndCurrentSaturation
 }
 
-pub fn on_off(n: u64) -> OnOff
+pub(crate) fn on_off(n: u64) -> OnOff
     ensures { λ r. ⌜ r ≡ onOffOf n ⌝ }
 {
     if n == 1 {
@@ -107,13 +107,13 @@ pub fn on_off(n: u64) -> OnOff
 }
 
 // Whether a move mode has the number, and a step mode.
-pub fn move_mode_known(n: u64) -> bool
+pub(crate) fn move_mode_known(n: u64) -> bool
     ensures { λ r. ⌜ r ≡ moveModeKnown n ⌝ }
 {
     (n <= 1) | (n == 3)
 }
 
-pub fn step_mode_known(n: u64) -> bool
+pub(crate) fn step_mode_known(n: u64) -> bool
     ensures { λ r. ⌜ r ≡ stepModeKnown n ⌝ }
 {
     (n == 1) | (n == 3)

@@ -110,14 +110,14 @@ fn lamp_fits(w: &[u64]) -> bool
 }
 
 // Whether the enums have their numbers, and each number is within its field.
-pub fn lamp_known(w: &[u64]) -> bool
+pub(crate) fn lamp_known(w: &[u64]) -> bool
     ensures { λ r. ⌜ r ≡ lampKnown (now (w .entry)) ⌝ }
 {
     let record = record(w);
     lamp_fits(w) & (at(w, 11) <= 2) & (at(w, 12) <= 3) & (at(w, 14) <= 1) & record.known()
 }
 
-pub fn lamp_words(lamp: Lamp) -> [u64; 28]
+pub(crate) fn lamp_words(lamp: Lamp) -> [u64; 28]
     ensures { λ r. ⌜ r ≡ lampWords lamp ⌝ }
 {
     let color = lamp.color;

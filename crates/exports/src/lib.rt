@@ -21,12 +21,25 @@ pub use moves::of_given;
 pub use moves::of_running;
 pub use words::of_flag;
 ghost use mathlib.Core.Path.{_≡_};
+ghost use lib.ListN.{length};
 ghost use Rattle.exports.specs.Exported.{made, answered};
 
 // The numbers of words that cannot be taken: no lamp (101), no room for the answer (102). calls::UNREADABLE (100): no call.
 pub const UNREADABLE_LAMP: u64 = 101;
 
 pub const NO_ROOM: u64 = 102;
+
+// Writes all of src over dst, which is as long.
+fn copy(src: &[u64], dst: &mut [u64])
+    requires { ⌜ length (now src) ≡ length (now dst) ⌝ }
+    ensures { λ _. ⌜ now (dst .exit) ≡ now (src .entry) ⌝ }
+{
+    let mut i = 0;
+    while i < src.len() {
+        dst[i] = src[i];
+        i += 1;
+    }
+}
 
 // Makes a fresh lamp in `words`, of which there are 28. 0, or the number of the refusal: 4 (clock), 5 (crossed bounds),
 // 101 (not 28 words); then nothing changes.
@@ -50,7 +63,7 @@ pub extern "C" fn yemkruos_new(
     match made {
         Made::Lamp(lamp) => {
             let after = lamps::lamp_words(lamp);
-            words::copy(&after, words);
+            copy(&after, words);
             0
         }
         Made::Refused(number) => number as u64,
@@ -81,8 +94,8 @@ pub extern "C" fn yemkruos_call(words: &mut [u64], call: &[u64], answer: &mut [u
     let sent = calls::sent(lamps::lamp_of(words), call);
     let lamp = sent.lamp;
     let after = lamps::lamp_words(lamp);
-    words::copy(&after, words);
+    copy(&after, words);
     let told = answers::answer_words(sent);
-    words::copy(&told, answer);
+    copy(&told, answer);
     sent.number as u64
 }

@@ -158,7 +158,7 @@ impl TaskNumbers {
     }
 
     // Whether the kind and the enums' numbers exist, and each number is within its field.
-    pub fn known(self) -> bool
+    pub(crate) fn known(self) -> bool
         ensures { λ r. ⌜ r ≡ taskKnown self ⌝ }
     {
         self.fits()
@@ -171,7 +171,7 @@ impl TaskNumbers {
                 | (self.kind == STOP))
     }
 
-    pub fn task(self) -> Task
+    pub(crate) fn task(self) -> Task
         ensures { λ r. ⌜ r ≡ taskOf self ⌝ }
     {
         if self.kind == MOVE_TO {
@@ -198,7 +198,7 @@ impl TaskNumbers {
 
 impl RecordNumbers {
     // The same of a record.
-    pub fn known(self) -> bool
+    pub(crate) fn known(self) -> bool
         ensures { λ r. ⌜ r ≡ recordKnown self ⌝ }
     {
         let task = self.task;
@@ -220,7 +220,7 @@ impl RecordNumbers {
         }
     }
 
-    pub fn running(self) -> Running
+    pub(crate) fn running(self) -> Running
         ensures { λ r. ⌜ r ≡ runningOf self ⌝ }
     {
         let numbers = self.task;
@@ -391,7 +391,7 @@ fn of_color_loop(t: ColorLoop) -> TaskNumbers
     )
 }
 
-pub fn of_task(task: Task) -> TaskNumbers
+pub(crate) fn of_task(task: Task) -> TaskNumbers
     ensures { λ r. ⌜ r ≡ taskNumbers task ⌝ }
 {
     match task {

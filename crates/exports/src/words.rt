@@ -1,54 +1,41 @@
 // Words and numbers. A lamp, a call and an answer are slices of 64-bit words; a number of a narrower field is read by the
 // field's width.
 ghost use mathlib.Core.Path.{_≡_};
-ghost use lib.ListN.{length};
 ghost use Rattle.exports.specs.Words as W;
 
 // The word at a place, 0 past the end.
-pub fn at(words: &[u64], i: usize) -> u64
+pub(crate) fn at(words: &[u64], i: usize) -> u64
     ensures { λ r. ⌜ r ≡ W.at (now (words .entry)) i ⌝ }
 {
     if i < words.len() { words[i] } else { 0 }
 }
 
-// Writes all of src over dst, which is as long.
-pub fn copy(src: &[u64], dst: &mut [u64])
-    requires { ⌜ length (now src) ≡ length (now dst) ⌝ }
-    ensures { λ _. ⌜ now (dst .exit) ≡ now (src .entry) ⌝ }
-{
-    let mut i = 0;
-    while i < src.len() {
-        dst[i] = src[i];
-        i += 1;
-    }
-}
-
-pub fn byte(x: u64) -> u8
+pub(crate) fn byte(x: u64) -> u8
     ensures { λ r. ⌜ r ≡ W.byte x ⌝ }
 {
     (x % 256) as u8
 }
 
-pub fn short(x: u64) -> u16
+pub(crate) fn short(x: u64) -> u16
     ensures { λ r. ⌜ r ≡ W.short x ⌝ }
 {
     (x % 65536) as u16
 }
 
-pub fn long(x: u64) -> u32
+pub(crate) fn long(x: u64) -> u32
     ensures { λ r. ⌜ r ≡ W.long x ⌝ }
 {
     (x % 4294967296) as u32
 }
 
-pub fn flag(x: u64) -> bool
+pub(crate) fn flag(x: u64) -> bool
     ensures { λ r. ⌜ r ≡ W.flag x ⌝ }
 {
     x == 1
 }
 
 // A signed number of its sign, 1 up or 2 down, and its size.
-pub fn signed(sign: u64, size: u64) -> i64
+pub(crate) fn signed(sign: u64, size: u64) -> i64
     ensures { λ r. ⌜ r ≡ W.signed sign size ⌝ }
 {
     let n = (size % 9223372036854775808) as i64;
@@ -56,13 +43,13 @@ pub fn signed(sign: u64, size: u64) -> i64
 }
 
 // The sign of a number: 2 below 0, else 1.
-pub fn sign_of(n: i64) -> u64
+pub(crate) fn sign_of(n: i64) -> u64
     ensures { λ r. ⌜ r ≡ W.signOf n ⌝ }
 {
     if n < 0 { 2 } else { 1 }
 }
 
-pub fn size_of(n: i64) -> u64
+pub(crate) fn size_of(n: i64) -> u64
     ensures { λ r. ⌜ r ≡ W.sizeOf n ⌝ }
 {
     if n < -9223372036854775807 {

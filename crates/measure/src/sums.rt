@@ -23,7 +23,7 @@ pub struct Sums {
 }
 
 impl Sums {
-    pub fn add(self, x: u64) -> Sums
+    pub(crate) fn add(self, x: u64) -> Sums
         ensures { λ r. ⌜ r ≡ added self x ⌝ }
     {
         let a = wrapping_add_u64(self.a, x);
@@ -121,7 +121,7 @@ impl Sums {
             .add(place(p, 15))
     }
 
-    pub fn add_answer(self, answer: Answer) -> Sums
+    pub(crate) fn add_answer(self, answer: Answer) -> Sums
         ensures { λ r. ⌜ r ≡ answerAdded self answer ⌝ }
     {
         let lamp = answer.lamp;

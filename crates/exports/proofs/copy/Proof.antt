@@ -9,8 +9,8 @@ use native.Mathlib.Omega.{arith}
 use lib.ListN.{length, take, drop, getD, set, length-set}
 use borrow.Author.Count.{falls}
 use borrow.Author.Needs.{needs}
-use Rattle.exports.proofs.words.copy.Statement.{statement}
-use Rattle.exports.proofs.words.copy.Tie as tie
+use Rattle.exports.proofs.copy.Statement.{statement}
+use Rattle.exports.proofs.copy.Tie as tie
 
 Inv-loop : tie.InvT-loop
 Inv-loop src dst₀ i₀ dst i = (i ≤ length src) × ((dst ≡ take i src ++ drop i dst₀) × (length dst ≡ length dst₀))
