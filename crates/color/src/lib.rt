@@ -72,12 +72,17 @@ fn tell_change(
 ) -> Notices
     ensures { λ r. ⌜ r ≡ pushedAll list (changeNotices «loop_active» told (attribute ∷ only «is_enhanced» EnhancedCurrentHue)) ⌝ }
 {
-    list.push_if(!loop_active, notices::MARKED_DIRTY)
-        .push_if(told, attribute)
-        .push_if(told & is_enhanced, notices::ENHANCED_CURRENT_HUE)
-        .push_if(told, notices::COLOR_MODE)
-        .push_if(told, notices::ENHANCED_COLOR_MODE)
-        .push(notices::SCENES_TOLD)
+    list.push_each(
+        [!loop_active, told, told & is_enhanced, told, told, true],
+        [
+            notices::MARKED_DIRTY,
+            attribute,
+            notices::ENHANCED_CURRENT_HUE,
+            notices::COLOR_MODE,
+            notices::ENHANCED_COLOR_MODE,
+            notices::SCENES_TOLD,
+        ],
+    )
 }
 
 fn hue_mode(is_enhanced: bool) -> EnhancedColorModeEnum

@@ -5,3 +5,5 @@ pub mod Lamps
 pub mod Calls
 pub mod Answers
 pub mod Exported
+pub mod Laws
+pub mod Carried

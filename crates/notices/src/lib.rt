@@ -1,7 +1,7 @@
 // What a call tells, in the order in which it comes: a list of notice numbers in sixteen places, unused places 0.
 ghost use mathlib.Core.Path.{_≡_};
 ghost use mathlib.Core.List.{[]};
-ghost use Rattle.notices.specs.Notices.{pushed, pushedAll, only, noted};
+ghost use Rattle.notices.specs.Notices.{pushed, pushedAll, only, chosen, noted};
 
 // The numbers of the notices, as document 01 lists them.
 pub const REMAINING_TIME: u8 = 1;
@@ -73,5 +73,27 @@ impl Notices {
         ensures { λ r. ⌜ r ≡ pushedAll self (only test number) ⌝ }
     {
         if test { self.push(number) } else { self }
+    }
+
+    // Of six notices those whose tests hold, one after the other.
+    pub fn push_each(self, tests: [bool; 6], numbers: [u8; 6]) -> Self
+        ensures { λ r. ⌜ r ≡ pushedAll self (chosen tests numbers) ⌝ }
+    {
+        let mut places = self.places;
+        let mut len = self.len;
+        let mut i = 0;
+        while i < 6 {
+            if tests[i] {
+                if len < 16 {
+                    places[len] = numbers[i];
+                    len += 1;
+                }
+            }
+            i += 1;
+        }
+        Notices {
+            places: places,
+            len: len,
+        }
     }
 }

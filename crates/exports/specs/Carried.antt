@@ -1,0 +1,273 @@
+-- A lamp carried in words: from one that was made, through any list of calls, the words are those of the lamp that the
+-- lamp's own definitions leave, and no call finds them to be no lamp. Whatever the words of a call are, and whether its
+-- answer has room or not; a call's clock is a word of 64 bits.
+-- Assumes nothing.
+use Prim.Native.Nat.{ℕ, zero, suc, _%_, _^_, _<_, _≤_}
+use mathlib.Core.Bool.{Bool, true, false, cond, not, _&&_, _||_}
+use mathlib.Core.List.{List, [], _∷_}
+use mathlib.Core.Path.{_≡_, refl, sym, ap, _∙_}
+use native.Mathlib.Omega.{arith}
+use lib.Dec.{leb, ltb, eqb}
+use lib.IntN.{pos, negℤ}
+use lib.ListN.{length}
+use lib.Signed.{mag}
+use borrow.Author.Tests.{ltb-false}
+use Rattle.matter.specs.declared.Bounds.{Bounds}
+use Rattle.matter.specs.declared.Command.{Command}
+use Rattle.matter.specs.Laws.{cond-both}
+use Rattle.matter.specs.Limits.{clockLimit, hueLimit, saturationLimit}
+use Rattle.matter.specs.Typed.{Byte, Clock, TypedBounds, TypedOptions, TypedCommand}
+use Rattle.tasks.specs.declared.HueDelta.{HueDelta}
+use Rattle.tasks.specs.declared.TargetSaturation.{TargetSaturation}
+use Rattle.tasks.specs.declared.Task.{Task}
+use Rattle.tasks.specs.Form.{taskForm}
+use Rattle.tasks.specs.Runs.{runs}
+use Rattle.tasks.specs.Typed.{Signed64, TypedDelta, TypedTarget, TypedTask}
+use Rattle.lamp.specs.declared.Lamp.{Lamp}
+use Rattle.lamp.specs.declared.Answer.{Answer}
+use Rattle.lamp.specs.Answers.{badClock, formOrClock, refusal}
+use Rattle.lamp.specs.Form.{lampForm}
+use Rattle.lamp.specs.Laws.{fresh-form}
+use Rattle.lamp.specs.Making.{freshLamp, making}
+use Rattle.lamp.specs.Typed.{Call, command, start, step, halt, TypedLamp, TypedCall}
+use Rattle.lamp.specs.TypedKept.{typed-of}
+use Rattle.commands.specs.Answers.{allowed, afterClock, commandCause, cause, answer}
+use Rattle.commands.specs.Commands.{stopMode, unless0, numberCause, crossed}
+use Rattle.commands.specs.Kept.{number-is-cause, form-kept, typed-kept}
+use Rattle.exports.specs.declared.moves.TaskNumbers.{TaskNumbers}
+use Rattle.exports.specs.declared.calls.CommandNumbers.{CommandNumbers}
+use Rattle.exports.specs.Words.{at, signed}
+use Rattle.exports.specs.Moves.{deltaOf, targetOf, moveToOf, hueMoveOf, saturationMoveOf, miredsToOf, miredsMoveOf, colorLoopOf, taskOf}
+use Rattle.exports.specs.Lamps.{lampWords}
+use Rattle.exports.specs.Calls.{optionsOf, hueCommand, saturationCommand, enhancedCommand, miredsCommand, loopCommand, commandOf, commandNumbers, startNumbers, callOf, unreadable, callKnown, sent}
+use Rattle.exports.specs.Exported.{Answered, unreadableLamp, noRoom, made, taken, away, answered}
+use Rattle.exports.specs.Laws.{lamp-back}
+
+-- ---- a call that is read has its numbers within their types, if its clock has
+
+-- a size below 2 ^ 63, turned
+turned : (n : ℕ) → n < 2 ^ 63 → mag (negℤ (pos n)) < 2 ^ 63
+turned zero h = h
+turned (suc n) h = omega arith
+
+signed-typed : (sign size : ℕ) → Signed64 (signed sign size)
+unfolding signed
+signed-typed sign size =
+    cond-both Signed64 (eqb sign 2) _ (pos (size % 2 ^ 63)) (λ e. turned (size % 2 ^ 63) (omega arith)) (λ e. omega arith)
+
+delta-typed : (sign size : ℕ) → TypedDelta (deltaOf sign size)
+unfolding deltaOf
+delta-typed sign size = cond-both TypedDelta (eqb sign 0) HueDelta.Keep (HueDelta.By (signed sign size)) (λ e. tt) (λ e. signed-typed sign size)
+
+target-typed : (given saturation : ℕ) → TypedTarget (targetOf given saturation)
+unfolding targetOf
+target-typed given saturation = cond-both TypedTarget (eqb given 0) TargetSaturation.Keep _ (λ e. tt) (λ e. omega arith)
+
+task-typed : (n : TaskNumbers) → TypedTask (taskOf n)
+unfolding taskOf moveToOf hueMoveOf saturationMoveOf miredsToOf miredsMoveOf colorLoopOf
+task-typed n =
+    cond-both TypedTask (eqb (n .kind) 1) _ _
+    (λ e. record { delta = delta-typed (n .a) (n .b); saturation = target-typed (n .c) (n .d); ms = omega arith })
+    (λ e. cond-both TypedTask (eqb (n .kind) 2) _ _ (λ e. omega arith)
+    (λ e. cond-both TypedTask (eqb (n .kind) 3) _ _ (λ e. omega arith)
+    (λ e. cond-both TypedTask (eqb (n .kind) 4) _ _ (λ e. record { target = omega arith; ms = omega arith })
+    (λ e. cond-both TypedTask (eqb (n .kind) 5) _ _ (λ e. record { rate = signed-typed (n .a) (n .b); min = omega arith; max = omega arith })
+    (λ e. cond-both TypedTask (eqb (n .kind) 6) _ Task.Stop (λ e. omega arith) (λ e. tt))))))
+
+options-typed : (n : CommandNumbers) → TypedOptions (optionsOf n)
+unfolding optionsOf
+options-typed n = record { mask = omega arith; over = omega arith }
+
+hue-typed : (n : CommandNumbers) → TypedCommand (hueCommand n)
+unfolding hueCommand
+hue-typed n =
+    cond-both TypedCommand (eqb (n .kind) 0) _ _ (λ e. (omega arith, omega arith, options-typed n))
+    (λ e. cond-both TypedCommand (eqb (n .kind) 1) _ _ (λ e. (omega arith, options-typed n)) (λ e. (omega arith, omega arith, options-typed n)))
+
+saturation-typed : (n : CommandNumbers) → TypedCommand (saturationCommand n)
+unfolding saturationCommand
+saturation-typed n =
+    cond-both TypedCommand (eqb (n .kind) 3) _ _ (λ e. (omega arith, omega arith, options-typed n))
+    (λ e. cond-both TypedCommand (eqb (n .kind) 4) _ _ (λ e. (omega arith, options-typed n))
+    (λ e. cond-both TypedCommand (eqb (n .kind) 5) _ _ (λ e. (omega arith, omega arith, options-typed n))
+    (λ e. (omega arith, omega arith, omega arith, omega arith, options-typed n))))
+
+enhanced-typed : (n : CommandNumbers) → TypedCommand (enhancedCommand n)
+unfolding enhancedCommand
+enhanced-typed n =
+    cond-both TypedCommand (eqb (n .kind) 64) _ _ (λ e. (omega arith, omega arith, options-typed n))
+    (λ e. cond-both TypedCommand (eqb (n .kind) 65) _ _ (λ e. (omega arith, options-typed n)) (λ e. (omega arith, omega arith, options-typed n)))
+
+mireds-typed : (n : CommandNumbers) → TypedCommand (miredsCommand n)
+unfolding miredsCommand
+mireds-typed n =
+    cond-both TypedCommand (eqb (n .kind) 10) _ _ (λ e. (omega arith, omega arith, options-typed n))
+    (λ e. cond-both TypedCommand (eqb (n .kind) 75) _ _ (λ e. (omega arith, omega arith, omega arith, options-typed n))
+    (λ e. (omega arith, omega arith, omega arith, omega arith, options-typed n)))
+
+command-typed : (n : CommandNumbers) → TypedCommand (commandOf n)
+unfolding commandOf loopCommand
+command-typed n =
+    cond-both TypedCommand (leb (n .kind) 2) _ _ (λ e. hue-typed n)
+    (λ e. cond-both TypedCommand (leb (n .kind) 6) _ _ (λ e. saturation-typed n)
+    (λ e. cond-both TypedCommand (eqb (n .kind) 68) _ _ (λ e. (omega arith, omega arith, omega arith, options-typed n))
+    (λ e. cond-both TypedCommand (eqb (n .kind) 71) _ _ (λ e. options-typed n)
+    (λ e. cond-both TypedCommand (leb 64 (n .kind) && leb (n .kind) 66) _ _ (λ e. enhanced-typed n) (λ e. mireds-typed n)))))
+
+pub call-typed : (call : List ℕ) → Clock (at call 1) → TypedCall (callOf call)
+unfolding callOf
+call-typed call clock =
+    cond-both TypedCall (eqb (at call 0) 257) _ _ (λ e. clock)
+    (λ e. cond-both TypedCall (eqb (at call 0) 256) _ _ (λ e. (task-typed (startNumbers call), clock))
+    (λ e. cond-both TypedCall (eqb (at call 0) 258) _ _ (λ e. clock) (λ e. (command-typed (commandNumbers call), clock))))
+
+-- ---- the numbers of causes end at 8
+
+number-small : (bad : Bool) (number : ℕ) → number ≤ 8 → unless0 bad number ≤ 8
+number-small bad number h = cond-both (λ n. n ≤ 8) bad number 0 (λ e. h) (λ e. omega arith)
+
+own-small : (c : Command) → numberCause c ≤ 8
+own-small (Command.MoveToHue hue direction time options) = number-small (ltb hueLimit hue) 1 (omega arith)
+own-small (Command.MoveHue mode rate enhanced options) = number-small (eqb rate 0) 2 (omega arith)
+own-small (Command.StepHue mode size time options) = number-small (eqb size 0) 2 (omega arith)
+own-small (Command.MoveToSaturation saturation time options) = number-small (ltb saturationLimit saturation) 1 (omega arith)
+own-small (Command.MoveSaturation mode rate options) = number-small (eqb rate 0) 2 (omega arith)
+own-small (Command.StepSaturation mode size time options) = number-small (eqb size 0) 2 (omega arith)
+own-small (Command.MoveToHueAndSaturation hue saturation time enhanced enhancedHue options) =
+    number-small ((not enhanced && ltb hueLimit hue) || ltb saturationLimit saturation) 1 (omega arith)
+own-small (Command.EnhancedMoveToHue hue direction time options) = omega arith
+own-small (Command.EnhancedMoveHue mode rate options) = number-small (eqb rate 0) 2 (omega arith)
+own-small (Command.EnhancedStepHue mode size time options) = number-small (eqb size 0) 2 (omega arith)
+own-small (Command.MoveToColorTemperature mireds time options) = number-small (eqb mireds 0) 1 (omega arith)
+own-small (Command.MoveColorTemperature mode rate min max options) = number-small (eqb rate 0) 2 (omega arith)
+own-small (Command.StepColorTemperature mode size time min max options) = number-small (eqb size 0) 2 (omega arith)
+own-small (Command.ColorLoopSet flags action direction time startHue options) = omega arith
+own-small (Command.StopMoveStep options) = omega arith
+
+first-small : (l : Lamp) (clock : ℕ) → formOrClock l clock ≤ 8
+unfolding formOrClock
+first-small l clock =
+    cond-both (λ n. n ≤ 8) (not (lampForm l)) 8 _ (λ e. omega arith) (λ e. number-small (badClock l clock) 4 (omega arith))
+
+cause-small : (l : Lamp) (x : Call) → cause l x ≤ 8
+unfolding cause commandCause
+cause-small l (command c onOff clock) =
+    cond-both (λ n. n ≤ 8) (eqb (formOrClock l clock) 0) (afterClock l c onOff) (formOrClock l clock)
+    (λ e. cond-both (λ n. n ≤ 8) (stopMode c) 0 _ (λ e. omega arith)
+    (λ e. cond-both (λ n. n ≤ 8) (eqb (numberCause c) 0) _ (numberCause c) (λ e. number-small (allowed l c onOff && crossed (l .bounds) c) 3 (omega arith)) (λ e. own-small c)))
+    (λ e. first-small l clock)
+cause-small l (start task clock) =
+    cond-both (λ n. n ≤ 8) (eqb (formOrClock l clock) 0) _ (formOrClock l clock)
+    (λ e. cond-both (λ n. n ≤ 8) (taskForm task) 0 6 (λ e. omega arith) (λ e. omega arith))
+    (λ e. first-small l clock)
+cause-small l (step clock) =
+    cond-both (λ n. n ≤ 8) (not (lampForm l)) 8 _ (λ e. omega arith)
+    (λ e. cond-both (λ n. n ≤ 8) (not (runs (l .running))) 7 _ (λ e. omega arith) (λ e. number-small (badClock l clock) 4 (omega arith)))
+cause-small l (halt clock) = first-small l clock
+
+sent-small : (l : Lamp) (call : List ℕ) → sent l call .number ≤ 100
+unfolding sent
+sent-small l call =
+    cond-both (λ (r : Answer). r .number ≤ 100) (ltb 258 (at call 0)) (refusal l unreadable) (answer l (callOf call)) (λ e. omega arith)
+    (λ e. omega (arith, number-is-cause l (callOf call), cause-small l (callOf call)))
+
+-- ---- one call
+
+-- a typed lamp in form
+pub record Good (l : Lamp) : Type 0 where
+  pub formed : lampForm l ≡ true
+  pub typed : TypedLamp l
+
+-- what a call of these words, with this room for its answer, leaves of a lamp; and what is left of the lamp
+unfoldable pub replied : Lamp → List ℕ → List ℕ → Answered
+replied l call answer =
+    cond (not (eqb (length answer) 25)) (away noRoom (lampWords l) answer)
+    (cond (not (callKnown call)) (away unreadable (lampWords l) answer) (taken (sent l call)))
+
+unfoldable pub left : Lamp → List ℕ → List ℕ → Lamp
+left l call answer = cond (eqb (length answer) 25 && callKnown call) (sent l call .lamp) l
+
+module _ (l : Lamp) (good : Good l) (call answer : List ℕ) where
+  -- the words of a typed lamp in form are taken for that lamp
+  pub answered-is : answered (lampWords l) call answer ≡ replied l call answer
+  unfolding answered replied
+  answered-is = let b = lamp-back l (good .formed) (good .typed) in simp (b .taken, b .same)
+
+  -- and the call leaves the words of the lamp that it leaves
+  pub words-left : answered (lampWords l) call answer .lamp ≡ lampWords (left l call answer)
+  unfolding replied left
+  words-left = ap (λ (r : Answered). r .lamp) answered-is ∙ by-tests (eqb (length answer) 25) (callKnown call) refl refl
+    where
+      by-tests : (p q : Bool) → eqb (length answer) 25 ≡ p → callKnown call ≡ q → replied l call answer .lamp ≡ lampWords (left l call answer)
+      by-tests true true e f = simp (e, f)
+      by-tests true false e f = simp (e, f)
+      by-tests false q e f = simp e
+
+  -- which is a typed lamp in form again
+  pub good-left : Clock (at call 1) → Good (left l call answer)
+  unfolding left sent
+  good-left clock =
+      cond-both Good (eqb (length answer) 25 && callKnown call) _ l
+      (λ e. cond-both (λ (r : Answer). Good (r .lamp)) (ltb 258 (at call 0)) _ _ (λ e. good)
+      (λ e. record { formed = form-kept l (callOf call) (good .formed); typed = typed-kept l (callOf call) (good .formed) (good .typed) (call-typed call clock) }))
+      (λ e. good)
+
+  -- it is not answered as one to no lamp
+  pub readable : answered (lampWords l) call answer .number ≡ unreadableLamp → ⊥
+  unfolding replied
+  readable z = by-tests (eqb (length answer) 25) (callKnown call) refl refl (sym (ap (λ (r : Answered). r .number) answered-is) ∙ z)
+    where
+      by-tests : (p q : Bool) → eqb (length answer) 25 ≡ p → callKnown call ≡ q → replied l call answer .number ≡ 101 → ⊥
+      by-tests true true e f z = omega (arith, simp (e, f) at z, sent-small l call)
+      by-tests true false e f z = omega (arith, simp (e, f) at z)
+      by-tests false q e f z = omega (arith, simp e at z)
+
+-- ---- a lamp that is made
+
+module _ (w : List ℕ) (bounds : Bounds) (features options clock : ℕ) where
+  -- its words are those of a fresh lamp, which is a typed lamp in form
+  pub made-good : TypedBounds bounds → Byte options → made w bounds features options clock .number ≡ 0 → Good (freshLamp bounds features options clock) × (made w bounds features options clock .lamp ≡ lampWords (freshLamp bounds features options clock))
+  unfolding made making
+  made-good b o z = by-tests (eqb (length w) 28) (ltb clockLimit clock) (ltb (bounds .max) (bounds .min)) refl refl refl z
+    where
+      by-tests : (p q r : Bool) → eqb (length w) 28 ≡ p → ltb clockLimit clock ≡ q → ltb (bounds .max) (bounds .min) ≡ r → made w bounds features options clock .number ≡ 0 → Good (freshLamp bounds features options clock) × (made w bounds features options clock .lamp ≡ lampWords (freshLamp bounds features options clock))
+      by-tests true false false e f g z =
+          let formed = fresh-form bounds features options clock (ltb-false _ _ g) (ltb-false _ _ f) in
+          (record { formed = formed; typed = typed-of _ formed b (omega arith) (omega arith) (omega arith) (omega arith) (omega arith) o tt }, simp (e, f, g))
+      by-tests true false true e f g z = absurd (omega (arith, simp (e, f, g) at z))
+      by-tests true true r e f g z = absurd (omega (arith, simp (e, f) at z))
+      by-tests false q r e f g z = absurd (omega (arith, simp e at z))
+
+-- ---- calls one after another
+
+-- a call's words, and those that stand where its answer is to go
+pub record Sending : Type 0 where
+  pub call : List ℕ
+  pub answer : List ℕ
+
+-- the words that are left, and the lamp that is
+abbrev pub wordsAfter : List ℕ → List Sending → List ℕ
+wordsAfter w [] = w
+wordsAfter w (x ∷ xs) = wordsAfter (answered w (x .call) (x .answer) .lamp) xs
+
+abbrev pub lampAfter : Lamp → List Sending → Lamp
+lampAfter l [] = l
+lampAfter l (x ∷ xs) = lampAfter (left l (x .call) (x .answer)) xs
+
+abbrev pub Clocks : List Sending → Type 0
+Clocks [] = Unit
+Clocks (x ∷ xs) = Clock (at (x .call) 1) × Clocks xs
+
+pub carried : (l : Lamp) (xs : List Sending) → Good l → Clocks xs → Good (lampAfter l xs) × (wordsAfter (lampWords l) xs ≡ lampWords (lampAfter l xs))
+carried l [] good c = (good, refl)
+carried l (x ∷ xs) good c =
+    let r = carried (left l (x .call) (x .answer)) xs (good-left l good (x .call) (x .answer) (c .0)) (c .1) in
+    (r .0, ap (λ (w : List ℕ). wordsAfter w xs) (words-left l good (x .call) (x .answer)) ∙ r .1)
+
+-- a lamp that was made and went through these calls alone is a lamp to the next one
+pub never-unreadable : (w : List ℕ) (bounds : Bounds) (features options clock : ℕ) (xs : List Sending) (call answer : List ℕ) → TypedBounds bounds → Byte options → made w bounds features options clock .number ≡ 0 → Clocks xs → answered (wordsAfter (made w bounds features options clock .lamp) xs) call answer .number ≡ unreadableLamp → ⊥
+never-unreadable w bounds features options clock xs call answer b o z c e =
+    let m = made-good w bounds features options clock b o z in
+    let r = carried (freshLamp bounds features options clock) xs (m .0) c in
+    readable (lampAfter (freshLamp bounds features options clock) xs) (r .0) call answer
+    (ap (λ (v : List ℕ). answered v call answer .number) (sym (ap (λ (v : List ℕ). wordsAfter v xs) (m .1) ∙ r .1)) ∙ e)

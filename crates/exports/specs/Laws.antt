@@ -1,0 +1,235 @@
+-- Reading inverts writing: what is written of an enum, a task, a running record or a lamp is known, and is read as what it
+-- was. Of a lamp this asks that its numbers are within their types and that it is in form, which bounds its ways: the
+-- smallest number of 64 bits with a sign has a size that no field takes.
+-- Assumes nothing.
+use Prim.Native.Nat.{ℕ, suc, _%_, _^_, _<_}
+use mathlib.Core.Bool.{Bool, true, false, _&&_, _||_}
+use mathlib.Core.Path.{_≡_, refl}
+use native.Mathlib.Nat.{mod-eq-of-lt}
+use native.Mathlib.Omega.{arith}
+use lib.Dec.{eqb, leb, leb·suc-zero}
+use lib.IntN.{ℤ, pos, negsuc, negℤ, natAbs}
+use lib.Signed.{leZ, ltZ}
+use borrow.Author.Tests.{leb-true, le-leb}
+use Rattle.matter.specs.declared.MoveModeEnum.{MoveModeEnum}
+use Rattle.matter.specs.declared.ColorLoopDirectionEnum.{ColorLoopDirectionEnum}
+use Rattle.matter.specs.declared.ColorModeEnum.{ColorModeEnum}
+use Rattle.matter.specs.declared.EnhancedColorModeEnum.{EnhancedColorModeEnum}
+use Rattle.matter.specs.declared.Bounds.{Bounds}
+use Rattle.matter.specs.Laws.{and-left, and-right, each}
+use Rattle.matter.specs.Numbers.{moveModeNumber, loopDirectionNumber, colorModeNumber, enhancedColorModeNumber}
+use Rattle.tasks.specs.declared.HueDelta.{HueDelta}
+use Rattle.tasks.specs.declared.TargetSaturation.{TargetSaturation}
+use Rattle.tasks.specs.declared.Task.{Task}
+use Rattle.tasks.specs.declared.Running.{Running}
+use Rattle.tasks.specs.Form.{deltaForm, rateForm, moveToForm, runningForm}
+use Rattle.tasks.specs.Typed.{TypedTarget, TypedTask, TypedRunning}
+use Rattle.lamp.specs.declared.Lamp.{Lamp}
+use Rattle.lamp.specs.Form.{lampForm}
+use Rattle.lamp.specs.Kept.{form-running}
+use Rattle.lamp.specs.Typed.{TypedLamp}
+use Rattle.exports.specs.Words.{flag, flagNumber, signed, signOf, sizeOf}
+use Rattle.exports.specs.Enums.{moveModeOf, loopDirectionOf, colorModeOf, enhancedModeOf, moveModeKnown}
+use Rattle.exports.specs.Moves.{deltaOf, targetOf, moveToOf, hueMoveOf, saturationMoveOf, miredsToOf, miredsMoveOf, colorLoopOf, taskOf, runningOf, taskFits, taskKnown, recordKnown, none, deltaSign, deltaSize, targetGiven, targetNumber, taskNumbers, recordNumbers}
+use Rattle.exports.specs.Lamps.{recordOf, lampOf, lampFits, lampKnown, lampWords}
+
+-- what is written of a thing is known, and is read as the thing
+pub record Back {A N : Type 0} (read : N → A) (known : N → Bool) (written : N) (thing : A) : Type 0 where
+  pub same : read written ≡ thing
+  pub taken : known written ≡ true
+
+-- ---- numbers, flags and enums
+
+-- a number within its field
+pub within : {n : ℕ} (limit : ℕ) → n < suc limit → Back (λ x. x % suc limit) (λ x. leb x limit) n n
+within {n} limit h = record { same = mod-eq-of-lt h; taken = le-leb n limit (omega arith) }
+
+pub flag-back : (b : Bool) → Back flag (λ n. leb n 1) (flagNumber b) b
+unfolding flag
+flag-back true = record { same = refl; taken = refl }
+flag-back false = record { same = refl; taken = refl }
+
+pub move-mode-back : (m : MoveModeEnum) → Back moveModeOf moveModeKnown (moveModeNumber m) m
+unfolding moveModeOf
+move-mode-back MoveModeEnum.Stop = record { same = refl; taken = refl }
+move-mode-back MoveModeEnum.Up = record { same = refl; taken = refl }
+move-mode-back MoveModeEnum.Down = record { same = refl; taken = refl }
+
+pub loop-direction-back : (d : ColorLoopDirectionEnum) → Back loopDirectionOf (λ n. leb n 1) (loopDirectionNumber d) d
+unfolding loopDirectionOf
+loop-direction-back ColorLoopDirectionEnum.Decrement = record { same = refl; taken = refl }
+loop-direction-back ColorLoopDirectionEnum.Increment = record { same = refl; taken = refl }
+
+pub color-mode-back : (m : ColorModeEnum) → Back colorModeOf (λ n. leb n 2) (colorModeNumber m) m
+unfolding colorModeOf
+color-mode-back ColorModeEnum.CurrentHueAndCurrentSaturation = record { same = refl; taken = refl }
+color-mode-back ColorModeEnum.CurrentXAndCurrentY = record { same = refl; taken = refl }
+color-mode-back ColorModeEnum.ColorTemperatureMireds = record { same = refl; taken = refl }
+
+pub enhanced-mode-back : (m : EnhancedColorModeEnum) → Back enhancedModeOf (λ n. leb n 3) (enhancedColorModeNumber m) m
+unfolding enhancedModeOf
+enhanced-mode-back EnhancedColorModeEnum.CurrentHueAndCurrentSaturation = record { same = refl; taken = refl }
+enhanced-mode-back EnhancedColorModeEnum.CurrentXAndCurrentY = record { same = refl; taken = refl }
+enhanced-mode-back EnhancedColorModeEnum.ColorTemperatureMireds = record { same = refl; taken = refl }
+enhanced-mode-back EnhancedColorModeEnum.EnhancedCurrentHueAndCurrentSaturation = record { same = refl; taken = refl }
+
+-- ---- signed numbers
+
+-- whose size has a field: all of 64 bits but the smallest
+abbrev pub Sized : ℤ → Type 0
+Sized z = natAbs z < 2 ^ 63
+
+-- the number, and its sign, which is 1 or 2
+pub signed-back : (z : ℤ) → Sized z → (signed (signOf z) (sizeOf z) ≡ z) × (leb (signOf z) 2 ≡ true) × (eqb (signOf z) 0 ≡ false)
+unfolding signed signOf
+signed-back (pos n) h = (simp (leb·suc-zero n, mod-eq-of-lt h), simp (leb·suc-zero n), simp (leb·suc-zero n))
+signed-back (negsuc n) h = (simp (mod-eq-of-lt h), refl, refl)
+
+size-known : (z : ℤ) → Sized z → leb (natAbs z) 9223372036854775807 ≡ true
+size-known z h = le-leb (natAbs z) 9223372036854775807 (omega arith)
+
+-- ---- tasks
+
+-- the signed number of a task, 0 where it has none
+abbrev pub deltaWay : HueDelta → ℤ
+deltaWay HueDelta.Keep = pos 0
+deltaWay (HueDelta.By way) = way
+
+abbrev pub wayOf : Task → ℤ
+wayOf (Task.HueSaturationMoveTo t) = deltaWay (t .delta)
+wayOf (Task.HueMove t) = pos 0
+wayOf (Task.SaturationMove t) = pos 0
+wayOf (Task.ColorTemperatureMoveTo t) = pos 0
+wayOf (Task.ColorTemperatureMove t) = t .rate
+wayOf (Task.ColorLoop t) = pos 0
+wayOf Task.Stop = pos 0
+
+delta-back : (d : HueDelta) → Sized (deltaWay d) → (deltaOf (deltaSign d) (deltaSize d) ≡ d) × (leb (deltaSign d) 2 ≡ true) × (leb (deltaSize d) 9223372036854775807 ≡ true)
+unfolding deltaOf
+delta-back HueDelta.Keep h = (refl, refl, refl)
+delta-back (HueDelta.By way) h =
+    let s = signed-back way h in
+    (simp (s .2, s .0), s .1, size-known way h)
+
+target-back : (s : TargetSaturation) → TypedTarget s → (targetOf (targetGiven s) (targetNumber s) ≡ s) × (leb (targetGiven s) 1 ≡ true) × (leb (targetNumber s) 255 ≡ true)
+unfolding targetOf
+target-back TargetSaturation.Keep h = (refl, refl, refl)
+target-back (TargetSaturation.To saturation) h = (simp (within 255 h .same), refl, within 255 h .taken)
+
+-- a task, where its way is not the smallest number
+pub task-back : (t : Task) → TypedTask t → Sized (wayOf t) → Back taskOf taskKnown (taskNumbers t) t
+unfolding taskNumbers taskOf taskKnown taskFits moveToOf hueMoveOf saturationMoveOf miredsToOf miredsMoveOf colorLoopOf
+task-back (Task.HueSaturationMoveTo t) h s =
+    let d = delta-back (t .delta) s in
+    let g = target-back (t .saturation) (h .saturation) in
+    let ms = within 4294967295 (h .ms) in
+    let e = flag-back (t .enhanced) in
+    record { same = simp (d .0, g .0, ms .same, e .same); taken = simp (d .1, d .2, g .1, g .2, ms .taken, e .taken) }
+task-back (Task.HueMove t) h s =
+    let m = move-mode-back (t .direction) in
+    let r = within 4294967295 h in
+    let e = flag-back (t .enhanced) in
+    record { same = simp (m .same, r .same, e .same); taken = simp (m .taken, r .taken, e .taken) }
+task-back (Task.SaturationMove t) h s =
+    let m = move-mode-back (t .direction) in
+    let r = within 4294967295 h in
+    record { same = simp (m .same, r .same); taken = simp (m .taken, r .taken) }
+task-back (Task.ColorTemperatureMoveTo t) h s =
+    let g = within 65535 (h .target) in
+    let ms = within 4294967295 (h .ms) in
+    record { same = simp (g .same, ms .same); taken = simp (g .taken, ms .taken) }
+task-back (Task.ColorTemperatureMove t) h s =
+    let r = signed-back (t .rate) s in
+    let lo = within 65535 (h .min) in
+    let hi = within 65535 (h .max) in
+    record { same = simp (r .0, lo .same, hi .same); taken = simp (r .1, size-known (t .rate) s, lo .taken, hi .taken) }
+task-back (Task.ColorLoop t) h s =
+    let d = loop-direction-back (t .direction) in
+    let n = within 65535 h in
+    record { same = simp (d .same, n .same); taken = simp (d .taken, n .taken) }
+task-back Task.Stop h s = record { same = refl; taken = refl }
+
+-- the smallest number is written, and not known
+pub smallest-unknown : (min max : ℕ) → taskKnown (taskNumbers (Task.ColorTemperatureMove (record { rate = negsuc 9223372036854775807; min = min; max = max }))) ≡ false
+unfolding taskNumbers taskKnown taskFits
+smallest-unknown min max = refl
+
+-- a way or a rate in form is not that number
+bounded : (z : ℤ) → leZ (negℤ (pos 65535)) z ≡ true → leZ z (pos 65535) ≡ true → Sized z
+bounded (pos n) e f = omega (arith, leb-true n 65535 f)
+bounded (negsuc n) e f = omega (arith, leb-true n 65534 e)
+
+delta-sized : (d : HueDelta) → deltaForm d ≡ true → Sized (deltaWay d)
+delta-sized HueDelta.Keep e = omega arith
+delta-sized (HueDelta.By way) e = bounded way (and-left (leZ (negℤ (pos 65535)) way) _ e) (and-right (leZ (negℤ (pos 65535)) way) _ e)
+
+rate-sized : (z : ℤ) → rateForm z ≡ true → Sized z
+rate-sized z e =
+    let not-0 : Bool = ltZ z (pos 0) || ltZ (pos 0) z in
+    let above : Bool = leZ (negℤ (pos 65535)) z in
+    let below : Bool = leZ z (pos 65535) in
+    bounded z (and-right not-0 above (and-left (not-0 && above) below e)) (and-right (not-0 && above) below e)
+
+-- ---- running records
+
+-- the numbers of no task are read as Stop, which no record runs
+no-task : taskOf none ≡ Task.Stop
+unfolding taskOf
+no-task = refl
+
+-- a task, with what was found at its start in fields of its kind; an idle lamp has no task
+pub running-back : (r : Running) (bounds : Bounds) (clock : ℕ) → runningForm r bounds clock ≡ true → TypedRunning r → Back runningOf recordKnown (recordNumbers r) r
+unfolding recordNumbers recordKnown taskNumbers moveToForm runningForm
+running-back Running.Idle bounds clock e h = record { same = simp no-task; taken = refl }
+running-back (Running.HueSaturationMoveTo run) bounds clock e h =
+    let t = task-back (Task.HueSaturationMoveTo (run .task)) (h .3) (delta-sized (run .task .delta) (each _ (each _ e .0) .1 .0)) in
+    let x = within 65535 (h .1) in
+    let y = within 255 (h .2) in
+    record { same = simp (t .same, x .same, y .same); taken = simp (t .taken, x .taken, y .taken) }
+running-back (Running.HueMove run) bounds clock e h =
+    let t = task-back (Task.HueMove (run .task)) (h .2) (omega arith) in
+    let x = within 65535 (h .1) in
+    record { same = simp (t .same, x .same); taken = simp (t .taken, x .taken) }
+running-back (Running.SaturationMove run) bounds clock e h =
+    let t = task-back (Task.SaturationMove (run .task)) (h .2) (omega arith) in
+    let x = within 255 (h .1) in
+    let wide = within {n = run .saturation} 65535 (omega arith) in
+    record { same = simp (t .same, x .same); taken = simp (t .taken, x .taken, wide .taken) }
+running-back (Running.ColorTemperatureMoveTo run) bounds clock e h =
+    let t = task-back (Task.ColorTemperatureMoveTo (run .task)) (h .2) (omega arith) in
+    let x = within 65535 (h .1) in
+    record { same = simp (t .same, x .same); taken = simp (t .taken, x .taken) }
+running-back (Running.ColorTemperatureMove run) bounds clock e h =
+    let t = task-back (Task.ColorTemperatureMove (record { rate = run .rate; min = run .lo; max = run .hi })) (record { rate = h .2; min = h .3; max = h .4 }) (rate-sized (run .rate) (each _ e .0)) in
+    let x = within 65535 (h .1) in
+    record { same = simp (t .same, x .same); taken = simp (t .taken, x .taken) }
+running-back (Running.ColorLoop run) bounds clock e h =
+    let t = task-back (Task.ColorLoop (run .task)) (h .2) (omega arith) in
+    let x = within 65535 (h .1) in
+    record { same = simp (t .same, x .same); taken = simp (t .taken, x .taken) }
+
+-- ---- lamps
+
+-- a typed lamp in form
+pub lamp-back : (l : Lamp) → lampForm l ≡ true → TypedLamp l → Back lampOf lampKnown (lampWords l) l
+unfolding lampKnown lampFits
+lamp-back l formed h =
+    let low = within 65535 (h .bounds .min) in
+    let high = within 65535 (h .bounds .max) in
+    let options = within 255 (h .options) in
+    let tenths = within 65535 (h .remaining) in
+    let hue = within 65535 (h .hue) in
+    let saturation = within 255 (h .saturation) in
+    let mireds = within 65535 (h .mireds) in
+    let mode = color-mode-back (l .color .mode) in
+    let emode = enhanced-mode-back (l .color .emode) in
+    let active = flag-back (l .looping .active) in
+    let direction = loop-direction-back (l .looping .direction) in
+    let time = within 65535 (h .loopTime) in
+    let first = within 65535 (h .loopStart) in
+    let stored = within 65535 (h .loopStored) in
+    let run : Back runningOf recordKnown (recordOf (lampWords l)) (l .running) = running-back (l .running) (l .bounds) (l .clock) (form-running l formed) (h .running) in
+    record {
+      same = simp (low .same, high .same, options .same, tenths .same, hue .same, saturation .same, mireds .same, mode .same, emode .same, active .same, direction .same, time .same, first .same, stored .same, run .same);
+      taken = simp (low .taken, high .taken, options .taken, tenths .taken, hue .taken, saturation .taken, mireds .taken, mode .taken, emode .taken, active .taken, direction .taken, time .taken, first .taken, stored .taken, run .taken);
+    }
