@@ -26,6 +26,7 @@ use Rattle.tasks.specs.declared.Task.{Task}
 use Rattle.lamp.specs.declared.Lamp.{Lamp}
 use Rattle.commands.specs.Commands.{CommandEffect, withLoop, activity, updatedTold, deactivated, activated, acted}
 use Rattle.commands.specs.Answers.{commandAccepted}
+use Rattle.commands.specs.Kept.{updated-few}
 use Rattle.commands.specs.Shared.{pushedAnswer}
 
 -- a number that is 0 or not
@@ -80,14 +81,9 @@ both-noted xs ys h =
 
 -- ---- the loop's command: what was told so far stands before what the action tells
 
-pub flags-few : (flags : ℕ) → length (updatedTold flags) ≤ 4
-flags-few flags =
-    simp length-append
-    (omega (arith, only-one (hasFlag flags updateDirection) 9, only-one (hasFlag flags updateTime) 10, only-one (hasFlag flags updateStartHue) 11))
-
 -- the flags' notices fit
 pub few : (flags : ℕ) → length {A = ℕ} [] + length (updatedTold flags) ≤ 16
-few flags = omega (arith, flags-few flags)
+few flags = omega (arith, updated-few flags)
 
 -- two choices by one test
 both : {A : Type 0} (R : A → A → Type 0) (t : Bool) {a b c d : A} → R a c → R b d → R (cond t a b) (cond t c d)

@@ -18,25 +18,28 @@ use Rattle.lamp.specs.Answers.{atClock, formOrClock}
 use Rattle.lamp.specs.Calls.{choose, done, started, stepped, startCause, stepCause, startAnswer, stepAnswer, haltAnswer}
 use Rattle.lamp.specs.Passes.{moved}
 use Rattle.lamp.specs.Typed.{Call, command, start, step, halt}
-use Rattle.commands.specs.Commands.{CommandEffect, passOver, giving, optionsOf, stopMode, numberCause, crossed, commandEffect}
+use Rattle.commands.specs.Commands.{CommandEffect, passOver, giving, optionsOf, causeIf, stopMode, numberCause, crossed, commandEffect}
 
 -- leave to run, of a command on a lamp
 abbrev pub allowed : Lamp → Command → OnOff → Bool
 allowed l c onOff = leave onOff (l .options) (optionsOf c .mask) (optionsOf c .over)
 
--- "commands 8, 4, then the order above": Stop mode, the command's own numbers, off, crossed limits
+-- "commands 8, 4, then the order above": Stop mode, the cause of the command's own numbers, off, crossed limits
+abbrev pub inOrder : Bool → ℕ → Bool → Bool → ℕ
+inOrder stop number leave crossed = cond stop accepted (cond (eqb number accepted) (causeIf (leave && crossed) crossedLimits) number)
+
 abbrev pub afterClock : Lamp → Command → OnOff → ℕ
-afterClock l c onOff =
-    cond (stopMode c) accepted
-    (cond (eqb (numberCause c) accepted) (cond (allowed l c onOff && crossed (l .bounds) c) crossedLimits accepted)
-    (numberCause c))
+afterClock l c onOff = inOrder (stopMode c) (numberCause c) (allowed l c onOff) (crossed (l .bounds) c)
 
 unfoldable pub commandCause : Lamp → Command → OnOff → ℕ → ℕ
 commandCause l c onOff clock = cond (eqb (formOrClock l clock) accepted) (afterClock l c onOff) (formOrClock l clock)
 
 -- the Stop task in Stop mode; without leave a pass-over; else what the command does
+abbrev pub ranWith : Lamp → Bool → Bool → CommandEffect → CommandEffect
+ranWith l stop leave effect = cond stop (giving l Task.Stop) (cond leave effect (passOver l))
+
 abbrev pub commandDone : Lamp → Command → OnOff → CommandEffect
-commandDone l c onOff = cond (stopMode c) (giving l Task.Stop) (cond (allowed l c onOff) (commandEffect l c) (passOver l))
+commandDone l c onOff = ranWith l (stopMode c) (allowed l c onOff) (commandEffect l c)
 
 -- an accepted command asks for no wait
 abbrev pub commandAccepted : CommandEffect → Answer

@@ -1,6 +1,6 @@
 -- What each command does: document 01, leaf 7 and "Commands in their order". A command is given the lamp at its clock.
 -- Assumes nothing.
-use Prim.Native.Nat.{ℕ, _+_, _-_, _*_, min, max}
+use Prim.Native.Nat.{ℕ, _+_, _-_, _*_, min}
 use mathlib.Core.Bool.{Bool, true, false, not, cond, _&&_, _||_}
 use mathlib.Core.List.{List, [], _∷_, _++_}
 use lib.Dec.{ltb, eqb}
@@ -28,6 +28,7 @@ use Rattle.tasks.specs.declared.TargetSaturation.{TargetSaturation}
 use Rattle.tasks.specs.declared.Task.{Task}
 use Rattle.lamp.specs.declared.Lamp.{Lamp}
 use Rattle.lamp.specs.declared.LoopSettings.{LoopSettings}
+use Rattle.lamp.specs.Calls.{lower, upper}
 use Rattle.lamp.specs.Passes.{signed}
 
 -- what an accepted command does: the lamp after it, what it tells, and the task it gives
@@ -86,30 +87,30 @@ stopMode (Command.StepColorTemperature mode size time min max options) = false
 stopMode (Command.ColorLoopSet flags action direction time startHue options) = false
 stopMode (Command.StopMoveStep options) = false
 
--- "hue above 254 (plain only), saturation above 254, or mireds 0"
-abbrev pub unless0 : Bool → ℕ → ℕ
-unless0 bad number = cond bad number accepted
+-- a cause where the test holds, else none
+abbrev pub causeIf : Bool → ℕ → ℕ
+causeIf test number = cond test number accepted
 
 -- "rate or step 0"
-abbrev pub moving : ℕ → ℕ
-moving n = unless0 (eqb n 0) invalidCommand
+abbrev pub zeroCause : ℕ → ℕ
+zeroCause n = causeIf (eqb n 0) invalidCommand
 
--- the cause that the command's own numbers give, or 0
+-- the cause that the command's own numbers give, or 0: "hue above 254 (plain only), saturation above 254, or mireds 0"; "rate or step 0"
 abbrev pub numberCause : Command → ℕ
-numberCause (Command.MoveToHue hue direction time options) = unless0 (ltb hueLimit hue) constraintError
-numberCause (Command.MoveHue mode rate enhanced options) = moving rate
-numberCause (Command.StepHue mode size time options) = moving size
-numberCause (Command.MoveToSaturation saturation time options) = unless0 (ltb saturationLimit saturation) constraintError
-numberCause (Command.MoveSaturation mode rate options) = moving rate
-numberCause (Command.StepSaturation mode size time options) = moving size
+numberCause (Command.MoveToHue hue direction time options) = causeIf (ltb hueLimit hue) constraintError
+numberCause (Command.MoveHue mode rate enhanced options) = zeroCause rate
+numberCause (Command.StepHue mode size time options) = zeroCause size
+numberCause (Command.MoveToSaturation saturation time options) = causeIf (ltb saturationLimit saturation) constraintError
+numberCause (Command.MoveSaturation mode rate options) = zeroCause rate
+numberCause (Command.StepSaturation mode size time options) = zeroCause size
 numberCause (Command.MoveToHueAndSaturation hue saturation time enhanced enhancedHue options) =
-    unless0 ((not enhanced && ltb hueLimit hue) || ltb saturationLimit saturation) constraintError
+    causeIf ((not enhanced && ltb hueLimit hue) || ltb saturationLimit saturation) constraintError
 numberCause (Command.EnhancedMoveToHue hue direction time options) = accepted
-numberCause (Command.EnhancedMoveHue mode rate options) = moving rate
-numberCause (Command.EnhancedStepHue mode size time options) = moving size
-numberCause (Command.MoveToColorTemperature mireds time options) = unless0 (eqb mireds 0) constraintError
-numberCause (Command.MoveColorTemperature mode rate min max options) = moving rate
-numberCause (Command.StepColorTemperature mode size time min max options) = moving size
+numberCause (Command.EnhancedMoveHue mode rate options) = zeroCause rate
+numberCause (Command.EnhancedStepHue mode size time options) = zeroCause size
+numberCause (Command.MoveToColorTemperature mireds time options) = causeIf (eqb mireds 0) constraintError
+numberCause (Command.MoveColorTemperature mode rate min max options) = zeroCause rate
+numberCause (Command.StepColorTemperature mode size time min max options) = zeroCause size
 numberCause (Command.ColorLoopSet flags action direction time startHue options) = accepted
 numberCause (Command.StopMoveStep options) = accepted
 
@@ -118,10 +119,10 @@ abbrev pub asked : ℕ → ℕ → ℕ
 asked physical n = cond (eqb n 0) physical n
 
 abbrev pub lo : Bounds → ℕ → ℕ
-lo bounds n = max (asked (bounds .min) n) (bounds .min)
+lo bounds n = lower bounds (asked (bounds .min) n)
 
 abbrev pub hi : Bounds → ℕ → ℕ
-hi bounds n = min (asked (bounds .max) n) (bounds .max)
+hi bounds n = upper bounds (asked (bounds .max) n)
 
 -- a step of mireds with lo above hi
 abbrev pub crossed : Bounds → Command → Bool

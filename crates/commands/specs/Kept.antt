@@ -204,7 +204,7 @@ typed-kept l x formed typed t =
 -- ---- a command tells few
 
 -- the settings' notices are at most four
-updated-few : (flags : ℕ) → length (updatedTold flags) ≤ 4
+pub updated-few : (flags : ℕ) → length (updatedTold flags) ≤ 4
 updated-few flags =
     simp length-append
     (omega

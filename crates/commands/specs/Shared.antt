@@ -1,11 +1,11 @@
 -- What the commands that give a task share: their order of looks, over what each of them brings.
 -- Assumes nothing.
 use Prim.Native.Nat.{ℕ}
-use mathlib.Core.Bool.{Bool, cond, _&&_}
+use mathlib.Core.Bool.{Bool, cond}
 use lib.Dec.{eqb}
 use Rattle.matter.specs.declared.CommandOptions.{CommandOptions}
 use Rattle.matter.specs.declared.OnOff.{OnOff}
-use Rattle.matter.specs.Causes.{accepted, crossedLimits}
+use Rattle.matter.specs.Causes.{accepted}
 use Rattle.matter.specs.Rules.{leave}
 use Rattle.tasks.specs.declared.Task.{Task}
 use Rattle.lamp.specs.declared.Lamp.{Lamp}
@@ -14,8 +14,8 @@ use Rattle.lamp.specs.Answers.{atClock, formOrClock}
 use Rattle.lamp.specs.Calls.{choose}
 use Rattle.notices.specs.declared.Notices.{Notices}
 use Rattle.notices.specs.Notices.{pushedAll}
-use Rattle.commands.specs.Commands.{CommandEffect, passOver, giving}
-use Rattle.commands.specs.Answers.{commandAccepted}
+use Rattle.commands.specs.Commands.{CommandEffect, giving}
+use Rattle.commands.specs.Answers.{inOrder, ranWith, commandAccepted}
 
 abbrev pub options : ℕ → ℕ → CommandOptions
 options mask over = record { mask = mask; over = over }
@@ -23,16 +23,9 @@ options mask over = record { mask = mask; over = over }
 -- a command in Stop mode or not, with the cause of its numbers, with crossed limits or not, and its task
 unfoldable pub taskAnswer : Lamp → Bool → ℕ → Bool → Task → CommandOptions → OnOff → ℕ → Answer
 taskAnswer l stop number crossed task o onOff clock =
-    choose
-    (cond (eqb (formOrClock l clock) accepted)
-    (cond stop accepted
-    (cond (eqb number accepted) (cond (leave onOff (l .options) (o .mask) (o .over) && crossed) crossedLimits accepted)
-    number))
-    (formOrClock l clock))
-    l
-    (commandAccepted
-    (cond stop (giving (atClock l clock) Task.Stop)
-    (cond (leave onOff (l .options) (o .mask) (o .over)) (giving (atClock l clock) task) (passOver (atClock l clock)))))
+    let left : Bool = leave onOff (l .options) (o .mask) (o .over) in
+    choose (cond (eqb (formOrClock l clock) accepted) (inOrder stop number left crossed) (formOrClock l clock)) l
+    (commandAccepted (ranWith (atClock l clock) stop left (giving (atClock l clock) task)))
 
 -- what the code of the loop's command hands on: an effect, with its notices behind the list so far
 abbrev pub pushedAnswer : Notices → CommandEffect → Answer

@@ -1,6 +1,7 @@
--- The table of causes, read off: each number in its cause and in no other, for every call. For each kind of call the lines below
--- go through all cases of its tests, in the table's order, so that no two of them meet and none is left out. And: no answer uses
--- more than 14 of its sixteen places, the rest being 0; a step of a running lamp in form with a good clock is never refused.
+-- The table of causes, read off: each number in its cause and in no other, for every call; 1 and 2 as `numberCause` has them
+-- (`fields-agree` and `invalid-agree` in `conformance`). For each kind of call the lines below go through all cases of its tests, in
+-- the table's order, so that no two of them meet and none is left out. And: no answer uses more than 14 of its sixteen places, the
+-- rest being 0; a step of a running lamp in form with a good clock is never refused.
 -- Assumes nothing.
 use Prim.Native.Nat.{ℕ, _≤_}
 use mathlib.Core.Bool.{true, false}

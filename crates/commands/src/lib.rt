@@ -31,7 +31,7 @@ use tasks::TargetSaturation;
 use tasks::Task;
 ghost use mathlib.Core.Path.{_≡_};
 ghost use mathlib.Core.Bool.{cond};
-ghost use Rattle.commands.specs.Commands.{passOver, giving, isStop, unless0, asked, lo, hi, hueTask, saturationTask, temperatureTask, saturationStep, stepWay, stored};
+ghost use Rattle.commands.specs.Commands.{passOver, giving, isStop, causeIf, asked, lo, hi, hueTask, saturationTask, temperatureTask, saturationStep, stepWay, stored};
 ghost use Rattle.commands.specs.Answers.{commandAccepted, commandAnswer};
 ghost use Rattle.commands.specs.Shared.{options, taskAnswer};
 ghost use Rattle.lamp.specs.Passes.{signed};
@@ -114,7 +114,7 @@ fn stops(mode: MoveModeEnum) -> bool
 
 // The number of a cause where it is met, else 0.
 fn number_if(bad: bool, number: u8) -> u8
-    ensures { λ r. ⌜ r ≡ unless0 bad number ⌝ }
+    ensures { λ r. ⌜ r ≡ causeIf bad number ⌝ }
 {
     if bad { number } else { 0 }
 }

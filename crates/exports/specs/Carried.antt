@@ -32,7 +32,7 @@ use Rattle.lamp.specs.Making.{freshLamp, making}
 use Rattle.lamp.specs.Typed.{Call, command, start, step, halt, TypedLamp, TypedCall}
 use Rattle.lamp.specs.TypedKept.{typed-of}
 use Rattle.commands.specs.Answers.{allowed, afterClock, commandCause, cause, answer}
-use Rattle.commands.specs.Commands.{stopMode, unless0, numberCause, crossed}
+use Rattle.commands.specs.Commands.{stopMode, causeIf, numberCause, crossed}
 use Rattle.commands.specs.Kept.{number-is-cause, form-kept, typed-kept}
 use Rattle.exports.specs.declared.moves.TaskNumbers.{TaskNumbers}
 use Rattle.exports.specs.declared.calls.CommandNumbers.{CommandNumbers}
@@ -123,7 +123,7 @@ call-typed call clock =
 
 -- ---- the numbers of causes end at 8
 
-number-small : (bad : Bool) (number : ℕ) → number ≤ 8 → unless0 bad number ≤ 8
+number-small : (bad : Bool) (number : ℕ) → number ≤ 8 → causeIf bad number ≤ 8
 number-small bad number h = cond-both (λ n. n ≤ 8) bad number 0 (λ e. h) (λ e. omega arith)
 
 own-small : (c : Command) → numberCause c ≤ 8

@@ -3,13 +3,13 @@
 -- smallest number of 64 bits with a sign has a size that no field takes.
 -- Assumes nothing.
 use Prim.Native.Nat.{ℕ, suc, _%_, _^_, _<_}
-use mathlib.Core.Bool.{Bool, true, false, _&&_, _||_}
+use mathlib.Core.Bool.{Bool, true, false, not, _&&_}
 use mathlib.Core.Path.{_≡_, refl}
 use native.Mathlib.Nat.{mod-eq-of-lt}
 use native.Mathlib.Omega.{arith}
 use lib.Dec.{eqb, leb, leb·suc-zero}
 use lib.IntN.{ℤ, pos, negsuc, negℤ, natAbs}
-use lib.Signed.{leZ, ltZ}
+use lib.Signed.{leZ}
 use borrow.Author.Tests.{leb-true, le-leb}
 use Rattle.matter.specs.declared.MoveModeEnum.{MoveModeEnum}
 use Rattle.matter.specs.declared.ColorLoopDirectionEnum.{ColorLoopDirectionEnum}
@@ -22,7 +22,7 @@ use Rattle.tasks.specs.declared.HueDelta.{HueDelta}
 use Rattle.tasks.specs.declared.TargetSaturation.{TargetSaturation}
 use Rattle.tasks.specs.declared.Task.{Task}
 use Rattle.tasks.specs.declared.Running.{Running}
-use Rattle.tasks.specs.Form.{deltaForm, rateForm, moveToForm, runningForm}
+use Rattle.tasks.specs.Form.{small, deltaForm, rateForm, moveToForm, runningForm}
 use Rattle.tasks.specs.Typed.{TypedTarget, TypedTask, TypedRunning}
 use Rattle.lamp.specs.declared.Lamp.{Lamp}
 use Rattle.lamp.specs.Form.{lampForm}
@@ -159,16 +159,15 @@ bounded : (z : ℤ) → leZ (negℤ (pos 65535)) z ≡ true → leZ z (pos 65535
 bounded (pos n) e f = omega (arith, leb-true n 65535 f)
 bounded (negsuc n) e f = omega (arith, leb-true n 65534 e)
 
+small-sized : (z : ℤ) → small z ≡ true → Sized z
+small-sized z e = bounded z (and-left (leZ (negℤ (pos 65535)) z) _ e) (and-right (leZ (negℤ (pos 65535)) z) _ e)
+
 delta-sized : (d : HueDelta) → deltaForm d ≡ true → Sized (deltaWay d)
 delta-sized HueDelta.Keep e = omega arith
-delta-sized (HueDelta.By way) e = bounded way (and-left (leZ (negℤ (pos 65535)) way) _ e) (and-right (leZ (negℤ (pos 65535)) way) _ e)
+delta-sized (HueDelta.By way) e = small-sized way e
 
 rate-sized : (z : ℤ) → rateForm z ≡ true → Sized z
-rate-sized z e =
-    let not-0 : Bool = ltZ z (pos 0) || ltZ (pos 0) z in
-    let above : Bool = leZ (negℤ (pos 65535)) z in
-    let below : Bool = leZ z (pos 65535) in
-    bounded z (and-right not-0 above (and-left (not-0 && above) below e)) (and-right (not-0 && above) below e)
+rate-sized z e = small-sized z (and-right (not (eqb (natAbs z) 0)) (small z) e)
 
 -- ---- running records
 

@@ -236,7 +236,8 @@ impl Fade {
         }
     }
 
-    // As many lines as fit are written from the slice's beginning on.
+    // As many lines as fit are written from the slice's beginning on. The contract leaves free how many (something is
+    // written where the run is not over and the slice has 512 places) and what stands in the slice behind them.
     pub fn write(self, out: &mut [u8]) -> Written
         ensures { λ r. ⌜ take (r .len) (now (out .exit)) ++ text (r .fade) ≡ text self ⌝ }
         ensures { λ r. ⌜ r .len ≤ length (now (out .exit)) ⌝ }

@@ -2,14 +2,28 @@
 -- of an integer tells of its sign, and a summand taken across a test.
 -- Assumes nothing.
 use mathlib.Core.Path.{_≡_, refl, sym, ap, subst, subst⁻¹, _∙_}
-use mathlib.Core.Bool.{true, false}
+use mathlib.Core.Bool.{true, false, not, _&&_, _||_}
 use Prim.Native.Nat.{ℕ, zero, suc, _+_, _*_, _/_, _%_, _<_, _≤_, zero-le}
 use native.Mathlib.Nat.{zero-div, zero-mul, mul-add, mul-left-comm, mul-add-div, div-add-mod}
 use native.Mathlib.Omega.{arith}
-use lib.Dec.{T, leb·suc-suc, leb·suc-zero}
+use lib.Dec.{T, eqb, leb·suc-suc, leb·suc-zero, eqb·suc-zero}
 use lib.IntN.{ℤ, pos, negsuc, negℤ, natAbs, sucℤ, _+ℤ_, _-ℤ_, _*ℤ_, sucℤ-+ℤ, +ℤ-idl, +ℤ-comm, -ℤ-+ℤ-cancel, negℤ-+ℤ}
 use lib.Signed.{quotZ, leZ, ltZ, nonNeg}
 use borrow.Author.Tests.{ltb-false, le-leb, lt-ltb}
+
+-- ---- no size
+
+-- neither above 0 nor below it is of size 0
+pub zero-size : (z : ℤ) → (leZ z (pos 0) && leZ (pos 0) z) ≡ eqb (natAbs z) 0
+zero-size (pos zero) = refl
+zero-size (pos (suc n)) = rw (leb·suc-zero n, eqb·suc-zero n)
+zero-size (negsuc n) = sym (eqb·suc-zero n)
+
+-- below 0 or above it is of some size
+pub some-size : (z : ℤ) → (ltZ z (pos 0) || ltZ (pos 0) z) ≡ not (eqb (natAbs z) 0)
+some-size (pos zero) = refl
+some-size (pos (suc n)) = rw (leb·suc-zero (suc n), eqb·suc-zero n, leb·suc-suc zero n, le-leb 0 n zero-le)
+some-size (negsuc n) = ap not (sym (eqb·suc-zero n))
 
 -- ---- products and quotients
 

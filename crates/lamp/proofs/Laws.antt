@@ -2,12 +2,13 @@
 -- other are pushed as one list.
 -- Assumes nothing.
 use Prim.Native.Nat.{ℕ, _≤_}
-use mathlib.Core.Bool.{Bool, true, false, _&&_, _||_}
+use mathlib.Core.Bool.{true, not}
 use mathlib.Core.List.{List, [], _∷_, _++_}
 use mathlib.Core.Path.{_≡_, refl}
 use native.Mathlib.Omega.{arith}
 use lib.IntN.{ℤ, pos, negsuc, negℤ, natAbs}
-use lib.Signed.{leZ, ltZ}
+use lib.Dec.{eqb}
+use lib.Signed.{leZ}
 use mir.Syntax.{w32}
 use mir.Val.{SFits}
 use borrow.Author.Tests.{leb-true}
@@ -30,10 +31,7 @@ small-fits z h =
     (omega (arith, small-size z (and-left (leZ (negℤ (pos 65535)) z) (leZ z (pos 65535)) h) (and-right (leZ (negℤ (pos 65535)) z) (leZ z (pos 65535)) h)))
 
 pub rate-fits : (z : ℤ) → rateForm z ≡ true → SFits w32 z
-rate-fits z h =
-    let both = and-left ((ltZ z (pos 0) || ltZ (pos 0) z) && leZ (negℤ (pos 65535)) z) (leZ z (pos 65535)) h in
-    sizes.small w32 z
-    (omega (arith, small-size z (and-right (ltZ z (pos 0) || ltZ (pos 0) z) (leZ (negℤ (pos 65535)) z) both) (and-right ((ltZ z (pos 0) || ltZ (pos 0) z) && leZ (negℤ (pos 65535)) z) (leZ z (pos 65535)) h)))
+rate-fits z h = small-fits z (and-right (not (eqb (natAbs z) 0)) (small z) h)
 
 -- ---- notices
 

@@ -4,7 +4,7 @@ use Prim.Native.Nat.{ℕ, _-_, min, max}
 use mathlib.Core.Bool.{Bool, true, not, cond, _&&_, _||_}
 use mathlib.Core.List.{List, [], _++_}
 use lib.Dec.{leb, eqb}
-use lib.IntN.{pos}
+use lib.IntN.{pos, natAbs}
 use lib.Signed.{leZ}
 use Rattle.matter.specs.declared.Bounds.{Bounds}
 use Rattle.matter.specs.Causes.{accepted, clockRefused, taskOutOfForm, stepWhileIdle, lampOutOfForm}
@@ -42,7 +42,7 @@ after told e = record { lamp = e .lamp; told = told ++ e .told; wait = e .wait }
 -- no way at all: that of the hue is 0 or none is moved, and the saturation is there or none is moved
 abbrev pub noHueWay : HueDelta → Bool
 noHueWay HueDelta.Keep = true
-noHueWay (HueDelta.By way) = leZ way (pos 0) && leZ (pos 0) way
+noHueWay (HueDelta.By way) = eqb (natAbs way) 0
 
 abbrev pub noSaturationWay : TargetSaturation → ℕ → Bool
 noSaturationWay TargetSaturation.Keep start = true

@@ -101,7 +101,7 @@ fn accepted(passed: Passed) -> Answer
 }
 
 impl Lamp {
-    // The starts write the full time first; then comes the first pass.
+    // The two move-to starts write the full time first; then comes the first pass.
     fn start_hue_saturation(self, task: HueSaturationMoveTo) -> Passed
         requires { ⌜ moveToForm task ≡ true ⌝ }
         ensures { λ r. ⌜ r ≡ passedOf (noted []) (hueSaturationStart self task) ⌝ }

@@ -345,7 +345,7 @@ fn other_call(line: &[u8]) -> Call {
     bench_call(line)
 }
 
-pub fn read(line: &[u8]) -> Call {
+pub(crate) fn read(line: &[u8]) -> Call {
     let command = words::first(line, b"cmd");
     if command != LOST {
         return invoke_call(line, command);

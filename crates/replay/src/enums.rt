@@ -57,7 +57,7 @@ pub struct OnOffRead {
     pub at: usize,
 }
 
-pub fn path_direction(line: &[u8], at: usize) -> DirectionRead {
+pub(crate) fn path_direction(line: &[u8], at: usize) -> DirectionRead {
     let n = words::byte(line, at);
     match DirectionEnum::of_number(n.value) {
         DirectionFound::Known(direction) => DirectionRead {
@@ -71,7 +71,7 @@ pub fn path_direction(line: &[u8], at: usize) -> DirectionRead {
     }
 }
 
-pub fn move_mode(line: &[u8], at: usize) -> MoveModeRead {
+pub(crate) fn move_mode(line: &[u8], at: usize) -> MoveModeRead {
     let n = words::byte(line, at);
     match MoveModeEnum::of_number(n.value) {
         MoveModeFound::Known(mode) => MoveModeRead {
@@ -85,7 +85,7 @@ pub fn move_mode(line: &[u8], at: usize) -> MoveModeRead {
     }
 }
 
-pub fn step_mode(line: &[u8], at: usize) -> StepModeRead {
+pub(crate) fn step_mode(line: &[u8], at: usize) -> StepModeRead {
     let n = words::byte(line, at);
     match StepModeEnum::of_number(n.value) {
         StepModeFound::Known(mode) => StepModeRead {
@@ -99,7 +99,7 @@ pub fn step_mode(line: &[u8], at: usize) -> StepModeRead {
     }
 }
 
-pub fn loop_action(line: &[u8], at: usize) -> LoopActionRead {
+pub(crate) fn loop_action(line: &[u8], at: usize) -> LoopActionRead {
     let n = words::byte(line, at);
     match ColorLoopActionEnum::of_number(n.value) {
         ColorLoopActionFound::Known(action) => LoopActionRead {
@@ -113,7 +113,7 @@ pub fn loop_action(line: &[u8], at: usize) -> LoopActionRead {
     }
 }
 
-pub fn loop_direction(line: &[u8], at: usize) -> LoopDirectionRead {
+pub(crate) fn loop_direction(line: &[u8], at: usize) -> LoopDirectionRead {
     let n = words::byte(line, at);
     match ColorLoopDirectionEnum::of_number(n.value) {
         ColorLoopDirectionFound::Known(direction) => LoopDirectionRead {
@@ -127,7 +127,7 @@ pub fn loop_direction(line: &[u8], at: usize) -> LoopDirectionRead {
     }
 }
 
-pub fn color_mode(line: &[u8], at: usize) -> ModeRead {
+pub(crate) fn color_mode(line: &[u8], at: usize) -> ModeRead {
     let n = words::byte(line, at);
     match ColorModeEnum::of_number(n.value) {
         ColorModeFound::Known(mode) => ModeRead {
@@ -141,7 +141,7 @@ pub fn color_mode(line: &[u8], at: usize) -> ModeRead {
     }
 }
 
-pub fn enhanced_mode(line: &[u8], at: usize) -> EnhancedModeRead {
+pub(crate) fn enhanced_mode(line: &[u8], at: usize) -> EnhancedModeRead {
     let n = words::byte(line, at);
     match EnhancedColorModeEnum::of_number(n.value) {
         EnhancedColorModeFound::Known(mode) => EnhancedModeRead {
@@ -156,7 +156,7 @@ pub fn enhanced_mode(line: &[u8], at: usize) -> EnhancedModeRead {
 }
 
 // `on`, `off`, or `none` where there is no on/off handler.
-pub fn on_off(line: &[u8], at: usize) -> OnOffRead {
+pub(crate) fn on_off(line: &[u8], at: usize) -> OnOffRead {
     let on = words::after(line, at, b"on");
     if on != LOST {
         return OnOffRead {

@@ -34,7 +34,7 @@ pub struct LampRead {
     pub at: usize,
 }
 
-pub fn bounds(line: &[u8], at: usize) -> BoundsRead {
+pub(crate) fn bounds(line: &[u8], at: usize) -> BoundsRead {
     let min = words::short(line, at);
     let max = words::short(line, min.at);
     BoundsRead {
@@ -103,7 +103,7 @@ fn loop_settings(line: &[u8], at: usize) -> LoopRead {
 }
 
 // An idle lamp with the fields that follow.
-pub fn idle_lamp(line: &[u8], at: usize) -> LampRead {
+pub(crate) fn idle_lamp(line: &[u8], at: usize) -> LampRead {
     let limits = bounds(line, at);
     let bounds = limits.value;
     let clock = words::long(line, limits.at);

@@ -471,7 +471,7 @@ fn arguments(name: CommandName, line: &[u8], at: usize) -> CommandRead {
     }
 }
 
-pub fn read(line: &[u8], at: usize) -> InvocationRead {
+pub(crate) fn read(line: &[u8], at: usize) -> InvocationRead {
     let names = name(line, at);
     let which = names.value;
     let switch = enums::on_off(line, names.at);

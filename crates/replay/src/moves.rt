@@ -83,7 +83,7 @@ fn target(line: &[u8], at: usize) -> TargetRead {
     }
 }
 
-pub fn move_to(line: &[u8], at: usize) -> MoveToRead {
+pub(crate) fn move_to(line: &[u8], at: usize) -> MoveToRead {
     let ways = delta(line, at);
     let way = ways.value;
     let targets = target(line, ways.at);
@@ -101,7 +101,7 @@ pub fn move_to(line: &[u8], at: usize) -> MoveToRead {
     }
 }
 
-pub fn hue_move(line: &[u8], at: usize) -> HueMoveRead {
+pub(crate) fn hue_move(line: &[u8], at: usize) -> HueMoveRead {
     let modes = enums::move_mode(line, at);
     let mode = modes.value;
     let rate = words::word(line, modes.at);
@@ -116,7 +116,7 @@ pub fn hue_move(line: &[u8], at: usize) -> HueMoveRead {
     }
 }
 
-pub fn saturation_move(line: &[u8], at: usize) -> SaturationMoveRead {
+pub(crate) fn saturation_move(line: &[u8], at: usize) -> SaturationMoveRead {
     let modes = enums::move_mode(line, at);
     let mode = modes.value;
     let rate = words::word(line, modes.at);
@@ -129,7 +129,7 @@ pub fn saturation_move(line: &[u8], at: usize) -> SaturationMoveRead {
     }
 }
 
-pub fn mireds_to(line: &[u8], at: usize) -> MiredsToRead {
+pub(crate) fn mireds_to(line: &[u8], at: usize) -> MiredsToRead {
     let mireds = words::short(line, at);
     let ms = words::word(line, mireds.at);
     MiredsToRead {
@@ -141,7 +141,7 @@ pub fn mireds_to(line: &[u8], at: usize) -> MiredsToRead {
     }
 }
 
-pub fn mireds_move(line: &[u8], at: usize) -> MiredsMoveRead {
+pub(crate) fn mireds_move(line: &[u8], at: usize) -> MiredsMoveRead {
     let rate = words::signed(line, at);
     let min = words::short(line, rate.at);
     let max = words::short(line, min.at);
@@ -155,7 +155,7 @@ pub fn mireds_move(line: &[u8], at: usize) -> MiredsMoveRead {
     }
 }
 
-pub fn color_loop(line: &[u8], at: usize) -> LoopRead {
+pub(crate) fn color_loop(line: &[u8], at: usize) -> LoopRead {
     let ways = enums::loop_direction(line, at);
     let way = ways.value;
     let seconds = words::short(line, ways.at);

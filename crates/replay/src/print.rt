@@ -17,7 +17,7 @@ use tasks::SaturationMove;
 use tasks::TargetSaturation;
 use tasks::Task;
 
-pub fn byte(out: &mut [u8], at: usize, b: u8) -> usize {
+pub(crate) fn byte(out: &mut [u8], at: usize, b: u8) -> usize {
     if at < out.len() {
         out[at] = b;
         return at + 1;
@@ -25,7 +25,7 @@ pub fn byte(out: &mut [u8], at: usize, b: u8) -> usize {
     at
 }
 
-pub fn text(out: &mut [u8], at: usize, s: &[u8]) -> usize {
+pub(crate) fn text(out: &mut [u8], at: usize, s: &[u8]) -> usize {
     let mut end = at;
     let mut i = 0;
     while i < s.len() {
@@ -35,7 +35,7 @@ pub fn text(out: &mut [u8], at: usize, s: &[u8]) -> usize {
     end
 }
 
-pub fn number(out: &mut [u8], at: usize, n: u64) -> usize {
+pub(crate) fn number(out: &mut [u8], at: usize, n: u64) -> usize {
     let mut digits = [0u8; 20];
     let count = io::decimal(n, &mut digits);
     text(out, at, &digits[..count])
@@ -52,7 +52,7 @@ fn size_below_zero(n: i64) -> u64 {
     0
 }
 
-pub fn signed(out: &mut [u8], at: usize, n: i64) -> usize {
+pub(crate) fn signed(out: &mut [u8], at: usize, n: i64) -> usize {
     if n < 0 {
         let next = byte(out, at, b'-');
         return number(out, next, size_below_zero(n));
@@ -236,7 +236,7 @@ fn status(out: &mut [u8], at: usize, number: u8) -> usize {
 }
 
 // A refusal that has no lamp.
-pub fn refused(out: &mut [u8], at: usize, number: u8) -> usize {
+pub(crate) fn refused(out: &mut [u8], at: usize, number: u8) -> usize {
     let a = status(out, at, number);
     byte(out, a, b'\n')
 }
@@ -259,7 +259,7 @@ fn told(out: &mut [u8], at: usize, list: Notices, task: GivenTask, wait: u64) ->
     long(out, e, wait)
 }
 
-pub fn answer(out: &mut [u8], at: usize, answer: Answer) -> usize {
+pub(crate) fn answer(out: &mut [u8], at: usize, answer: Answer) -> usize {
     let lamp = answer.lamp;
     let running = lamp.running;
     let list = answer.notices;

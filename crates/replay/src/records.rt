@@ -123,7 +123,7 @@ fn other_record(line: &[u8], at: usize) -> RecordRead {
     color_loop(line, words::after(line, at, b"loop"))
 }
 
-pub fn running(line: &[u8], at: usize) -> RecordRead {
+pub(crate) fn running(line: &[u8], at: usize) -> RecordRead {
     let idle = words::after(line, at, b"idle");
     if idle != LOST {
         return RecordRead {

@@ -46,7 +46,7 @@ pub struct Turn {
     pub at: usize,
 }
 
-pub fn nothing_yet() -> State {
+pub(crate) fn nothing_yet() -> State {
     State {
         held: Held::Nothing,
         task: GivenTask::Nothing,
@@ -322,7 +322,7 @@ fn run(state: State, call: Call, out: &mut [u8], at: usize) -> Turn {
 }
 
 // One line. An empty one, and one that begins with `#`, has no answer.
-pub fn answer(state: State, line: &[u8], out: &mut [u8], at: usize) -> Turn {
+pub(crate) fn answer(state: State, line: &[u8], out: &mut [u8], at: usize) -> Turn {
     if line.len() == 0 {
         return Turn {
             state: state,

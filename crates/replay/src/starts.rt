@@ -109,7 +109,7 @@ fn named_task(line: &[u8], at: usize) -> TaskRead {
     other_task(line, at)
 }
 
-pub fn start_of(line: &[u8], at: usize) -> StartRead {
+pub(crate) fn start_of(line: &[u8], at: usize) -> StartRead {
     let read = named_task(line, at);
     let task = read.value;
     let clock = words::long(line, read.at);

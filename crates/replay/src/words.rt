@@ -84,12 +84,12 @@ fn matched(line: &[u8], from: usize, text: &[u8]) -> usize {
 }
 
 // The end of the line's first word, where that word is `text`.
-pub fn first(line: &[u8], text: &[u8]) -> usize {
+pub(crate) fn first(line: &[u8], text: &[u8]) -> usize {
     matched(line, 0, text)
 }
 
 // The end of the next word, where that word is `text`.
-pub fn after(line: &[u8], at: usize, text: &[u8]) -> usize {
+pub(crate) fn after(line: &[u8], at: usize, text: &[u8]) -> usize {
     matched(line, start(line, at), text)
 }
 
@@ -141,7 +141,7 @@ fn number(line: &[u8], at: usize, most: u64) -> LongRead
     digits(line, start(line, at), most)
 }
 
-pub fn flag(line: &[u8], at: usize) -> FlagRead {
+pub(crate) fn flag(line: &[u8], at: usize) -> FlagRead {
     let n = number(line, at, 1);
     FlagRead {
         value: n.value == 1,
@@ -149,7 +149,7 @@ pub fn flag(line: &[u8], at: usize) -> FlagRead {
     }
 }
 
-pub fn byte(line: &[u8], at: usize) -> ByteRead {
+pub(crate) fn byte(line: &[u8], at: usize) -> ByteRead {
     let n = number(line, at, MOST_8);
     ByteRead {
         value: n.value as u8,
@@ -157,7 +157,7 @@ pub fn byte(line: &[u8], at: usize) -> ByteRead {
     }
 }
 
-pub fn short(line: &[u8], at: usize) -> ShortRead {
+pub(crate) fn short(line: &[u8], at: usize) -> ShortRead {
     let n = number(line, at, MOST_16);
     ShortRead {
         value: n.value as u16,
@@ -165,7 +165,7 @@ pub fn short(line: &[u8], at: usize) -> ShortRead {
     }
 }
 
-pub fn word(line: &[u8], at: usize) -> WordRead {
+pub(crate) fn word(line: &[u8], at: usize) -> WordRead {
     let n = number(line, at, MOST_32);
     WordRead {
         value: n.value as u32,
@@ -173,7 +173,7 @@ pub fn word(line: &[u8], at: usize) -> WordRead {
     }
 }
 
-pub fn long(line: &[u8], at: usize) -> LongRead {
+pub(crate) fn long(line: &[u8], at: usize) -> LongRead {
     number(line, at, MOST_64)
 }
 
@@ -187,7 +187,7 @@ fn below_zero(size: u64) -> i64
     0 - (size as i64)
 }
 
-pub fn signed(line: &[u8], at: usize) -> SignedRead {
+pub(crate) fn signed(line: &[u8], at: usize) -> SignedRead {
     let from = start(line, at);
     if from < line.len() {
         if line[from] == b'-' {

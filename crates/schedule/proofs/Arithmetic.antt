@@ -19,7 +19,6 @@ use Rattle.progress.specs.Progress.{permilleOf, partOf, tenthsOf}
 use Rattle.progress.specs.Laws.{permille-full, permille-short, part-down, part-whole, part-size, part-within}
 use Rattle.remaining_time.specs.RemainingTime.{newTenths}
 use Rattle.tasks.specs.declared.HueDelta.{HueDelta}
-use Rattle.lamp.specs.Calls.{noHueWay}
 use Rattle.schedule.proofs.Tests.{either}
 
 -- ---- the way travelled, read off a hue
@@ -67,12 +66,6 @@ at-end e t =
       | inl k ↦ le-leb 1000 (permilleOf e t) (omega (arith, permille-full e t (leb-true t e k))) ∙ sym k
       | inr k ↦ lt-leb 1000 (permilleOf e t) (permille-short e t (leb-false t e k)) ∙ sym k
     ]
-
--- no way is a way of size 0
-pub no-way-is : (way : ℤ) → noHueWay (HueDelta.By way) ≡ eqb (natAbs way) 0
-no-way-is (pos zero) = refl
-no-way-is (pos (suc n)) = rw (leb·suc-zero n, eqb·suc-zero n)
-no-way-is (negsuc n) = sym (eqb·suc-zero n)
 
 -- ---- the remaining time
 

@@ -29,7 +29,6 @@ use Rattle.schedule.specs.Calls.{next, accepts, idle, acceptedStep, inte
 use Rattle.schedule.specs.Schedule.{taskOf, time, wayFrom, Fed, Shown, over, shownAt, own, takes, moved, followed}
 use Rattle.matter.specs.Laws.{or-left}
 use Rattle.schedule.proofs.Tests.{either, never, positive}
-use Rattle.schedule.proofs.Arithmetic.{no-way-is}
 use Rattle.schedule.proofs.Course.{Sane, Right, wholeOf, at-right, step-open, followed-right, done-is, begins-done}
 use Rattle.schedule.proofs.Pass.{Shows, Meets, runFrom, runOf, runningOf, pass-ends, pass-goes}
 use Rattle.schedule.proofs.Accepts.{grounds, accepts-is, no-cause, refused-keeps, accepted-is}
@@ -139,7 +138,7 @@ permille-none c t h = rw (sub-self c) (permille-is 0 t h ∙ ap (min 1000) (zero
 start-pass : (f : Fed) → Sane f → (saturation : ℕ) (l : Lamp) → l .clock ≡ f .start → Meets f saturation (hueSaturationPass l (runOf f saturation) (startPermille (time (f .fade)) (noHueWay (HueDelta.By (wayFrom (f .fade) (f .found))) && true))) (shownAt f (l .clock))
 start-pass f n saturation l c =
     let o : over f (l .clock - f .start) ≡ (eqb (time (f .fade)) 0 || eqb (wholeOf f) 0) = ap (λ (t : ℕ). over f (t - f .start)) c ∙ sym (done-is f (f .start)) ∙ begins-done f in
-    rw (and-true, no-way-is)
+    rw and-true
     (elim (either (eqb (time (f .fade)) 0 || eqb (wholeOf f) 0)) [
       | inl e ↦ rw e (pass-ends f n saturation l (o ∙ e))
       | inr e ↦

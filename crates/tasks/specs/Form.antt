@@ -2,11 +2,11 @@
 -- record. A definition here says what is in form; the comment quotes the sentence that says what is out of it.
 -- Assumes nothing.
 use Prim.Native.Nat.{ℕ, _%_}
-use mathlib.Core.Bool.{Bool, true, false, _&&_, _||_}
+use mathlib.Core.Bool.{Bool, true, false, not, _&&_, _||_}
 use mathlib.Core.List.{[], _∷_}
 use lib.Dec.{leb, ltb, eqb}
-use lib.IntN.{ℤ, pos, negℤ}
-use lib.Signed.{leZ, ltZ}
+use lib.IntN.{ℤ, pos, negℤ, natAbs}
+use lib.Signed.{leZ}
 use Rattle.matter.specs.declared.MoveModeEnum.{MoveModeEnum}
 use Rattle.matter.specs.All.{all}
 use Rattle.matter.specs.Limits.{saturationLimit}
@@ -53,7 +53,7 @@ moves MoveModeEnum.Down = true
 
 -- "rate 0", "mired rate beyond ±65,535"
 abbrev pub rateForm : ℤ → Bool
-rateForm rate = (ltZ rate (pos 0) || ltZ (pos 0) rate) && leZ (negℤ (pos 65535)) rate && leZ rate (pos 65535)
+rateForm rate = not (eqb (natAbs rate) 0) && small rate
 
 -- a move-to; the last test is "neither hue nor saturation"
 unfoldable pub moveToForm : HueSaturationMoveTo → Bool

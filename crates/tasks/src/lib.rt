@@ -133,7 +133,7 @@ fn time_in_form(ms: u32) -> bool
 fn rate_in_form(rate: i64) -> bool
     ensures { λ r. ⌜ r ≡ rateForm rate ⌝ }
 {
-    ((rate < 0) | (0 < rate)) & (-65535 <= rate) & (rate <= 65535)
+    ((rate < 0) | (0 < rate)) & ((-65535 <= rate) & (rate <= 65535))
 }
 
 fn within_bounds(bounds: Bounds, mireds: u16) -> bool

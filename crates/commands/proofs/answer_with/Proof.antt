@@ -25,14 +25,22 @@ given-requires c κs = search needs
 
 returns-2 : tie.Need-returns-2
 unfolding taskAnswer
-returns-2 c = simp (← c .before .before .before .before .form-or-clock .ensures, none _ (c .before .before .before .if1 .left), c .before .if2 .taken, c .given .ensures, c .before .before .at-clock .ensures)
+returns-2 c =
+    let at-clock = c .before .before in
+    let at-if1 = at-clock .before in
+    let at-form-or-clock = at-if1 .before in
+    simp (← at-form-or-clock .form-or-clock .ensures, none _ (at-if1 .if1 .left), c .before .if2 .taken, c .given .ensures, at-clock .at-clock .ensures)
 
 refused-requires-2 : tie.Need-refused-requires-2
 refused-requires-2 c κs = search needs
 
 returns-3 : tie.Need-returns-3
 unfolding taskAnswer
-returns-3 c = simp (← c .before .before .before .before .before .form-or-clock .ensures, none _ (c .before .before .before .before .if1 .left), c .before .before .if2 .left, positive _ (c .before .if3 .taken)) (c .refused2 .ensures)
+returns-3 c =
+    let at-if2 = c .before .before in
+    let at-if1 = at-if2 .before .before in
+    let at-form-or-clock = at-if1 .before in
+    simp (← at-form-or-clock .form-or-clock .ensures, none _ (at-if1 .if1 .left), at-if2 .if2 .left, positive _ (c .before .if3 .taken)) (c .refused2 .ensures)
 
 should-continue-requires : tie.Need-should-continue-requires
 should-continue-requires c κs = search needs
@@ -42,21 +50,43 @@ passed-over-requires c κs = search needs
 
 returns-4 : tie.Need-returns-4
 unfolding taskAnswer
-returns-4 c = simp (← c .before .before .before .before .before .before .before .form-or-clock .ensures, none _ (c .before .before .before .before .before .before .if1 .left), c .before .before .before .before .if2 .left, none _ (c .before .before .before .if3 .left), ← c .before .before .should-continue .ensures, not-true (c .before .before .should-continue .result) (c .before .if4 .taken), c .passed-over .ensures, c .before .before .before .before .before .at-clock .ensures)
+returns-4 c =
+    let at-should-continue = c .before .before in
+    let at-if3 = at-should-continue .before in
+    let at-if2 = at-if3 .before in
+    let at-clock = at-if2 .before in
+    let at-if1 = at-clock .before in
+    let at-form-or-clock = at-if1 .before in
+    simp (← at-form-or-clock .form-or-clock .ensures, none _ (at-if1 .if1 .left), at-if2 .if2 .left, none _ (at-if3 .if3 .left), ← at-should-continue .should-continue .ensures, not-true (at-should-continue .should-continue .result) (c .before .if4 .taken), c .passed-over .ensures, at-clock .at-clock .ensures)
 
 refused-requires-3 : tie.Need-refused-requires-3
 refused-requires-3 c κs = search needs
 
 returns-5 : tie.Need-returns-5
 unfolding taskAnswer
-returns-5 c = simp (← c .before .before .before .before .before .before .before .before .form-or-clock .ensures, none _ (c .before .before .before .before .before .before .before .if1 .left), c .before .before .before .before .before .if2 .left, none _ (c .before .before .before .before .if3 .left), ← c .before .before .before .should-continue .ensures, not-false (c .before .before .before .should-continue .result) (c .before .before .if4 .left), c .before .if5 .taken) (c .refused3 .ensures)
+returns-5 c =
+    let at-if4 = c .before .before in
+    let at-should-continue = at-if4 .before in
+    let at-if3 = at-should-continue .before in
+    let at-if2 = at-if3 .before in
+    let at-if1 = at-if2 .before .before in
+    let at-form-or-clock = at-if1 .before in
+    simp (← at-form-or-clock .form-or-clock .ensures, none _ (at-if1 .if1 .left), at-if2 .if2 .left, none _ (at-if3 .if3 .left), ← at-should-continue .should-continue .ensures, not-false (at-should-continue .should-continue .result) (at-if4 .if4 .left), c .before .if5 .taken) (c .refused3 .ensures)
 
 given-requires-2 : tie.Need-given-requires-2
 given-requires-2 c κs = search needs
 
 returns-6 : tie.Need-returns-6
 unfolding taskAnswer
-returns-6 c = simp (← c .before .before .before .before .before .before .before .before .form-or-clock .ensures, none _ (c .before .before .before .before .before .before .before .if1 .left), c .before .before .before .before .before .if2 .left, none _ (c .before .before .before .before .if3 .left), ← c .before .before .before .should-continue .ensures, not-false (c .before .before .before .should-continue .result) (c .before .before .if4 .left), c .before .if5 .left, c .given2 .ensures, c .before .before .before .before .before .before .at-clock .ensures)
+returns-6 c =
+    let at-if4 = c .before .before in
+    let at-should-continue = at-if4 .before in
+    let at-if3 = at-should-continue .before in
+    let at-if2 = at-if3 .before in
+    let at-clock = at-if2 .before in
+    let at-if1 = at-clock .before in
+    let at-form-or-clock = at-if1 .before in
+    simp (← at-form-or-clock .form-or-clock .ensures, none _ (at-if1 .if1 .left), at-if2 .if2 .left, none _ (at-if3 .if3 .left), ← at-should-continue .should-continue .ensures, not-false (at-should-continue .should-continue .result) (at-if4 .if4 .left), c .before .if5 .left, c .given2 .ensures, at-clock .at-clock .ensures)
 
 pub answer-with-spec : {M : Type 1} → statement M
 answer-with-spec =

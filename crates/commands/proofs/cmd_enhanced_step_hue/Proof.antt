@@ -1,3 +1,5 @@
+-- The command's number, task and Stop mode, with the looks that all commands share, are the table's answer.
+-- Assumes nothing.
 use mir.ValLaws.{toZ-ofZ}
 use mir.Syntax.{w64}
 use borrow.Author.Needs.{needs, sfits-of}
@@ -21,7 +23,10 @@ answer-with-requires c κs = search needs
 
 returns : tie.Need-returns
 unfolding commandAnswer commandCause commandEffect taskAnswer
-returns c = simp (c .answer-with .ensures, c .before .hue-task .ensures, toZ-ofZ w64 (c .before .before .step-way .result) (sfits-of (c .before .before .step-way .ok)), c .before .before .before .number-if .ensures) (simp (c .before .before .step-way .ensures))
+returns c =
+    let at-step-way = c .before .before in
+    let at-number-if = at-step-way .before in
+    simp (c .answer-with .ensures, c .before .hue-task .ensures, toZ-ofZ w64 (at-step-way .step-way .result) (sfits-of (at-step-way .step-way .ok)), at-number-if .number-if .ensures) (simp (at-step-way .step-way .ensures))
 
 pub cmd-enhanced-step-hue-spec : {M : Type 1} → statement M
 cmd-enhanced-step-hue-spec =

@@ -1,3 +1,5 @@
+-- The command's number, task and Stop mode, with the looks that all commands share, are the table's answer.
+-- Assumes nothing.
 use mir.ValLaws.{toZ-ofZ}
 use mir.Syntax.{w64}
 use borrow.Author.Needs.{needs, sfits-of}
@@ -27,7 +29,12 @@ answer-with-requires c κs = search needs
 
 returns : tie.Need-returns
 unfolding commandAnswer commandCause commandEffect taskAnswer
-returns c = simp (c .answer-with .ensures, c .before .stops .ensures, c .before .before .limit-asked2 .ensures, c .before .before .before .limit-asked .ensures, toZ-ofZ w64 (c .before .before .before .before .signed-rate .result) (sfits-of (c .before .before .before .before .signed-rate .ok)), c .before .before .before .before .before .number-if .ensures) (simp (c .before .before .before .before .signed-rate .ensures))
+returns c =
+    let at-limit-asked2 = c .before .before in
+    let at-limit-asked = at-limit-asked2 .before in
+    let at-signed-rate = at-limit-asked .before in
+    let at-number-if = at-signed-rate .before in
+    simp (c .answer-with .ensures, c .before .stops .ensures, at-limit-asked2 .limit-asked2 .ensures, at-limit-asked .limit-asked .ensures, toZ-ofZ w64 (at-signed-rate .signed-rate .result) (sfits-of (at-signed-rate .signed-rate .ok)), at-number-if .number-if .ensures) (simp (at-signed-rate .signed-rate .ensures))
 
 pub cmd-move-color-temperature-spec : {M : Type 1} → statement M
 cmd-move-color-temperature-spec =

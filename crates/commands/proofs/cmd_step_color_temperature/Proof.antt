@@ -1,3 +1,5 @@
+-- The command's number, task and Stop mode, with the looks that all commands share, are the table's answer.
+-- Assumes nothing.
 use mir.ValLaws.{toZ-ofZ}
 use mir.Syntax.{w64}
 use borrow.Author.Needs.{needs, sfits-of}
@@ -30,7 +32,13 @@ answer-with-requires c κs = search needs
 
 returns : tie.Need-returns
 unfolding commandAnswer commandCause commandEffect taskAnswer
-returns c = simp (c .answer-with .ensures, c .before .temperature-task .ensures, c .before .before .brought-within .ensures, toZ-ofZ w64 (c .before .before .before .step-way .result) (sfits-of (c .before .before .before .step-way .ok)), c .before .before .before .before .upper .ensures, c .before .before .before .before .before .lower .ensures, c .before .before .before .before .before .before .before .number-if .ensures) (simp (c .before .before .before .step-way .ensures))
+returns c =
+    let at-brought-within = c .before .before in
+    let at-step-way = at-brought-within .before in
+    let at-upper = at-step-way .before in
+    let at-lower = at-upper .before in
+    let at-number-if = at-lower .before .before in
+    simp (c .answer-with .ensures, c .before .temperature-task .ensures, at-brought-within .brought-within .ensures, toZ-ofZ w64 (at-step-way .step-way .result) (sfits-of (at-step-way .step-way .ok)), at-upper .upper .ensures, at-lower .lower .ensures, at-number-if .number-if .ensures) (simp (at-step-way .step-way .ensures))
 
 pub cmd-step-color-temperature-spec : {M : Type 1} → statement M
 cmd-step-color-temperature-spec =

@@ -2,31 +2,53 @@
 -- Assumes nothing.
 use Prim.Native.Nat.{ℕ}
 use mathlib.Core.Path.{_≡_, sym, ap, _∙_}
-use mathlib.Core.Bool.{false, not}
+use mathlib.Core.Bool.{true, false, not}
 use mathlib.Core.List.{List}
 use lib.ListN.{length}
 use Rattle.lamp.specs.declared.Lamp.{Lamp}
 use Rattle.lamp.specs.declared.Answer.{Answer}
 use Rattle.exports.specs.Lamps.{lampOf, lampKnown}
-use Rattle.exports.specs.Calls.{callKnown, sent}
-use Rattle.exports.specs.Exported.{Answered, answered, taken}
+use Rattle.exports.specs.Calls.{unreadable, callKnown, sent}
+use Rattle.exports.specs.Exported.{Answered, unreadableLamp, noRoom, away, answered, taken}
 use borrow.Author.Tests.{eq-eqb, ne-eqb}
 use borrow.Author.Needs.{needs}
 use Rattle.exports.proofs.yemkruos_call.Statement.{statement}
 use Rattle.exports.proofs.yemkruos_call.Tie as tie
 
--- a call that is taken
-taken-is : (w call answer : List ℕ) (l : Lamp) (r : Answer) → length w ≡ 28 → length answer ≡ 25 → not (lampKnown w) ≡ false → not (callKnown call) ≡ false → l ≡ lampOf w → r ≡ sent l call → answered w call answer ≡ taken r
-unfolding answered
-taken-is w call answer l r m n k h e f = rw (f, e) (simp (eq-eqb (length w) 28 m, eq-eqb (length answer) 25 n, k, h))
+-- ---- the definition's cases
+
+module _ (w call answer : List ℕ) where
+  no-lamp : (length w ≡ 28 → ⊥) → answered w call answer ≡ away unreadableLamp w answer
+  unfolding answered
+  no-lamp m = simp (ne-eqb _ _ m)
+
+  no-room : length w ≡ 28 → (length answer ≡ 25 → ⊥) → answered w call answer ≡ away noRoom w answer
+  unfolding answered
+  no-room m n = simp (eq-eqb _ _ m, ne-eqb _ _ n)
+
+  unknown-lamp : length w ≡ 28 → length answer ≡ 25 → not (lampKnown w) ≡ true → answered w call answer ≡ away unreadableLamp w answer
+  unfolding answered
+  unknown-lamp m n k = simp (eq-eqb _ _ m, eq-eqb _ _ n, k)
+
+  unknown-call : length w ≡ 28 → length answer ≡ 25 → not (lampKnown w) ≡ false → not (callKnown call) ≡ true → answered w call answer ≡ away unreadable w answer
+  unfolding answered
+  unknown-call m n k h = simp (eq-eqb _ _ m, eq-eqb _ _ n, k, h)
+
+  taken-is : (l : Lamp) (r : Answer) → length w ≡ 28 → length answer ≡ 25 → not (lampKnown w) ≡ false → not (callKnown call) ≡ false → l ≡ lampOf w → r ≡ sent l call → answered w call answer ≡ taken r
+  unfolding answered
+  taken-is l r m n k h e f = rw (f, e) (simp (eq-eqb _ _ m, eq-eqb _ _ n, k, h))
+
+-- what a case leaves, part by part
+parts : {a b : Answered} → a ≡ b → (b .number ≡ a .number) × ((b .lamp ≡ a .lamp) × (b .answer ≡ a .answer))
+parts e = (sym (ap (λ (x : Answered). x .number) e), (sym (ap (λ (x : Answered). x .lamp) e), sym (ap (λ (x : Answered). x .answer) e)))
+
+-- ---- the ways through the function
 
 returns : tie.Need-returns
-unfolding answered
-returns c = (simp (ne-eqb _ _ (c .if1 .taken)), (simp (ne-eqb _ _ (c .if1 .taken)), simp (ne-eqb _ _ (c .if1 .taken))))
+returns c = parts (no-lamp _ _ _ (c .if1 .taken))
 
 returns-2 : tie.Need-returns-2
-unfolding answered
-returns-2 c = (simp (ne-eqb _ _ (c .if2 .taken), eq-eqb _ _ (c .before .if1 .left)), (simp (ne-eqb _ _ (c .if2 .taken), eq-eqb _ _ (c .before .if1 .left)), simp (ne-eqb _ _ (c .if2 .taken), eq-eqb _ _ (c .before .if1 .left))))
+returns-2 c = parts (no-room _ _ _ (c .before .if1 .left) (c .if2 .taken))
 
 lamp-known-requires : tie.Need-lamp-known-requires
 lamp-known-requires c κs = search needs
@@ -35,8 +57,10 @@ same-length : tie.Need-same-length
 same-length c = search needs
 
 returns-3 : tie.Need-returns-3
-unfolding answered
-returns-3 c = (simp (rw (c .before .lamp-known .ensures) at (c .if3 .taken), eq-eqb _ _ (c .before .before .before .if2 .left), eq-eqb _ _ (c .before .before .before .before .if1 .left)), (simp (rw (c .before .lamp-known .ensures) at (c .if3 .taken), eq-eqb _ _ (c .before .before .before .if2 .left), eq-eqb _ _ (c .before .before .before .before .if1 .left)), simp (rw (c .before .lamp-known .ensures) at (c .if3 .taken), eq-eqb _ _ (c .before .before .before .if2 .left), eq-eqb _ _ (c .before .before .before .before .if1 .left))))
+returns-3 c =
+    let at-lamp-known = c .before in
+    let at-if2 = at-lamp-known .before .before in
+    parts (unknown-lamp _ _ _ (at-if2 .before .if1 .left) (at-if2 .if2 .left) (rw (at-lamp-known .lamp-known .ensures) at (c .if3 .taken)))
 
 call-known-requires : tie.Need-call-known-requires
 call-known-requires c κs = search needs
@@ -48,8 +72,11 @@ same-length-2 : tie.Need-same-length-2
 same-length-2 c = search needs
 
 returns-4 : tie.Need-returns-4
-unfolding answered
-returns-4 c = (simp (rw (c .before .call-known .ensures) at (c .if4 .taken), rw (c .before .before .before .lamp-known .ensures) at (c .before .before .if3 .left), eq-eqb _ _ (c .before .before .before .before .before .if2 .left), eq-eqb _ _ (c .before .before .before .before .before .before .if1 .left)), (simp (rw (c .before .call-known .ensures) at (c .if4 .taken), rw (c .before .before .before .lamp-known .ensures) at (c .before .before .if3 .left), eq-eqb _ _ (c .before .before .before .before .before .if2 .left), eq-eqb _ _ (c .before .before .before .before .before .before .if1 .left)), simp (rw (c .before .call-known .ensures) at (c .if4 .taken), rw (c .before .before .before .lamp-known .ensures) at (c .before .before .if3 .left), eq-eqb _ _ (c .before .before .before .before .before .if2 .left), eq-eqb _ _ (c .before .before .before .before .before .before .if1 .left))))
+returns-4 c =
+    let at-if3 = c .before .before in
+    let at-lamp-known = at-if3 .before in
+    let at-if2 = at-lamp-known .before .before in
+    parts (unknown-call _ _ _ (at-if2 .before .if1 .left) (at-if2 .if2 .left) (rw (at-lamp-known .lamp-known .ensures) at (at-if3 .if3 .left)) (rw (c .before .call-known .ensures) at (c .if4 .taken)))
 
 lamp-of-requires : tie.Need-lamp-of-requires
 lamp-of-requires c κs = search needs
@@ -86,14 +113,21 @@ same-length-4 c = search needs
 
 returns-5 : tie.Need-returns-5
 returns-5 c =
-    let e : answered (c .before .before .before .before .before .before .before .before .before .before .before .before .before .before .before .before .before .before .before .before .before .before .before .before .before .before .before .args .words .now) (c .before .before .before .before .before .before .before .before .before .before .before .before .before .before .before .before .before .before .before .before .before .before .before .before .before .before .before .args .call .now) (c .before .before .before .before .before .before .before .before .before .before .before .before .before .before .before .before .before .before .before .before .before .before .before .before .before .before .before .args .answer .now) ≡ taken (c .before .before .before .before .before .before .before .before .before .before .before .before .before .before .sent .result) =
-    taken-is _ _ _ _ _ (c .before .before .before .before .before .before .before .before .before .before .before .before .before .before .before .before .before .before .before .before .before .before .before .if1 .left) (c .before .before .before .before .before .before .before .before .before .before .before .before .before .before .before .before .before .before .before .before .before .before .if2 .left) (rw (c .before .before .before .before .before .before .before .before .before .before .before .before .before .before .before .before .before .before .before .before .lamp-known .ensures) at (c .before .before .before .before .before .before .before .before .before .before .before .before .before .before .before .before .before .before .before .if3 .left)) (rw (c .before .before .before .before .before .before .before .before .before .before .before .before .before .before .before .before .before .before .call-known .ensures) at (c .before .before .before .before .before .before .before .before .before .before .before .before .before .before .before .before .before .if4 .left)) (c .before .before .before .before .before .before .before .before .before .before .before .before .before .before .before .lamp-of .ensures) (c .before .before .before .before .before .before .before .before .before .before .before .before .before .before .sent .ensures) in (
-      sym (ap (λ (x : Answered). x .number) e),
-      (
-        c .before .before .before .before .before .before .before .before .before .copy .ensures ∙ c .before .before .before .before .before .before .before .before .before .before .before .before .lamp-words .ensures ∙ sym (ap (λ (x : Answered). x .lamp) e),
-        c .before .before .before .copy2 .ensures ∙ c .before .before .before .before .before .before .answer-words .ensures ∙ sym (ap (λ (x : Answered). x .answer) e),
-      ),
-    )
+    let at-copy2 = c .before .before .before in
+    let at-answer-words = at-copy2 .before .before .before in
+    let at-copy = at-answer-words .before .before .before in
+    let at-lamp-words = at-copy .before .before .before in
+    let at-sent = at-lamp-words .before .before in
+    let at-lamp-of = at-sent .before in
+    let at-if4 = at-lamp-of .before .before in
+    let at-call-known = at-if4 .before in
+    let at-if3 = at-call-known .before in
+    let at-lamp-known = at-if3 .before in
+    let at-if2 = at-lamp-known .before .before in
+    let called = at-if2 .before .before .before .before .before .args in
+    let left =
+    parts (taken-is (called .words .now) (called .call .now) (called .answer .now) _ _ (at-if2 .before .if1 .left) (at-if2 .if2 .left) (rw (at-lamp-known .lamp-known .ensures) at (at-if3 .if3 .left)) (rw (at-call-known .call-known .ensures) at (at-if4 .if4 .left)) (at-lamp-of .lamp-of .ensures) (at-sent .sent .ensures)) in
+    (left .0, (at-copy .copy .ensures ∙ at-lamp-words .lamp-words .ensures ∙ left .1 .0, at-copy2 .copy2 .ensures ∙ at-answer-words .answer-words .ensures ∙ left .1 .1))
 
 pub yemkruos-call-spec : {M : Type 1} → statement M
 yemkruos-call-spec =

@@ -1,15 +1,37 @@
 -- `yemkruos_new`: the definition takes the case that the tests on the way have found.
 -- Assumes nothing.
-use mathlib.Core.Path.{sym, _∙_}
-use Rattle.exports.specs.Exported.{made}
+use Prim.Native.Nat.{ℕ}
+use mathlib.Core.Path.{_≡_, sym, ap, _∙_}
+use mathlib.Core.List.{List}
+use lib.ListN.{length}
+use Rattle.matter.specs.declared.Bounds.{Bounds}
+use Rattle.lamp.specs.declared.Made.{Made}
+use Rattle.lamp.specs.Making.{making}
+use Rattle.exports.specs.Exported.{Left, unreadableLamp, laid, made}
 use borrow.Author.Tests.{eq-eqb, ne-eqb}
 use borrow.Author.Needs.{needs}
 use Rattle.exports.proofs.yemkruos_new.Statement.{statement}
 use Rattle.exports.proofs.yemkruos_new.Tie as tie
 
+-- ---- the definition's cases
+
+module _ (w : List ℕ) (bounds : Bounds) (features options clock : ℕ) where
+  no-lamp : (length w ≡ 28 → ⊥) → made w bounds features options clock ≡ record { number = unreadableLamp; lamp = w }
+  unfolding made
+  no-lamp m = simp (ne-eqb _ _ m)
+
+  laid-is : (m : Made) → length w ≡ 28 → making bounds features options clock ≡ m → made w bounds features options clock ≡ laid w m
+  unfolding made
+  laid-is m h e = simp (eq-eqb _ _ h, e)
+
+-- what a case leaves, part by part
+parts : {a b : Left} → a ≡ b → (b .number ≡ a .number) × (b .lamp ≡ a .lamp)
+parts e = (sym (ap (λ (x : Left). x .number) e), sym (ap (λ (x : Left). x .lamp) e))
+
+-- ---- the ways through the function
+
 returns : tie.Need-returns
-unfolding made
-returns c = (simp (ne-eqb _ _ (c .if1 .taken)), simp (ne-eqb _ _ (c .if1 .taken)))
+returns c = parts (no-lamp _ _ _ _ _ (c .if1 .taken))
 
 new-requires : tie.Need-new-requires
 new-requires c κs = search needs
@@ -36,12 +58,18 @@ same-length : tie.Need-same-length
 same-length c = search needs
 
 returns-2 : tie.Need-returns-2
-unfolding made
-returns-2 c = (simp (c .before .before .copy .ensures, c .before .before .before .before .before .lamp-words .ensures, sym (c .before .before .before .before .before .before .before .before .before .new .ensures) ∙ c .before .before .before .before .before .before .before .made .given .1, eq-eqb _ _ (c .before .before .before .before .before .before .before .before .before .before .if1 .left)), simp (c .before .before .copy .ensures, c .before .before .before .before .before .lamp-words .ensures, sym (c .before .before .before .before .before .before .before .before .before .new .ensures) ∙ c .before .before .before .before .before .before .before .made .given .1, eq-eqb _ _ (c .before .before .before .before .before .before .before .before .before .before .if1 .left)))
+returns-2 c =
+    let at-copy = c .before .before in
+    let at-lamp-words = at-copy .before .before .before in
+    let at-made = at-lamp-words .before .before in
+    let at-new = at-made .before .before in
+    let left = parts (laid-is _ _ _ _ _ _ (at-new .before .if1 .left) (sym (at-new .new .ensures .0) ∙ at-made .made .given .1)) in
+    (left .0, at-copy .copy .ensures ∙ at-lamp-words .lamp-words .ensures ∙ left .1)
 
 returns-3 : tie.Need-returns-3
-unfolding made
-returns-3 c = (simp (sym (c .before .before .before .new .ensures) ∙ c .before .made2 .given .1, eq-eqb _ _ (c .before .before .before .before .if1 .left)), simp (sym (c .before .before .before .new .ensures) ∙ c .before .made2 .given .1, eq-eqb _ _ (c .before .before .before .before .if1 .left)))
+returns-3 c =
+    let at-new = c .before .before .before in
+    parts (laid-is _ _ _ _ _ _ (at-new .before .if1 .left) (sym (at-new .new .ensures .0) ∙ c .before .made2 .given .1))
 
 pub yemkruos-new-spec : {M : Type 1} → statement M
 yemkruos-new-spec =

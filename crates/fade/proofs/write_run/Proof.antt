@@ -37,9 +37,13 @@ write-all-requires c κs = search needs
 
 loop-less : tie.Need-loop-less Inv-loop μ-loop
 loop-less c =
-    shrinks (c .before .before .before .before .before .before .before .before .before .loop .fade) (c .before .before .before .before .write .result .fade) _ (length (c .before .before .before .before .before .before .before .before .before .loop .block)) _
-    (sym (c .before .before .before .before .before .before .before .is-over .ensures) ∙ not-true (c .before .before .before .before .before .before .before .is-over .result) (c .before .before .before .before .before .before .if1 .taken))
-    (omega arith) (c .before .before .before .before .write .ensures .1 .1) (c .before .before .before .before .write .ensures .1 .0) (c .before .before .before .before .write .ensures .0)
+    let at-write = c .before .before .before .before in
+    let at-if1 = at-write .before .before in
+    let at-is-over = at-if1 .before in
+    let at-loop = at-is-over .before .before in
+    shrinks (at-loop .loop .fade) (at-write .write .result .fade) _ (length (at-loop .loop .block)) _
+    (sym (at-is-over .is-over .ensures) ∙ not-true (at-is-over .is-over .result) (at-if1 .if1 .taken))
+    (omega arith) (at-write .write .ensures .1 .1) (at-write .write .ensures .1 .0) (at-write .write .ensures .0)
 
 loop-again : tie.Need-loop-again Inv-loop μ-loop
 loop-again c = search needs

@@ -1,3 +1,5 @@
+-- The making, which is refused or gives the lamp that the command is sent to.
+-- Assumes nothing.
 use Rattle.fade_run.specs.Run.{afterMaking}
 use mathlib.Core.Path.{sym, ap, _∙_}
 use borrow.Author.Needs.{needs}
@@ -17,10 +19,17 @@ command-requires : tie.Need-command-requires
 command-requires c κs = search needs
 
 returns : tie.Need-returns
-returns c = ap (afterMaking (c .before .before .before .before .args .wanted .tenths) (c .before .before .before .before .args .wanted)) (sym (c .before .number .given .1) ∙ c .before .before .before .new .ensures)
+returns c =
+    let at-new = c .before .before .before in
+    let at-start = at-new .before in
+    ap (afterMaking (at-start .args .wanted .tenths) (at-start .args .wanted)) (sym (c .before .number .given .1) ∙ at-new .new .ensures .0)
 
 returns-2 : tie.Need-returns-2
-returns-2 c = c .command .ensures ∙ ap (afterMaking (c .before .before .before .before .before .args .wanted .tenths) (c .before .before .before .before .before .args .wanted)) (sym (c .before .before .lamp .given .1) ∙ c .before .before .before .before .new .ensures)
+returns-2 c =
+    let at-lamp = c .before .before in
+    let at-new = at-lamp .before .before in
+    let at-start = at-new .before in
+    c .command .ensures ∙ ap (afterMaking (at-start .args .wanted .tenths) (at-start .args .wanted)) (sym (at-lamp .lamp .given .1) ∙ at-new .new .ensures .0)
 
 pub begin-spec : {M : Type 1} → statement M
 begin-spec =

@@ -13,7 +13,10 @@ start-requires : tie.Need-start-requires
 start-requires c κs = search needs
 
 told-requires : tie.Need-told-requires
-told-requires c κs = subst⁻¹ (λ (a : Answer). c .before .before .before .before .args .starting .clock + a .wait < 2 ^ 64) (c .before .start .ensures) (start-clock (c .before .before .before .before .args .starting .lamp) (c .before .before .before .before .args .starting .clock) (omega arith) (c .before .before .before .before .args .starting .task))
+told-requires c κs =
+    let at-start = c .before .before .before .before in
+    let called = at-start .args in
+    subst⁻¹ (λ (a : Answer). called .starting .clock + a .wait < 2 ^ 64) (c .before .start .ensures) (start-clock (called .starting .lamp) (called .starting .clock) (omega arith) (called .starting .task))
 
 same-length : tie.Need-same-length
 same-length c = search needs

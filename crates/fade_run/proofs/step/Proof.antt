@@ -13,7 +13,10 @@ step-requires : tie.Need-step-requires
 step-requires c κs = search needs
 
 told-requires : tie.Need-told-requires
-told-requires c κs = subst⁻¹ (λ (a : Answer). c .before .before .before .before .args .stepping .clock + a .wait < 2 ^ 64) (c .before .step .ensures) (step-clock (c .before .before .before .before .args .stepping .lamp) (c .before .before .before .before .args .stepping .clock) (omega arith))
+told-requires c κs =
+    let at-start = c .before .before .before .before in
+    let called = at-start .args in
+    subst⁻¹ (λ (a : Answer). called .stepping .clock + a .wait < 2 ^ 64) (c .before .step .ensures) (step-clock (called .stepping .lamp) (called .stepping .clock) (omega arith))
 
 same-length : tie.Need-same-length
 same-length c = search needs

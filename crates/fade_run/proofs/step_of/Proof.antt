@@ -21,7 +21,10 @@ returns-2 c = simp (eq-eqb _ _ (c .before .before .before .if1 .left), sym (c .b
 
 returns-3 : tie.Need-returns-3
 unfolding stepOf
-returns-3 c = simp (eq-eqb _ _ (c .before .before .before .before .if1 .left), sym (c .before .before .is-running .ensures) ∙ not-false (c .before .before .is-running .result) (c .before .if2 .left), c .if3 .taken)
+returns-3 c =
+    let at-is-running = c .before .before in
+    let at-if1 = at-is-running .before .before in
+    simp (eq-eqb _ _ (at-if1 .if1 .left), sym (at-is-running .is-running .ensures) ∙ not-false (at-is-running .is-running .result) (c .before .if2 .left), c .if3 .taken)
 
 add-t8 : tie.Need-add-t8
 add-t8 c = search needs
@@ -31,7 +34,12 @@ sub-t9 c = search needs
 
 returns-4 : tie.Need-returns-4
 unfolding stepOf
-returns-4 c = simp (eq-eqb _ _ (c .before .before .before .before .before .if1 .left), sym (c .before .before .before .is-running .ensures) ∙ not-false (c .before .before .before .is-running .result) (c .before .before .if2 .left), lt-ltb 0 (c .before .before .before .before .before .before .before .args .left) (omega (arith, c .before .if3 .left)))
+returns-4 c =
+    let at-if2 = c .before .before in
+    let at-is-running = at-if2 .before in
+    let at-if1 = at-is-running .before .before in
+    let at-start = at-if1 .before .before in
+    simp (eq-eqb _ _ (at-if1 .if1 .left), sym (at-is-running .is-running .ensures) ∙ not-false (at-is-running .is-running .result) (at-if2 .if2 .left), lt-ltb 0 (at-start .args .left) (omega (arith, c .before .if3 .left)))
 
 pub step-of-spec : {M : Type 1} → statement M
 step-of-spec =

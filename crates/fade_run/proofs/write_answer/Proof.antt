@@ -25,7 +25,11 @@ same-length-2 : tie.Need-same-length-2
 same-length-2 c = search needs
 
 returns-2 : tie.Need-returns-2
-returns-2 c = simp (eq-eqb _ _ (c .before .before .before .before .before .if1 .left), sym (c .before .before .before .line-of .ensures)) (c .before .before .write-line .ensures)
+returns-2 c =
+    let at-write-line = c .before .before in
+    let at-line-of = at-write-line .before in
+    let at-if1 = at-line-of .before .before in
+    simp (eq-eqb _ _ (at-if1 .if1 .left), sym (at-line-of .line-of .ensures)) (at-write-line .write-line .ensures)
 
 pub write-answer-spec : {M : Type 1} → statement M
 write-answer-spec =

@@ -31,7 +31,9 @@ slice-reshare-prefix-write-all : tie.Need-slice-reshare-prefix-write-all
 slice-reshare-prefix-write-all c = search needs
 
 slice-aggregate-write-all-3 : tie.Need-slice-aggregate-write-all-3
-slice-aggregate-write-all-3 c = sym (length-take-le _ _ (c .before .before .before .before .before .before .before .before .write .ensures .1 .0))
+slice-aggregate-write-all-3 c =
+    let at-write = c .before .before .before .before .before .before .before .before in
+    sym (length-take-le _ _ (at-write .write .ensures .1 .0))
 
 write-all-requires-4 : tie.Need-write-all-requires-4
 write-all-requires-4 c κs = search needs

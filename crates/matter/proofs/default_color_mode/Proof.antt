@@ -24,11 +24,21 @@ contains-requires-3 c κs = search needs
 
 returns-3 : tie.Need-returns-3
 unfolding defaultColorMode
-returns-3 c = simp (← c .before .before .before .before .before .contains .ensures, c .before .before .before .before .if1 .left, ← c .before .before .before .contains2 .ensures, c .before .before .if2 .left, ← c .before .contains3 .ensures, c .if3 .taken)
+returns-3 c =
+    let at-if2 = c .before .before in
+    let at-contains2 = at-if2 .before in
+    let at-if1 = at-contains2 .before in
+    let at-contains = at-if1 .before in
+    simp (← at-contains .contains .ensures, at-if1 .if1 .left, ← at-contains2 .contains2 .ensures, at-if2 .if2 .left, ← c .before .contains3 .ensures, c .if3 .taken)
 
 returns-4 : tie.Need-returns-4
 unfolding defaultColorMode
-returns-4 c = simp (← c .before .before .before .before .before .contains .ensures, c .before .before .before .before .if1 .left, ← c .before .before .before .contains2 .ensures, c .before .before .if2 .left, ← c .before .contains3 .ensures, c .if3 .left)
+returns-4 c =
+    let at-if2 = c .before .before in
+    let at-contains2 = at-if2 .before in
+    let at-if1 = at-contains2 .before in
+    let at-contains = at-if1 .before in
+    simp (← at-contains .contains .ensures, at-if1 .if1 .left, ← at-contains2 .contains2 .ensures, at-if2 .if2 .left, ← c .before .contains3 .ensures, c .if3 .left)
 
 pub default-color-mode-spec : {M : Type 1} → statement M
 default-color-mode-spec =

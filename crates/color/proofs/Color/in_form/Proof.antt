@@ -11,7 +11,9 @@ modes-agree-requires c κs = search needs
 
 returns : tie.Need-returns
 unfolding colorForm all
-returns c = simp (c .before .before .before .before .before .before .before .before .before .modes-agree .ensures)
+returns c =
+    let at-modes-agree = c .before .before .before .before .before .before .before .before .before in
+    simp (at-modes-agree .modes-agree .ensures)
 
 pub in-form-spec : {M : Type 1} → statement M
 in-form-spec = tie.close (tie.spec modes-agree-requires returns)

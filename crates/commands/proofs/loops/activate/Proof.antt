@@ -32,7 +32,15 @@ answer-of-requires c κs = search needs
 
 returns : tie.Need-returns
 unfolding activated
-returns c = simp (c .answer-of .ensures, c .before .push2 .ensures, c .before .before .push .ensures, c .before .before .before .before .before .word-if .ensures, c .before .before .before .before .before .before .before .before .set-hue .ensures, c .before .before .before .before .before .before .before .before .before .before .push-if2 .ensures, c .before .before .before .before .before .before .before .before .before .before .before .push-if .ensures) (ap (λ (n : Notices). record { number = 0; lamp = activated (c .before .before .before .before .before .before .before .before .before .before .before .before .before .args .lamp) [] (c .before .before .before .before .before .before .before .before .before .before .before .before .before .args .seed) .lamp; notices = n; task = activated (c .before .before .before .before .before .before .before .before .before .before .before .before .before .args .lamp) [] (c .before .before .before .before .before .before .before .before .before .before .before .before .before .args .seed) .task; wait = 0 }) (on-pushes (c .before .before .before .before .before .before .before .before .before .before .before .before .before .args .list) (c .before .before .before .before .before .before .before .before .before .before .before .before .before .args .lamp .looping .active) _))
+returns c =
+    let at-push = c .before .before in
+    let at-word-if = at-push .before .before .before in
+    let at-set-hue = at-word-if .before .before .before in
+    let at-push-if2 = at-set-hue .before .before in
+    let at-push-if = at-push-if2 .before in
+    let at-start = at-push-if .before .before in
+    let called = at-start .args in
+    simp (c .answer-of .ensures, c .before .push2 .ensures, at-push .push .ensures, at-word-if .word-if .ensures, at-set-hue .set-hue .ensures, at-push-if2 .push-if2 .ensures, at-push-if .push-if .ensures) (ap (λ (n : Notices). record { number = 0; lamp = activated (called .lamp) [] (called .seed) .lamp; notices = n; task = activated (called .lamp) [] (called .seed) .task; wait = 0 }) (on-pushes (called .list) (called .lamp .looping .active) _))
 
 pub activate-spec : {M : Type 1} → statement M
 activate-spec =

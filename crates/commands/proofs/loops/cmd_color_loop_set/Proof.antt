@@ -29,14 +29,24 @@ passed-over-requires c κs = search needs
 
 returns-2 : tie.Need-returns-2
 unfolding commandAnswer commandCause commandEffect
-returns-2 c = simp (← c .before .before .before .before .before .form-or-clock .ensures, none _ (c .before .before .before .before .if1 .left), ← c .before .before .should-continue .ensures, not-true (c .before .before .should-continue .result) (c .before .if2 .taken), c .passed-over .ensures, c .before .before .before .at-clock .ensures)
+returns-2 c =
+    let at-should-continue = c .before .before in
+    let at-clock = at-should-continue .before in
+    let at-if1 = at-clock .before in
+    let at-form-or-clock = at-if1 .before in
+    simp (← at-form-or-clock .form-or-clock .ensures, none _ (at-if1 .if1 .left), ← at-should-continue .should-continue .ensures, not-true (at-should-continue .should-continue .result) (c .before .if2 .taken), c .passed-over .ensures, at-clock .at-clock .ensures)
 
 set-loop-requires : tie.Need-set-loop-requires
 set-loop-requires c κs = search needs
 
 returns-3 : tie.Need-returns-3
 unfolding commandAnswer commandCause commandEffect
-returns-3 c = simp (← c .before .before .before .before .before .form-or-clock .ensures, none _ (c .before .before .before .before .if1 .left), ← c .before .before .should-continue .ensures, not-false (c .before .before .should-continue .result) (c .before .if2 .left), c .set-loop .ensures, c .before .before .before .at-clock .ensures)
+returns-3 c =
+    let at-should-continue = c .before .before in
+    let at-clock = at-should-continue .before in
+    let at-if1 = at-clock .before in
+    let at-form-or-clock = at-if1 .before in
+    simp (← at-form-or-clock .form-or-clock .ensures, none _ (at-if1 .if1 .left), ← at-should-continue .should-continue .ensures, not-false (at-should-continue .should-continue .result) (c .before .if2 .left), c .set-loop .ensures, at-clock .at-clock .ensures)
 
 pub cmd-color-loop-set-spec : {M : Type 1} → statement M
 cmd-color-loop-set-spec =

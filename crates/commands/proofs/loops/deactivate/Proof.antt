@@ -38,7 +38,14 @@ answer-of-requires-2 c κs = search needs
 
 returns-2 : tie.Need-returns-2
 unfolding deactivated
-returns-2 c = simp (not-false (c .before .before .before .before .before .before .before .before .before .before .before .before .before .args .lamp .looping .active) (c .before .before .before .before .before .before .before .before .before .before .before .if1 .left), c .answer-of2 .ensures, c .before .push3 .ensures, c .before .before .before .before .before .before .before .set-hue .ensures, c .before .before .before .before .before .before .before .before .before .push2 .ensures, c .before .before .before .before .before .before .before .before .before .before .push .ensures) (ap (λ (n : Notices). record { number = 0; lamp = withLoop (c .before .before .before .before .before .before .before .before .before .before .before .before .before .args .lamp) (hueSet (c .before .before .before .before .before .before .before .before .before .before .before .before .before .args .lamp .color) (c .before .before .before .before .before .before .before .before .before .before .before .before .before .args .lamp .looping .stored) true true (c .before .before .before .before .before .before .before .before .before .before .before .before .before .args .lamp .clock)) (activity (c .before .before .before .before .before .before .before .before .before .before .before .before .before .args .lamp .looping) false (c .before .before .before .before .before .before .before .before .before .before .before .before .before .args .lamp .looping .stored)); notices = n; task = GivenTask.Given Task.Stop; wait = 0 }) (off-pushes (c .before .before .before .before .before .before .before .before .before .before .before .before .before .args .list) _))
+returns-2 c =
+    let at-set-hue = c .before .before .before .before .before .before .before in
+    let at-push2 = at-set-hue .before .before in
+    let at-push = at-push2 .before in
+    let at-if1 = at-push .before in
+    let at-start = at-if1 .before .before in
+    let called = at-start .args in
+    simp (not-false (called .lamp .looping .active) (at-if1 .if1 .left), c .answer-of2 .ensures, c .before .push3 .ensures, at-set-hue .set-hue .ensures, at-push2 .push2 .ensures, at-push .push .ensures) (ap (λ (n : Notices). record { number = 0; lamp = withLoop (called .lamp) (hueSet (called .lamp .color) (called .lamp .looping .stored) true true (called .lamp .clock)) (activity (called .lamp .looping) false (called .lamp .looping .stored)); notices = n; task = GivenTask.Given Task.Stop; wait = 0 }) (off-pushes (called .list) _))
 
 pub deactivate-spec : {M : Type 1} → statement M
 deactivate-spec =

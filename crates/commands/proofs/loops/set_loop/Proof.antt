@@ -1,6 +1,7 @@
 -- The flags first, then the action where its flag is set.
 -- Assumes nothing.
-use Rattle.commands.proofs.Laws.{acted-behind, flags-few, few}
+use Rattle.commands.specs.Kept.{updated-few}
+use Rattle.commands.proofs.Laws.{acted-behind, few}
 use Rattle.commands.specs.Commands.{withLoop, updated, updatedTold, loopSet}
 use Rattle.notices.specs.Laws.{pushed-all-noted}
 use mathlib.Core.List.{[]}
@@ -26,11 +27,22 @@ answer-of-requires c κs = search needs
 
 returns : tie.Need-returns
 unfolding loopSet
-returns c = simp (← c .before .before .contains .ensures, c .before .if1 .taken) (c .act .ensures ∙ simp (c .before .before .before .before .before .before .updated-notices .ensures, c .before .before .before .before .before .before .before .updated-settings .ensures) (acted-behind (withLoop (c .before .before .before .before .before .before .before .before .before .args .lamp) (c .before .before .before .before .before .before .before .before .before .args .lamp .color) (updated (c .before .before .before .before .before .before .before .before .before .args .lamp .looping) (c .before .before .before .before .before .before .before .before .before .args .flags) (c .before .before .before .before .before .before .before .before .before .args .direction) (c .before .before .before .before .before .before .before .before .before .args .time) (c .before .before .before .before .before .before .before .before .before .args .start-hue))) (updatedTold (c .before .before .before .before .before .before .before .before .before .args .flags)) (flags-few (c .before .before .before .before .before .before .before .before .before .args .flags)) (c .before .before .before .before .before .before .before .before .before .args .action)))
+returns c =
+    let at-contains = c .before .before in
+    let at-updated-notices = at-contains .before .before .before .before in
+    let at-updated-settings = at-updated-notices .before in
+    let at-start = at-updated-settings .before .before in
+    let called = at-start .args in
+    simp (← at-contains .contains .ensures, c .before .if1 .taken) (c .act .ensures ∙ simp (at-updated-notices .updated-notices .ensures, at-updated-settings .updated-settings .ensures) (acted-behind (withLoop (called .lamp) (called .lamp .color) (updated (called .lamp .looping) (called .flags) (called .direction) (called .time) (called .start-hue))) (updatedTold (called .flags)) (updated-few (called .flags)) (called .action)))
 
 returns-2 : tie.Need-returns-2
 unfolding loopSet
-returns-2 c = simp (← c .before .before .contains .ensures, c .before .if1 .left, c .answer-of .ensures, c .before .before .before .before .before .before .updated-notices .ensures, c .before .before .before .before .before .before .before .updated-settings .ensures, pushed-all-noted [] (updatedTold (c .before .before .before .before .before .before .before .before .before .args .flags)) (few (c .before .before .before .before .before .before .before .before .before .args .flags)))
+returns-2 c =
+    let at-contains = c .before .before in
+    let at-updated-notices = at-contains .before .before .before .before in
+    let at-updated-settings = at-updated-notices .before in
+    let at-start = at-updated-settings .before .before in
+    simp (← at-contains .contains .ensures, c .before .if1 .left, c .answer-of .ensures, at-updated-notices .updated-notices .ensures, at-updated-settings .updated-settings .ensures, pushed-all-noted [] (updatedTold (at-start .args .flags)) (few (at-start .args .flags)))
 
 pub set-loop-spec : {M : Type 1} → statement M
 set-loop-spec =

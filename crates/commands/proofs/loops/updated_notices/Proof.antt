@@ -33,7 +33,16 @@ push-requires : tie.Need-push-requires
 push-requires c κs = search needs
 
 returns : tie.Need-returns
-returns c = simp (c .push .ensures, c .before .push-if3 .ensures, c .before .before .contains3 .ensures, c .before .before .before .push-if2 .ensures, c .before .before .before .before .contains2 .ensures, c .before .before .before .before .before .push-if .ensures, c .before .before .before .before .before .before .contains .ensures, c .before .before .before .before .before .before .before .new .ensures) (flag-pushes (noted []) (hasFlag (c .before .before .before .before .before .before .before .before .args .flags) updateDirection) (hasFlag (c .before .before .before .before .before .before .before .before .args .flags) updateTime) (hasFlag (c .before .before .before .before .before .before .before .before .args .flags) updateStartHue))
+returns c =
+    let at-contains3 = c .before .before in
+    let at-push-if2 = at-contains3 .before in
+    let at-contains2 = at-push-if2 .before in
+    let at-push-if = at-contains2 .before in
+    let at-contains = at-push-if .before in
+    let at-new = at-contains .before in
+    let at-start = at-new .before in
+    let called = at-start .args in
+    simp (c .push .ensures, c .before .push-if3 .ensures, at-contains3 .contains3 .ensures, at-push-if2 .push-if2 .ensures, at-contains2 .contains2 .ensures, at-push-if .push-if .ensures, at-contains .contains .ensures, at-new .new .ensures) (flag-pushes (noted []) (hasFlag (called .flags) updateDirection) (hasFlag (called .flags) updateTime) (hasFlag (called .flags) updateStartHue))
 
 pub updated-notices-spec : {M : Type 1} → statement M
 updated-notices-spec =

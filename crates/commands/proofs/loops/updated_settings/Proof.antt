@@ -23,7 +23,12 @@ word-if-requires-2 : tie.Need-word-if-requires-2
 word-if-requires-2 c κs = search needs
 
 returns : tie.Need-returns
-returns c = simp (c .word-if2 .ensures, c .before .contains3 .ensures, c .before .before .word-if .ensures, c .before .before .before .contains2 .ensures, c .before .before .before .before .direction-if .ensures, c .before .before .before .before .before .contains .ensures)
+returns c =
+    let at-word-if = c .before .before in
+    let at-contains2 = at-word-if .before in
+    let at-direction-if = at-contains2 .before in
+    let at-contains = at-direction-if .before in
+    simp (c .word-if2 .ensures, c .before .contains3 .ensures, at-word-if .word-if .ensures, at-contains2 .contains2 .ensures, at-direction-if .direction-if .ensures, at-contains .contains .ensures)
 
 pub updated-settings-spec : {M : Type 1} → statement M
 updated-settings-spec =

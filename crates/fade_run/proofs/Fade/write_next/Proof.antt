@@ -46,13 +46,19 @@ same-length : tie.Need-same-length
 same-length c = search needs
 
 returns : tie.Need-returns
-returns c = simp (c .last .ensures, c .before .before .before .before .before .enum-told .given .1) (refl, c .before .before .before .write-bad-line .ensures)
+returns c =
+    let at-write-bad-line = c .before .before .before in
+    let at-enum-told = at-write-bad-line .before .before in
+    simp (c .last .ensures, at-enum-told .enum-told .given .1) (refl, at-write-bad-line .write-bad-line .ensures)
 
 same-length-2 : tie.Need-same-length-2
 same-length-2 c = search needs
 
 returns-2 : tie.Need-returns-2
-returns-2 c = simp (c .last2 .ensures, c .before .before .before .before .before .before .self .given .1) (refl, c .before .before .before .write-refused .ensures)
+returns-2 c =
+    let at-write-refused = c .before .before .before in
+    let at-self = at-write-refused .before .before .before in
+    simp (c .last2 .ensures, at-self .self .given .1) (refl, at-write-refused .write-refused .ensures)
 
 same-length-3 : tie.Need-same-length-3
 same-length-3 c = search needs

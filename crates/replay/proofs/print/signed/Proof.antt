@@ -33,8 +33,9 @@ returns c = search needs
 
 cast-number : tie.Need-cast-number
 cast-number c =
-    rw (toZ-ofZ w64 _ (c .before .before .before .fits .n))
-    (not-below (c .before .before .before .args .n) (rw (toZ-ofZ w64 _ (c .before .before .before .fits .n)) at (c .before .if1 .left)), fits-natAbs tt (c .before .before .before .fits .n))
+    let at-start = c .before .before .before in
+    rw (toZ-ofZ w64 _ (at-start .fits .n))
+    (not-below (at-start .args .n) (rw (toZ-ofZ w64 _ (at-start .fits .n)) at (c .before .if1 .left)), fits-natAbs tt (at-start .fits .n))
 
 number-requires-2 : tie.Need-number-requires-2
 number-requires-2 c κs = search needs

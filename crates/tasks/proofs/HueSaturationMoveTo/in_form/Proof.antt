@@ -27,7 +27,11 @@ given-requires-2 c κs = search needs
 
 returns : tie.Need-returns
 unfolding moveToForm all
-returns c = simp (c .given2 .ensures, c .before .given .ensures, c .before .before .in-form2 .ensures, c .before .before .before .in-form .ensures, c .before .before .before .before .time-in-form .ensures)
+returns c =
+    let at-in-form2 = c .before .before in
+    let at-in-form = at-in-form2 .before in
+    let at-time-in-form = at-in-form .before in
+    simp (c .given2 .ensures, c .before .given .ensures, at-in-form2 .in-form2 .ensures, at-in-form .in-form .ensures, at-time-in-form .time-in-form .ensures)
 
 pub in-form-spec : {M : Type 1} → statement M
 in-form-spec =

@@ -69,7 +69,10 @@ returns c = simp (c .enum-told .given .1)
 
 returns-2 : tie.Need-returns-2
 unfolding runningForm all
-returns-2 c = simp (c .before .before .before .in-form .ensures, c .before .before .before .before .before .before .self .given .1)
+returns-2 c =
+    let at-in-form = c .before .before .before in
+    let at-self = at-in-form .before .before .before in
+    simp (at-in-form .in-form .ensures, at-self .self .given .1)
 
 returns-3 : tie.Need-returns-3
 unfolding runningForm all
@@ -81,13 +84,21 @@ returns-4 c = simp (c .before .before .in-form3 .ensures, c .before .before .bef
 
 returns-5 : tie.Need-returns-5
 unfolding runningForm all
-returns-5 c = simp (c .before .within-bounds2 .ensures, c .before .before .within-bounds .ensures, c .before .before .before .before .time-in-form .ensures, c .before .before .before .before .before .before .before .self4 .given .1)
+returns-5 c =
+    let at-within-bounds = c .before .before in
+    let at-time-in-form = at-within-bounds .before .before in
+    let at-self4 = at-time-in-form .before .before .before in
+    simp (c .before .within-bounds2 .ensures, at-within-bounds .within-bounds .ensures, at-time-in-form .time-in-form .ensures, at-self4 .self4 .given .1)
 
 returns-6 : tie.Need-returns-6
 unfolding runningForm all
 returns-6 c =
-    let e : toZ w64 (ofZ w64 (c .before .before .before .before .before .before .before .before .self5 .given .0 .0 .rate)) ≡ c .before .before .before .before .before .before .before .before .self5 .given .0 .0 .rate = search needs in
-    simp (e, c .before .within-bounds5 .ensures, c .before .before .within-bounds4 .ensures, c .before .before .before .before .within-bounds3 .ensures, c .before .before .before .before .before .rate-in-form .ensures, c .before .before .before .before .before .before .before .before .self5 .given .1)
+    let at-within-bounds4 = c .before .before in
+    let at-within-bounds3 = at-within-bounds4 .before .before in
+    let at-rate-in-form = at-within-bounds3 .before in
+    let at-self5 = at-rate-in-form .before .before .before in
+    let e : toZ w64 (ofZ w64 (at-self5 .self5 .given .0 .0 .rate)) ≡ at-self5 .self5 .given .0 .0 .rate = search needs in
+    simp (e, c .before .within-bounds5 .ensures, at-within-bounds4 .within-bounds4 .ensures, at-within-bounds3 .within-bounds3 .ensures, at-rate-in-form .rate-in-form .ensures, at-self5 .self5 .given .1)
 
 returns-7 : tie.Need-returns-7
 unfolding runningForm all

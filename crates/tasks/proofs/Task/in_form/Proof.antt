@@ -66,8 +66,9 @@ returns-4 c = simp (c .time-in-form .ensures, c .before .before .self4 .given .1
 returns-5 : tie.Need-returns-5
 unfolding taskForm
 returns-5 c =
-    let e : toZ w64 (ofZ w64 (c .before .before .before .self5 .given .0 .0 .rate)) ≡ c .before .before .before .self5 .given .0 .0 .rate = search needs in
-    simp (e, c .rate-in-form .ensures, c .before .before .before .self5 .given .1)
+    let at-self5 = c .before .before .before in
+    let e : toZ w64 (ofZ w64 (at-self5 .self5 .given .0 .0 .rate)) ≡ at-self5 .self5 .given .0 .0 .rate = search needs in
+    simp (e, c .rate-in-form .ensures, at-self5 .self5 .given .1)
 
 returns-6 : tie.Need-returns-6
 unfolding taskForm

@@ -1,6 +1,6 @@
-use Prim.Native.Nat.{_+_, _*_, _^_}
 -- The number and its next digit fit in 64 bits exactly where the test lets them.
 -- Assumes nothing.
+use Prim.Native.Nat.{_+_, _*_, _^_}
 use Rattle.fade_line.specs.Reading.{nextDigit}
 use native.Mathlib.Omega.{arith}
 use borrow.Author.Tests.{lt-ltb, le-ltb, le-leb, lt-leb, eq-eqb, ne-eqb, not-true, not-false}

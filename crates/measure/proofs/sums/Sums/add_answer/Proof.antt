@@ -28,7 +28,12 @@ add-requires-2 c κs = search needs
 
 returns : tie.Need-returns
 unfolding addedAll
-returns c = simp (c .add2 .ensures, c .before .add-task .ensures, c .before .before .of-given .ensures, c .before .before .before .add-notices .ensures, c .before .before .before .before .add .ensures, c .before .before .before .before .before .before .add-lamp .ensures)
+returns c =
+    let at-of-given = c .before .before in
+    let at-add-notices = at-of-given .before in
+    let at-add = at-add-notices .before in
+    let at-add-lamp = at-add .before .before in
+    simp (c .add2 .ensures, c .before .add-task .ensures, at-of-given .of-given .ensures, at-add-notices .add-notices .ensures, at-add .add .ensures, at-add-lamp .add-lamp .ensures)
 
 pub add-answer-spec : {M : Type 1} → statement M
 add-answer-spec =

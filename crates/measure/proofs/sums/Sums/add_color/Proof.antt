@@ -54,7 +54,16 @@ add-requires-8 c κs = search needs
 
 returns : tie.Need-returns
 unfolding addedAll
-returns c = simp (c .add8 .ensures, c .before .number2 .ensures, c .before .before .add7 .ensures, c .before .before .before .number .ensures, c .before .before .before .before .add6 .ensures, c .before .before .before .before .before .before .add5 .ensures, c .before .before .before .before .before .before .before .before .add4 .ensures, c .before .before .before .before .before .before .before .before .before .before .add3 .ensures, c .before .before .before .before .before .before .before .before .before .before .before .add2 .ensures, c .before .before .before .before .before .before .before .before .before .before .before .before .add .ensures)
+returns c =
+    let at-add7 = c .before .before in
+    let at-number = at-add7 .before in
+    let at-add6 = at-number .before in
+    let at-add5 = at-add6 .before .before in
+    let at-add4 = at-add5 .before .before in
+    let at-add3 = at-add4 .before .before in
+    let at-add2 = at-add3 .before in
+    let at-add = at-add2 .before in
+    simp (c .add8 .ensures, c .before .number2 .ensures, at-add7 .add7 .ensures, at-number .number .ensures, at-add6 .add6 .ensures, at-add5 .add5 .ensures, at-add4 .add4 .ensures, at-add3 .add3 .ensures, at-add2 .add2 .ensures, at-add .add .ensures)
 
 pub add-color-spec : {M : Type 1} → statement M
 add-color-spec =

@@ -46,7 +46,15 @@ add-record-requires c κs = search needs
 
 returns : tie.Need-returns
 unfolding addedAll
-returns c = simp (c .add-record .ensures, c .before .of-running .ensures, c .before .before .add-looping .ensures, c .before .before .before .add-color .ensures, c .before .before .before .before .add5 .ensures, c .before .before .before .before .before .before .add4 .ensures, c .before .before .before .before .before .before .before .before .add3 .ensures, c .before .before .before .before .before .before .before .before .before .add2 .ensures, c .before .before .before .before .before .before .before .before .before .before .before .add .ensures)
+returns c =
+    let at-add-looping = c .before .before in
+    let at-add-color = at-add-looping .before in
+    let at-add5 = at-add-color .before in
+    let at-add4 = at-add5 .before .before in
+    let at-add3 = at-add4 .before .before in
+    let at-add2 = at-add3 .before in
+    let at-add = at-add2 .before .before in
+    simp (c .add-record .ensures, c .before .of-running .ensures, at-add-looping .add-looping .ensures, at-add-color .add-color .ensures, at-add5 .add5 .ensures, at-add4 .add4 .ensures, at-add3 .add3 .ensures, at-add2 .add2 .ensures, at-add .add .ensures)
 
 pub add-lamp-spec : {M : Type 1} → statement M
 add-lamp-spec =

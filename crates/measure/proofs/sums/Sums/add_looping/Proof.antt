@@ -40,7 +40,14 @@ add-requires-5 c κs = search needs
 
 returns : tie.Need-returns
 unfolding addedAll
-returns c = simp (c .add5 .ensures, c .before .before .add4 .ensures, c .before .before .before .before .add3 .ensures, c .before .before .before .before .before .before .add2 .ensures, c .before .before .before .before .before .before .before .number .ensures, c .before .before .before .before .before .before .before .before .add .ensures, c .before .before .before .before .before .before .before .before .before .of-flag .ensures)
+returns c =
+    let at-add4 = c .before .before in
+    let at-add3 = at-add4 .before .before in
+    let at-add2 = at-add3 .before .before in
+    let at-number = at-add2 .before in
+    let at-add = at-number .before in
+    let at-of-flag = at-add .before in
+    simp (c .add5 .ensures, at-add4 .add4 .ensures, at-add3 .add3 .ensures, at-add2 .add2 .ensures, at-number .number .ensures, at-add .add .ensures, at-of-flag .of-flag .ensures)
 
 pub add-looping-spec : {M : Type 1} → statement M
 add-looping-spec =

@@ -103,7 +103,38 @@ add-requires-16 c κs = search needs
 
 returns : tie.Need-returns
 unfolding addedAll
-returns c = simp (c .add16 .ensures, c .before .place16 .ensures, c .before .before .add15 .ensures, c .before .before .before .place15 .ensures, c .before .before .before .before .add14 .ensures, c .before .before .before .before .before .place14 .ensures, c .before .before .before .before .before .before .add13 .ensures, c .before .before .before .before .before .before .before .place13 .ensures, c .before .before .before .before .before .before .before .before .add12 .ensures, c .before .before .before .before .before .before .before .before .before .place12 .ensures, c .before .before .before .before .before .before .before .before .before .before .add11 .ensures, c .before .before .before .before .before .before .before .before .before .before .before .place11 .ensures, c .before .before .before .before .before .before .before .before .before .before .before .before .add10 .ensures, c .before .before .before .before .before .before .before .before .before .before .before .before .before .place10 .ensures, c .before .before .before .before .before .before .before .before .before .before .before .before .before .before .add9 .ensures, c .before .before .before .before .before .before .before .before .before .before .before .before .before .before .before .place9 .ensures, c .before .before .before .before .before .before .before .before .before .before .before .before .before .before .before .before .add8 .ensures, c .before .before .before .before .before .before .before .before .before .before .before .before .before .before .before .before .before .place8 .ensures, c .before .before .before .before .before .before .before .before .before .before .before .before .before .before .before .before .before .before .add7 .ensures, c .before .before .before .before .before .before .before .before .before .before .before .before .before .before .before .before .before .before .before .place7 .ensures, c .before .before .before .before .before .before .before .before .before .before .before .before .before .before .before .before .before .before .before .before .add6 .ensures, c .before .before .before .before .before .before .before .before .before .before .before .before .before .before .before .before .before .before .before .before .before .place6 .ensures, c .before .before .before .before .before .before .before .before .before .before .before .before .before .before .before .before .before .before .before .before .before .before .add5 .ensures, c .before .before .before .before .before .before .before .before .before .before .before .before .before .before .before .before .before .before .before .before .before .before .before .place5 .ensures, c .before .before .before .before .before .before .before .before .before .before .before .before .before .before .before .before .before .before .before .before .before .before .before .before .add4 .ensures, c .before .before .before .before .before .before .before .before .before .before .before .before .before .before .before .before .before .before .before .before .before .before .before .before .before .place4 .ensures, c .before .before .before .before .before .before .before .before .before .before .before .before .before .before .before .before .before .before .before .before .before .before .before .before .before .before .add3 .ensures, c .before .before .before .before .before .before .before .before .before .before .before .before .before .before .before .before .before .before .before .before .before .before .before .before .before .before .before .place3 .ensures, c .before .before .before .before .before .before .before .before .before .before .before .before .before .before .before .before .before .before .before .before .before .before .before .before .before .before .before .before .add2 .ensures, c .before .before .before .before .before .before .before .before .before .before .before .before .before .before .before .before .before .before .before .before .before .before .before .before .before .before .before .before .before .place2 .ensures, c .before .before .before .before .before .before .before .before .before .before .before .before .before .before .before .before .before .before .before .before .before .before .before .before .before .before .before .before .before .before .add .ensures, c .before .before .before .before .before .before .before .before .before .before .before .before .before .before .before .before .before .before .before .before .before .before .before .before .before .before .before .before .before .before .before .place .ensures)
+returns c =
+    let at-add15 = c .before .before in
+    let at-place15 = at-add15 .before in
+    let at-add14 = at-place15 .before in
+    let at-place14 = at-add14 .before in
+    let at-add13 = at-place14 .before in
+    let at-place13 = at-add13 .before in
+    let at-add12 = at-place13 .before in
+    let at-place12 = at-add12 .before in
+    let at-add11 = at-place12 .before in
+    let at-place11 = at-add11 .before in
+    let at-add10 = at-place11 .before in
+    let at-place10 = at-add10 .before in
+    let at-add9 = at-place10 .before in
+    let at-place9 = at-add9 .before in
+    let at-add8 = at-place9 .before in
+    let at-place8 = at-add8 .before in
+    let at-add7 = at-place8 .before in
+    let at-place7 = at-add7 .before in
+    let at-add6 = at-place7 .before in
+    let at-place6 = at-add6 .before in
+    let at-add5 = at-place6 .before in
+    let at-place5 = at-add5 .before in
+    let at-add4 = at-place5 .before in
+    let at-place4 = at-add4 .before in
+    let at-add3 = at-place4 .before in
+    let at-place3 = at-add3 .before in
+    let at-add2 = at-place3 .before in
+    let at-place2 = at-add2 .before in
+    let at-add = at-place2 .before in
+    let at-place = at-add .before in
+    simp (c .add16 .ensures, c .before .place16 .ensures, at-add15 .add15 .ensures, at-place15 .place15 .ensures, at-add14 .add14 .ensures, at-place14 .place14 .ensures, at-add13 .add13 .ensures, at-place13 .place13 .ensures, at-add12 .add12 .ensures, at-place12 .place12 .ensures, at-add11 .add11 .ensures, at-place11 .place11 .ensures, at-add10 .add10 .ensures, at-place10 .place10 .ensures, at-add9 .add9 .ensures, at-place9 .place9 .ensures, at-add8 .add8 .ensures, at-place8 .place8 .ensures, at-add7 .add7 .ensures, at-place7 .place7 .ensures, at-add6 .add6 .ensures, at-place6 .place6 .ensures, at-add5 .add5 .ensures, at-place5 .place5 .ensures, at-add4 .add4 .ensures, at-place4 .place4 .ensures, at-add3 .add3 .ensures, at-place3 .place3 .ensures, at-add2 .add2 .ensures, at-place2 .place2 .ensures, at-add .add .ensures, at-place .place .ensures)
 
 pub add-notices-spec : {M : Type 1} → statement M
 add-notices-spec =

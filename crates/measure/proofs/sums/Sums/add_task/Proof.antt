@@ -28,7 +28,13 @@ add-requires-7 c κs = search needs
 
 returns : tie.Need-returns
 unfolding addedAll
-returns c = simp (c .add7 .ensures, c .before .add6 .ensures, c .before .before .add5 .ensures, c .before .before .before .add4 .ensures, c .before .before .before .before .add3 .ensures, c .before .before .before .before .before .add2 .ensures, c .before .before .before .before .before .before .add .ensures)
+returns c =
+    let at-add5 = c .before .before in
+    let at-add4 = at-add5 .before in
+    let at-add3 = at-add4 .before in
+    let at-add2 = at-add3 .before in
+    let at-add = at-add2 .before in
+    simp (c .add7 .ensures, c .before .add6 .ensures, at-add5 .add5 .ensures, at-add4 .add4 .ensures, at-add3 .add3 .ensures, at-add2 .add2 .ensures, at-add .add .ensures)
 
 pub add-task-spec : {M : Type 1} → statement M
 add-task-spec =
