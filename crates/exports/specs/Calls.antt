@@ -1,5 +1,5 @@
 -- A call in ten words: its kind, the clock, the on/off number; then a command's mask, override and five arguments, or a
--- task's kind and six numbers. The kind of a command is its number in the cluster; 256 is a start, 257 a step, 258 a halt.
+-- task's kind and six numbers.
 -- Assumes nothing.
 use Prim.Native.Nat.{ℕ}
 use mathlib.Core.Bool.{Bool, cond, not, _&&_, _||_}
@@ -15,8 +15,9 @@ use Rattle.lamp.specs.Typed.{Call, command, start, step, halt}
 use Rattle.commands.specs.Answers.{answer}
 use Rattle.exports.specs.declared.moves.TaskNumbers.{TaskNumbers}
 use Rattle.exports.specs.declared.calls.CommandNumbers.{CommandNumbers}
+use Rattle.exports.specs.Kinds as K
 use Rattle.exports.specs.Words.{at, byte, short, flag}
-use Rattle.exports.specs.Enums.{directionOf, moveModeOf, stepModeOf, loopActionOf, loopDirectionOf, onOffOf, moveModeKnown, stepModeKnown}
+use Rattle.exports.specs.Enums.{directionRead, moveModeRead, stepModeRead, loopActionRead, loopDirectionRead, onOffRead, directionKnown, moveModeKnown, stepModeKnown, loopActionKnown, loopDirectionKnown, onOffKnown}
 use Rattle.exports.specs.Moves.{taskOf, taskKnown}
 
 -- the number of an answer to words that are no call
@@ -25,44 +26,47 @@ unreadable = 100
 
 -- ---- commands
 
-unfoldable pub optionsOf : CommandNumbers → CommandOptions
-optionsOf n = record { mask = byte (n .mask); over = byte (n .over) }
+abbrev is : CommandNumbers → ℕ → Bool
+is n kind = eqb (n .kind) kind
+
+unfoldable pub optionsRead : CommandNumbers → CommandOptions
+optionsRead n = record { mask = byte (n .mask); over = byte (n .over) }
 
 unfoldable pub hueCommand : CommandNumbers → Command
 hueCommand n =
-    cond (eqb (n .kind) 0) (Command.MoveToHue (byte (n .a)) (directionOf (n .b)) (short (n .c)) (optionsOf n))
-    (cond (eqb (n .kind) 1) (Command.MoveHue (moveModeOf (n .a)) (byte (n .b)) (flag (n .c)) (optionsOf n))
-    (Command.StepHue (stepModeOf (n .a)) (byte (n .b)) (short (n .c)) (optionsOf n)))
+    cond (is n K.moveToHue) (Command.MoveToHue (byte (n .a)) (directionRead (n .b)) (short (n .c)) (optionsRead n))
+    (cond (is n K.moveHue) (Command.MoveHue (moveModeRead (n .a)) (byte (n .b)) (flag (n .c)) (optionsRead n))
+    (Command.StepHue (stepModeRead (n .a)) (byte (n .b)) (short (n .c)) (optionsRead n)))
 
 unfoldable pub saturationCommand : CommandNumbers → Command
 saturationCommand n =
-    cond (eqb (n .kind) 3) (Command.MoveToSaturation (byte (n .a)) (short (n .b)) (optionsOf n))
-    (cond (eqb (n .kind) 4) (Command.MoveSaturation (moveModeOf (n .a)) (byte (n .b)) (optionsOf n))
-    (cond (eqb (n .kind) 5) (Command.StepSaturation (stepModeOf (n .a)) (byte (n .b)) (short (n .c)) (optionsOf n))
-    (Command.MoveToHueAndSaturation (byte (n .a)) (byte (n .b)) (short (n .c)) (flag (n .d)) (short (n .e)) (optionsOf n))))
+    cond (is n K.moveToSaturation) (Command.MoveToSaturation (byte (n .a)) (short (n .b)) (optionsRead n))
+    (cond (is n K.moveSaturation) (Command.MoveSaturation (moveModeRead (n .a)) (byte (n .b)) (optionsRead n))
+    (cond (is n K.stepSaturation) (Command.StepSaturation (stepModeRead (n .a)) (byte (n .b)) (short (n .c)) (optionsRead n))
+    (Command.MoveToHueAndSaturation (byte (n .a)) (byte (n .b)) (short (n .c)) (flag (n .d)) (short (n .e)) (optionsRead n))))
 
 unfoldable pub enhancedCommand : CommandNumbers → Command
 enhancedCommand n =
-    cond (eqb (n .kind) 64) (Command.EnhancedMoveToHue (short (n .a)) (directionOf (n .b)) (short (n .c)) (optionsOf n))
-    (cond (eqb (n .kind) 65) (Command.EnhancedMoveHue (moveModeOf (n .a)) (short (n .b)) (optionsOf n))
-    (Command.EnhancedStepHue (stepModeOf (n .a)) (short (n .b)) (short (n .c)) (optionsOf n)))
+    cond (is n K.enhancedMoveToHue) (Command.EnhancedMoveToHue (short (n .a)) (directionRead (n .b)) (short (n .c)) (optionsRead n))
+    (cond (is n K.enhancedMoveHue) (Command.EnhancedMoveHue (moveModeRead (n .a)) (short (n .b)) (optionsRead n))
+    (Command.EnhancedStepHue (stepModeRead (n .a)) (short (n .b)) (short (n .c)) (optionsRead n)))
 
 unfoldable pub miredsCommand : CommandNumbers → Command
 miredsCommand n =
-    cond (eqb (n .kind) 10) (Command.MoveToColorTemperature (short (n .a)) (short (n .b)) (optionsOf n))
-    (cond (eqb (n .kind) 75) (Command.MoveColorTemperature (moveModeOf (n .a)) (short (n .b)) (short (n .c)) (short (n .d)) (optionsOf n))
-    (Command.StepColorTemperature (stepModeOf (n .a)) (short (n .b)) (short (n .c)) (short (n .d)) (short (n .e)) (optionsOf n)))
+    cond (is n K.moveToColorTemperature) (Command.MoveToColorTemperature (short (n .a)) (short (n .b)) (optionsRead n))
+    (cond (is n K.moveColorTemperature) (Command.MoveColorTemperature (moveModeRead (n .a)) (short (n .b)) (short (n .c)) (short (n .d)) (optionsRead n))
+    (Command.StepColorTemperature (stepModeRead (n .a)) (short (n .b)) (short (n .c)) (short (n .d)) (short (n .e)) (optionsRead n)))
 
 unfoldable pub loopCommand : CommandNumbers → Command
-loopCommand n = Command.ColorLoopSet (byte (n .a)) (loopActionOf (n .b)) (loopDirectionOf (n .c)) (short (n .d)) (short (n .e)) (optionsOf n)
+loopCommand n = Command.ColorLoopSet (byte (n .a)) (loopActionRead (n .b)) (loopDirectionRead (n .c)) (short (n .d)) (short (n .e)) (optionsRead n)
 
 unfoldable pub commandOf : CommandNumbers → Command
 commandOf n =
-    cond (leb (n .kind) 2) (hueCommand n)
-    (cond (leb (n .kind) 6) (saturationCommand n)
-    (cond (eqb (n .kind) 68) (loopCommand n)
-    (cond (eqb (n .kind) 71) (Command.StopMoveStep (optionsOf n))
-    (cond (leb 64 (n .kind) && leb (n .kind) 66) (enhancedCommand n) (miredsCommand n)))))
+    cond (leb (n .kind) K.stepHue) (hueCommand n)
+    (cond (leb (n .kind) K.moveToHueAndSaturation) (saturationCommand n)
+    (cond (is n K.colorLoopSet) (loopCommand n)
+    (cond (is n K.stopMoveStep) (Command.StopMoveStep (optionsRead n))
+    (cond (leb K.enhancedMoveToHue (n .kind) && leb (n .kind) K.enhancedStepHue) (enhancedCommand n) (miredsCommand n)))))
 
 -- each argument is within its field: sixteen bits at most, eight for some, 0 or 1 for a flag
 unfoldable pub commandFits : CommandNumbers → Bool
@@ -73,20 +77,20 @@ commandFits n =
     && leb (n .c) 65535
     && leb (n .d) 65535
     && leb (n .e) 65535
-    && (not (eqb (n .kind) 0 || eqb (n .kind) 3 || eqb (n .kind) 6 || eqb (n .kind) 68) || leb (n .a) 255)
-    && (not (eqb (n .kind) 1 || eqb (n .kind) 2 || eqb (n .kind) 4 || eqb (n .kind) 5 || eqb (n .kind) 6) || leb (n .b) 255)
-    && (not (eqb (n .kind) 1) || leb (n .c) 1)
-    && (not (eqb (n .kind) 6) || leb (n .d) 1)
+    && (not (is n K.moveToHue || is n K.moveToSaturation || is n K.moveToHueAndSaturation || is n K.colorLoopSet) || leb (n .a) 255)
+    && (not (is n K.moveHue || is n K.stepHue || is n K.moveSaturation || is n K.stepSaturation || is n K.moveToHueAndSaturation) || leb (n .b) 255)
+    && (not (is n K.moveHue) || leb (n .c) 1)
+    && (not (is n K.moveToHueAndSaturation) || leb (n .d) 1)
 
 -- which can be read: the kind exists, the enums' numbers do, and each argument is within its field
 unfoldable pub commandKnown : CommandNumbers → Bool
 commandKnown n =
     commandFits n
-    && (((eqb (n .kind) 0 || eqb (n .kind) 64) && leb (n .b) 3)
-    || ((eqb (n .kind) 1 || eqb (n .kind) 4 || eqb (n .kind) 65 || eqb (n .kind) 75) && moveModeKnown (n .a))
-    || ((eqb (n .kind) 2 || eqb (n .kind) 5 || eqb (n .kind) 66 || eqb (n .kind) 76) && stepModeKnown (n .a))
-    || eqb (n .kind) 3 || eqb (n .kind) 6 || eqb (n .kind) 10 || eqb (n .kind) 71
-    || (eqb (n .kind) 68 && leb (n .b) 2 && leb (n .c) 1))
+    && (((is n K.moveToHue || is n K.enhancedMoveToHue) && directionKnown (n .b))
+    || ((is n K.moveHue || is n K.moveSaturation || is n K.enhancedMoveHue || is n K.moveColorTemperature) && moveModeKnown (n .a))
+    || ((is n K.stepHue || is n K.stepSaturation || is n K.enhancedStepHue || is n K.stepColorTemperature) && stepModeKnown (n .a))
+    || is n K.moveToSaturation || is n K.moveToHueAndSaturation || is n K.moveToColorTemperature || is n K.stopMoveStep
+    || (is n K.colorLoopSet && loopActionKnown (n .b) && loopDirectionKnown (n .c)))
 
 -- ---- calls
 
@@ -99,17 +103,17 @@ startNumbers w = record { kind = at w 3; a = at w 4; b = at w 5; c = at w 6; d =
 
 unfoldable pub callOf : List ℕ → Call
 callOf w =
-    cond (eqb (at w 0) 257) (step (at w 1))
-    (cond (eqb (at w 0) 256) (start (taskOf (startNumbers w)) (at w 1))
-    (cond (eqb (at w 0) 258) (halt (at w 1)) (command (commandOf (commandNumbers w)) (onOffOf (at w 2)) (at w 1))))
+    cond (eqb (at w 0) K.step) (step (at w 1))
+    (cond (eqb (at w 0) K.start) (start (taskOf (startNumbers w)) (at w 1))
+    (cond (eqb (at w 0) K.halt) (halt (at w 1)) (command (commandOf (commandNumbers w)) (onOffRead (at w 2)) (at w 1))))
 
 -- words that are a call: ten of them, with a kind and enums' numbers that exist, and each within its field
 unfoldable pub callKnown : List ℕ → Bool
 callKnown w =
     eqb (length w) 10
-    && ((eqb (at w 0) 256 && taskKnown (startNumbers w)) || eqb (at w 0) 257 || eqb (at w 0) 258
-    || (commandKnown (commandNumbers w) && leb (at w 2) 2))
+    && ((eqb (at w 0) K.start && taskKnown (startNumbers w)) || eqb (at w 0) K.step || eqb (at w 0) K.halt
+    || (commandKnown (commandNumbers w) && onOffKnown (at w 2)))
 
 -- the answer to a call in words; a kind past the last one is no call
 unfoldable pub sent : Lamp → List ℕ → Answer
-sent l w = cond (ltb 258 (at w 0)) (refusal l unreadable) (answer l (callOf w))
+sent l w = cond (ltb K.halt (at w 0)) (refusal l unreadable) (answer l (callOf w))

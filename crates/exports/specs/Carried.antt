@@ -36,10 +36,11 @@ use Rattle.commands.specs.Commands.{stopMode, causeIf, numberCause, crossed}
 use Rattle.commands.specs.Kept.{number-is-cause, form-kept, typed-kept}
 use Rattle.exports.specs.declared.moves.TaskNumbers.{TaskNumbers}
 use Rattle.exports.specs.declared.calls.CommandNumbers.{CommandNumbers}
+use Rattle.exports.specs.Kinds as K
 use Rattle.exports.specs.Words.{at, signed}
 use Rattle.exports.specs.Moves.{deltaOf, targetOf, moveToOf, hueMoveOf, saturationMoveOf, miredsToOf, miredsMoveOf, colorLoopOf, taskOf}
 use Rattle.exports.specs.Lamps.{lampWords}
-use Rattle.exports.specs.Calls.{optionsOf, hueCommand, saturationCommand, enhancedCommand, miredsCommand, loopCommand, commandOf, commandNumbers, startNumbers, callOf, unreadable, callKnown, sent}
+use Rattle.exports.specs.Calls.{optionsRead, hueCommand, saturationCommand, enhancedCommand, miredsCommand, loopCommand, commandOf, commandNumbers, startNumbers, callOf, unreadable, callKnown, sent}
 use Rattle.exports.specs.Exported.{Answered, unreadableLamp, noRoom, made, taken, away, answered}
 use Rattle.exports.specs.Laws.{lamp-back}
 
@@ -74,52 +75,52 @@ task-typed n =
     (λ e. cond-both TypedTask (eqb (n .kind) 5) _ _ (λ e. record { rate = signed-typed (n .a) (n .b); min = omega arith; max = omega arith })
     (λ e. cond-both TypedTask (eqb (n .kind) 6) _ Task.Stop (λ e. omega arith) (λ e. tt))))))
 
-options-typed : (n : CommandNumbers) → TypedOptions (optionsOf n)
-unfolding optionsOf
+options-typed : (n : CommandNumbers) → TypedOptions (optionsRead n)
+unfolding optionsRead
 options-typed n = record { mask = omega arith; over = omega arith }
 
 hue-typed : (n : CommandNumbers) → TypedCommand (hueCommand n)
 unfolding hueCommand
 hue-typed n =
-    cond-both TypedCommand (eqb (n .kind) 0) _ _ (λ e. (omega arith, omega arith, options-typed n))
-    (λ e. cond-both TypedCommand (eqb (n .kind) 1) _ _ (λ e. (omega arith, options-typed n)) (λ e. (omega arith, omega arith, options-typed n)))
+    cond-both TypedCommand (eqb (n .kind) K.moveToHue) _ _ (λ e. (omega arith, omega arith, options-typed n))
+    (λ e. cond-both TypedCommand (eqb (n .kind) K.moveHue) _ _ (λ e. (omega arith, options-typed n)) (λ e. (omega arith, omega arith, options-typed n)))
 
 saturation-typed : (n : CommandNumbers) → TypedCommand (saturationCommand n)
 unfolding saturationCommand
 saturation-typed n =
-    cond-both TypedCommand (eqb (n .kind) 3) _ _ (λ e. (omega arith, omega arith, options-typed n))
-    (λ e. cond-both TypedCommand (eqb (n .kind) 4) _ _ (λ e. (omega arith, options-typed n))
-    (λ e. cond-both TypedCommand (eqb (n .kind) 5) _ _ (λ e. (omega arith, omega arith, options-typed n))
+    cond-both TypedCommand (eqb (n .kind) K.moveToSaturation) _ _ (λ e. (omega arith, omega arith, options-typed n))
+    (λ e. cond-both TypedCommand (eqb (n .kind) K.moveSaturation) _ _ (λ e. (omega arith, options-typed n))
+    (λ e. cond-both TypedCommand (eqb (n .kind) K.stepSaturation) _ _ (λ e. (omega arith, omega arith, options-typed n))
     (λ e. (omega arith, omega arith, omega arith, omega arith, options-typed n))))
 
 enhanced-typed : (n : CommandNumbers) → TypedCommand (enhancedCommand n)
 unfolding enhancedCommand
 enhanced-typed n =
-    cond-both TypedCommand (eqb (n .kind) 64) _ _ (λ e. (omega arith, omega arith, options-typed n))
-    (λ e. cond-both TypedCommand (eqb (n .kind) 65) _ _ (λ e. (omega arith, options-typed n)) (λ e. (omega arith, omega arith, options-typed n)))
+    cond-both TypedCommand (eqb (n .kind) K.enhancedMoveToHue) _ _ (λ e. (omega arith, omega arith, options-typed n))
+    (λ e. cond-both TypedCommand (eqb (n .kind) K.enhancedMoveHue) _ _ (λ e. (omega arith, options-typed n)) (λ e. (omega arith, omega arith, options-typed n)))
 
 mireds-typed : (n : CommandNumbers) → TypedCommand (miredsCommand n)
 unfolding miredsCommand
 mireds-typed n =
-    cond-both TypedCommand (eqb (n .kind) 10) _ _ (λ e. (omega arith, omega arith, options-typed n))
-    (λ e. cond-both TypedCommand (eqb (n .kind) 75) _ _ (λ e. (omega arith, omega arith, omega arith, options-typed n))
+    cond-both TypedCommand (eqb (n .kind) K.moveToColorTemperature) _ _ (λ e. (omega arith, omega arith, options-typed n))
+    (λ e. cond-both TypedCommand (eqb (n .kind) K.moveColorTemperature) _ _ (λ e. (omega arith, omega arith, omega arith, options-typed n))
     (λ e. (omega arith, omega arith, omega arith, omega arith, options-typed n)))
 
 command-typed : (n : CommandNumbers) → TypedCommand (commandOf n)
 unfolding commandOf loopCommand
 command-typed n =
-    cond-both TypedCommand (leb (n .kind) 2) _ _ (λ e. hue-typed n)
-    (λ e. cond-both TypedCommand (leb (n .kind) 6) _ _ (λ e. saturation-typed n)
-    (λ e. cond-both TypedCommand (eqb (n .kind) 68) _ _ (λ e. (omega arith, omega arith, omega arith, options-typed n))
-    (λ e. cond-both TypedCommand (eqb (n .kind) 71) _ _ (λ e. options-typed n)
-    (λ e. cond-both TypedCommand (leb 64 (n .kind) && leb (n .kind) 66) _ _ (λ e. enhanced-typed n) (λ e. mireds-typed n)))))
+    cond-both TypedCommand (leb (n .kind) K.stepHue) _ _ (λ e. hue-typed n)
+    (λ e. cond-both TypedCommand (leb (n .kind) K.moveToHueAndSaturation) _ _ (λ e. saturation-typed n)
+    (λ e. cond-both TypedCommand (eqb (n .kind) K.colorLoopSet) _ _ (λ e. (omega arith, omega arith, omega arith, options-typed n))
+    (λ e. cond-both TypedCommand (eqb (n .kind) K.stopMoveStep) _ _ (λ e. options-typed n)
+    (λ e. cond-both TypedCommand (leb K.enhancedMoveToHue (n .kind) && leb (n .kind) K.enhancedStepHue) _ _ (λ e. enhanced-typed n) (λ e. mireds-typed n)))))
 
 pub call-typed : (call : List ℕ) → Clock (at call 1) → TypedCall (callOf call)
 unfolding callOf
 call-typed call clock =
-    cond-both TypedCall (eqb (at call 0) 257) _ _ (λ e. clock)
-    (λ e. cond-both TypedCall (eqb (at call 0) 256) _ _ (λ e. (task-typed (startNumbers call), clock))
-    (λ e. cond-both TypedCall (eqb (at call 0) 258) _ _ (λ e. clock) (λ e. (command-typed (commandNumbers call), clock))))
+    cond-both TypedCall (eqb (at call 0) K.step) _ _ (λ e. clock)
+    (λ e. cond-both TypedCall (eqb (at call 0) K.start) _ _ (λ e. (task-typed (startNumbers call), clock))
+    (λ e. cond-both TypedCall (eqb (at call 0) K.halt) _ _ (λ e. clock) (λ e. (command-typed (commandNumbers call), clock))))
 
 -- ---- the numbers of causes end at 8
 
@@ -168,7 +169,7 @@ cause-small l (halt clock) = first-small l clock
 sent-small : (l : Lamp) (call : List ℕ) → sent l call .number ≤ 100
 unfolding sent
 sent-small l call =
-    cond-both (λ (r : Answer). r .number ≤ 100) (ltb 258 (at call 0)) (refusal l unreadable) (answer l (callOf call)) (λ e. omega arith)
+    cond-both (λ (r : Answer). r .number ≤ 100) (ltb K.halt (at call 0)) (refusal l unreadable) (answer l (callOf call)) (λ e. omega arith)
     (λ e. omega (arith, number-is-cause l (callOf call), cause-small l (callOf call)))
 
 -- ---- one call
@@ -208,7 +209,7 @@ module _ (l : Lamp) (good : Good l) (call answer : List ℕ) where
   unfolding left sent
   good-left clock =
       cond-both Good (eqb (length answer) 25 && callKnown call) _ l
-      (λ e. cond-both (λ (r : Answer). Good (r .lamp)) (ltb 258 (at call 0)) _ _ (λ e. good)
+      (λ e. cond-both (λ (r : Answer). Good (r .lamp)) (ltb K.halt (at call 0)) _ _ (λ e. good)
       (λ e. record { formed = form-kept l (callOf call) (good .formed); typed = typed-kept l (callOf call) (good .formed) (good .typed) (call-typed call clock) }))
       (λ e. good)
 

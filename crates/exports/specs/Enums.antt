@@ -1,52 +1,142 @@
--- The cluster's enums by their numbers, and which numbers a case has. A number that no case has is read as the case that
--- stands last here.
+-- The cluster's enums by their numbers, which `matter` states: the case that a number has, and whether one has it. A number
+-- that no case has is read as the case that stands last here.
 -- Assumes nothing.
 use Prim.Native.Nat.{ℕ}
-use mathlib.Core.Bool.{Bool, cond, _||_}
-use lib.Dec.{eqb, leb}
+use mathlib.Core.Bool.{Bool, true, false}
+use Rattle.matter.specs.Numbers.{directionFound, moveModeFound, stepModeFound, loopActionFound, loopDirectionFound, colorModeFound, enhancedColorModeFound, onOffFound}
 use Rattle.matter.specs.declared.DirectionEnum.{DirectionEnum}
+use Rattle.matter.specs.declared.DirectionFound.{DirectionFound}
 use Rattle.matter.specs.declared.MoveModeEnum.{MoveModeEnum}
+use Rattle.matter.specs.declared.MoveModeFound.{MoveModeFound}
 use Rattle.matter.specs.declared.StepModeEnum.{StepModeEnum}
+use Rattle.matter.specs.declared.StepModeFound.{StepModeFound}
 use Rattle.matter.specs.declared.ColorLoopActionEnum.{ColorLoopActionEnum}
+use Rattle.matter.specs.declared.ColorLoopActionFound.{ColorLoopActionFound}
 use Rattle.matter.specs.declared.ColorLoopDirectionEnum.{ColorLoopDirectionEnum}
+use Rattle.matter.specs.declared.ColorLoopDirectionFound.{ColorLoopDirectionFound}
 use Rattle.matter.specs.declared.ColorModeEnum.{ColorModeEnum}
+use Rattle.matter.specs.declared.ColorModeFound.{ColorModeFound}
 use Rattle.matter.specs.declared.EnhancedColorModeEnum.{EnhancedColorModeEnum}
+use Rattle.matter.specs.declared.EnhancedColorModeFound.{EnhancedColorModeFound}
 use Rattle.matter.specs.declared.OnOff.{OnOff}
+use Rattle.matter.specs.declared.OnOffFound.{OnOffFound}
 
-unfoldable pub directionOf : ℕ → DirectionEnum
-directionOf n = cond (eqb n 1) DirectionEnum.Longest (cond (eqb n 2) DirectionEnum.Up (cond (eqb n 3) DirectionEnum.Down DirectionEnum.Shortest))
+-- DirectionEnum
+abbrev pub directionCase : DirectionFound → DirectionEnum
+directionCase (DirectionFound.Known direction) = direction
+directionCase DirectionFound.Reserved = DirectionEnum.Shortest
 
-unfoldable pub moveModeOf : ℕ → MoveModeEnum
-moveModeOf n = cond (eqb n 1) MoveModeEnum.Up (cond (eqb n 3) MoveModeEnum.Down MoveModeEnum.Stop)
+abbrev pub directionHas : DirectionFound → Bool
+directionHas (DirectionFound.Known direction) = true
+directionHas DirectionFound.Reserved = false
 
-unfoldable pub stepModeOf : ℕ → StepModeEnum
-stepModeOf n = cond (eqb n 1) StepModeEnum.Up StepModeEnum.Down
+unfoldable pub directionRead : ℕ → DirectionEnum
+directionRead n = directionCase (directionFound n)
 
-unfoldable pub loopActionOf : ℕ → ColorLoopActionEnum
-loopActionOf n =
-    cond (eqb n 1) ColorLoopActionEnum.ActivateFromColorLoopStartEnhancedHue
-    (cond (eqb n 2) ColorLoopActionEnum.ActivateFromEnhancedCurrentHue ColorLoopActionEnum.Deactivate)
+unfoldable pub directionKnown : ℕ → Bool
+directionKnown n = directionHas (directionFound n)
 
-unfoldable pub loopDirectionOf : ℕ → ColorLoopDirectionEnum
-loopDirectionOf n = cond (eqb n 1) ColorLoopDirectionEnum.Increment ColorLoopDirectionEnum.Decrement
+-- MoveModeEnum
+abbrev pub moveModeCase : MoveModeFound → MoveModeEnum
+moveModeCase (MoveModeFound.Known mode) = mode
+moveModeCase MoveModeFound.Reserved = MoveModeEnum.Stop
 
-unfoldable pub colorModeOf : ℕ → ColorModeEnum
-colorModeOf n =
-    cond (eqb n 1) ColorModeEnum.CurrentXAndCurrentY
-    (cond (eqb n 2) ColorModeEnum.ColorTemperatureMireds ColorModeEnum.CurrentHueAndCurrentSaturation)
+abbrev pub moveModeHas : MoveModeFound → Bool
+moveModeHas (MoveModeFound.Known mode) = true
+moveModeHas MoveModeFound.Reserved = false
 
-unfoldable pub enhancedModeOf : ℕ → EnhancedColorModeEnum
-enhancedModeOf n =
-    cond (eqb n 1) EnhancedColorModeEnum.CurrentXAndCurrentY
-    (cond (eqb n 2) EnhancedColorModeEnum.ColorTemperatureMireds
-    (cond (eqb n 3) EnhancedColorModeEnum.EnhancedCurrentHueAndCurrentSaturation EnhancedColorModeEnum.CurrentHueAndCurrentSaturation))
+unfoldable pub moveModeRead : ℕ → MoveModeEnum
+moveModeRead n = moveModeCase (moveModeFound n)
 
-unfoldable pub onOffOf : ℕ → OnOff
-onOffOf n = cond (eqb n 1) OnOff.On (cond (eqb n 2) OnOff.NoHandler OnOff.Off)
+unfoldable pub moveModeKnown : ℕ → Bool
+moveModeKnown n = moveModeHas (moveModeFound n)
 
--- the numbers that a move mode has, and a step mode; those of the others go from 0 up
-abbrev pub moveModeKnown : ℕ → Bool
-moveModeKnown n = leb n 1 || eqb n 3
+-- StepModeEnum
+abbrev pub stepModeCase : StepModeFound → StepModeEnum
+stepModeCase (StepModeFound.Known mode) = mode
+stepModeCase StepModeFound.Reserved = StepModeEnum.Down
 
-abbrev pub stepModeKnown : ℕ → Bool
-stepModeKnown n = eqb n 1 || eqb n 3
+abbrev pub stepModeHas : StepModeFound → Bool
+stepModeHas (StepModeFound.Known mode) = true
+stepModeHas StepModeFound.Reserved = false
+
+unfoldable pub stepModeRead : ℕ → StepModeEnum
+stepModeRead n = stepModeCase (stepModeFound n)
+
+unfoldable pub stepModeKnown : ℕ → Bool
+stepModeKnown n = stepModeHas (stepModeFound n)
+
+-- ColorLoopActionEnum
+abbrev pub loopActionCase : ColorLoopActionFound → ColorLoopActionEnum
+loopActionCase (ColorLoopActionFound.Known action) = action
+loopActionCase ColorLoopActionFound.Reserved = ColorLoopActionEnum.Deactivate
+
+abbrev pub loopActionHas : ColorLoopActionFound → Bool
+loopActionHas (ColorLoopActionFound.Known action) = true
+loopActionHas ColorLoopActionFound.Reserved = false
+
+unfoldable pub loopActionRead : ℕ → ColorLoopActionEnum
+loopActionRead n = loopActionCase (loopActionFound n)
+
+unfoldable pub loopActionKnown : ℕ → Bool
+loopActionKnown n = loopActionHas (loopActionFound n)
+
+-- ColorLoopDirectionEnum
+abbrev pub loopDirectionCase : ColorLoopDirectionFound → ColorLoopDirectionEnum
+loopDirectionCase (ColorLoopDirectionFound.Known direction) = direction
+loopDirectionCase ColorLoopDirectionFound.Reserved = ColorLoopDirectionEnum.Decrement
+
+abbrev pub loopDirectionHas : ColorLoopDirectionFound → Bool
+loopDirectionHas (ColorLoopDirectionFound.Known direction) = true
+loopDirectionHas ColorLoopDirectionFound.Reserved = false
+
+unfoldable pub loopDirectionRead : ℕ → ColorLoopDirectionEnum
+loopDirectionRead n = loopDirectionCase (loopDirectionFound n)
+
+unfoldable pub loopDirectionKnown : ℕ → Bool
+loopDirectionKnown n = loopDirectionHas (loopDirectionFound n)
+
+-- ColorModeEnum
+abbrev pub colorModeCase : ColorModeFound → ColorModeEnum
+colorModeCase (ColorModeFound.Known mode) = mode
+colorModeCase ColorModeFound.Reserved = ColorModeEnum.CurrentHueAndCurrentSaturation
+
+abbrev pub colorModeHas : ColorModeFound → Bool
+colorModeHas (ColorModeFound.Known mode) = true
+colorModeHas ColorModeFound.Reserved = false
+
+unfoldable pub colorModeRead : ℕ → ColorModeEnum
+colorModeRead n = colorModeCase (colorModeFound n)
+
+unfoldable pub colorModeKnown : ℕ → Bool
+colorModeKnown n = colorModeHas (colorModeFound n)
+
+-- EnhancedColorModeEnum
+abbrev pub enhancedModeCase : EnhancedColorModeFound → EnhancedColorModeEnum
+enhancedModeCase (EnhancedColorModeFound.Known mode) = mode
+enhancedModeCase EnhancedColorModeFound.Reserved = EnhancedColorModeEnum.CurrentHueAndCurrentSaturation
+
+abbrev pub enhancedModeHas : EnhancedColorModeFound → Bool
+enhancedModeHas (EnhancedColorModeFound.Known mode) = true
+enhancedModeHas EnhancedColorModeFound.Reserved = false
+
+unfoldable pub enhancedModeRead : ℕ → EnhancedColorModeEnum
+enhancedModeRead n = enhancedModeCase (enhancedColorModeFound n)
+
+unfoldable pub enhancedModeKnown : ℕ → Bool
+enhancedModeKnown n = enhancedModeHas (enhancedColorModeFound n)
+
+-- OnOff
+abbrev pub onOffCase : OnOffFound → OnOff
+onOffCase (OnOffFound.Known state) = state
+onOffCase OnOffFound.Reserved = OnOff.Off
+
+abbrev pub onOffHas : OnOffFound → Bool
+onOffHas (OnOffFound.Known state) = true
+onOffHas OnOffFound.Reserved = false
+
+unfoldable pub onOffRead : ℕ → OnOff
+onOffRead n = onOffCase (onOffFound n)
+
+unfoldable pub onOffKnown : ℕ → Bool
+onOffKnown n = onOffHas (onOffFound n)

@@ -12,7 +12,7 @@ use Rattle.lamp.specs.declared.LoopSettings.{LoopSettings}
 use Rattle.exports.specs.declared.moves.TaskNumbers.{TaskNumbers}
 use Rattle.exports.specs.declared.moves.RecordNumbers.{RecordNumbers}
 use Rattle.exports.specs.Words.{at, byte, short, flag, flagNumber}
-use Rattle.exports.specs.Enums.{colorModeOf, enhancedModeOf, loopDirectionOf}
+use Rattle.exports.specs.Enums.{colorModeRead, enhancedModeRead, loopDirectionRead, colorModeKnown, enhancedModeKnown, loopDirectionKnown}
 use Rattle.exports.specs.Moves.{runningOf, recordKnown, recordNumbers}
 
 -- ---- reading
@@ -23,8 +23,8 @@ colorOf w =
       hue = short (at w 8);
       saturation = byte (at w 9);
       mireds = short (at w 10);
-      mode = colorModeOf (at w 11);
-      emode = enhancedModeOf (at w 12);
+      mode = colorModeRead (at w 11);
+      emode = enhancedModeRead (at w 12);
       stamps = record { hue = at w 5; saturation = at w 6; mireds = at w 7 };
     }
 
@@ -32,7 +32,7 @@ abbrev pub loopingOf : List ℕ → LoopSettings
 loopingOf w =
     record {
       active = flag (at w 13);
-      direction = loopDirectionOf (at w 14);
+      direction = loopDirectionRead (at w 14);
       time = short (at w 15);
       start = short (at w 16);
       stored = short (at w 17);
@@ -73,7 +73,7 @@ lampFits w =
 
 -- the enums have their numbers, and each number is within its field
 unfoldable pub lampKnown : List ℕ → Bool
-lampKnown w = lampFits w && leb (at w 11) 2 && leb (at w 12) 3 && leb (at w 14) 1 && recordKnown (recordOf w)
+lampKnown w = lampFits w && colorModeKnown (at w 11) && enhancedModeKnown (at w 12) && loopDirectionKnown (at w 14) && recordKnown (recordOf w)
 
 -- ---- writing
 

@@ -4,20 +4,25 @@
 -- Assumes nothing.
 use Prim.Native.Nat.{ℕ, suc, _%_, _^_, _<_}
 use mathlib.Core.Bool.{Bool, true, false, not, _&&_}
-use mathlib.Core.Path.{_≡_, refl}
+use mathlib.Core.Path.{_≡_, refl, ap}
 use native.Mathlib.Nat.{mod-eq-of-lt}
 use native.Mathlib.Omega.{arith}
 use lib.Dec.{eqb, leb, leb·suc-zero}
 use lib.IntN.{ℤ, pos, negsuc, negℤ, natAbs}
 use lib.Signed.{leZ}
 use borrow.Author.Tests.{leb-true, le-leb}
+use Rattle.matter.specs.declared.DirectionEnum.{DirectionEnum}
 use Rattle.matter.specs.declared.MoveModeEnum.{MoveModeEnum}
+use Rattle.matter.specs.declared.StepModeEnum.{StepModeEnum}
+use Rattle.matter.specs.declared.ColorLoopActionEnum.{ColorLoopActionEnum}
 use Rattle.matter.specs.declared.ColorLoopDirectionEnum.{ColorLoopDirectionEnum}
 use Rattle.matter.specs.declared.ColorModeEnum.{ColorModeEnum}
 use Rattle.matter.specs.declared.EnhancedColorModeEnum.{EnhancedColorModeEnum}
+use Rattle.matter.specs.declared.OnOff.{OnOff}
 use Rattle.matter.specs.declared.Bounds.{Bounds}
 use Rattle.matter.specs.Laws.{and-left, and-right, each}
-use Rattle.matter.specs.Numbers.{moveModeNumber, loopDirectionNumber, colorModeNumber, enhancedColorModeNumber}
+use Rattle.matter.specs.Laws as by-number
+use Rattle.matter.specs.Numbers.{directionNumber, moveModeNumber, stepModeNumber, loopActionNumber, loopDirectionNumber, colorModeNumber, enhancedColorModeNumber, onOffNumber}
 use Rattle.tasks.specs.declared.HueDelta.{HueDelta}
 use Rattle.tasks.specs.declared.TargetSaturation.{TargetSaturation}
 use Rattle.tasks.specs.declared.Task.{Task}
@@ -29,7 +34,7 @@ use Rattle.lamp.specs.Form.{lampForm}
 use Rattle.lamp.specs.Kept.{form-running}
 use Rattle.lamp.specs.Typed.{TypedLamp}
 use Rattle.exports.specs.Words.{flag, flagNumber, signed, signOf, sizeOf}
-use Rattle.exports.specs.Enums.{moveModeOf, loopDirectionOf, colorModeOf, enhancedModeOf, moveModeKnown}
+use Rattle.exports.specs.Enums.{directionCase, moveModeCase, stepModeCase, loopActionCase, loopDirectionCase, colorModeCase, enhancedModeCase, onOffCase, directionHas, moveModeHas, stepModeHas, loopActionHas, loopDirectionHas, colorModeHas, enhancedModeHas, onOffHas, directionRead, moveModeRead, stepModeRead, loopActionRead, loopDirectionRead, colorModeRead, enhancedModeRead, onOffRead, directionKnown, moveModeKnown, stepModeKnown, loopActionKnown, loopDirectionKnown, colorModeKnown, enhancedModeKnown, onOffKnown}
 use Rattle.exports.specs.Moves.{deltaOf, targetOf, moveToOf, hueMoveOf, saturationMoveOf, miredsToOf, miredsMoveOf, colorLoopOf, taskOf, runningOf, taskFits, taskKnown, recordKnown, none, deltaSign, deltaSize, targetGiven, targetNumber, taskNumbers, recordNumbers}
 use Rattle.exports.specs.Lamps.{recordOf, lampOf, lampFits, lampKnown, lampWords}
 
@@ -49,29 +54,37 @@ unfolding flag
 flag-back true = record { same = refl; taken = refl }
 flag-back false = record { same = refl; taken = refl }
 
-pub move-mode-back : (m : MoveModeEnum) → Back moveModeOf moveModeKnown (moveModeNumber m) m
-unfolding moveModeOf
-move-mode-back MoveModeEnum.Stop = record { same = refl; taken = refl }
-move-mode-back MoveModeEnum.Up = record { same = refl; taken = refl }
-move-mode-back MoveModeEnum.Down = record { same = refl; taken = refl }
+pub direction-back : (d : DirectionEnum) → Back directionRead directionKnown (directionNumber d) d
+unfolding directionRead directionKnown
+direction-back d = record { same = ap directionCase (by-number.direction-back d); taken = ap directionHas (by-number.direction-back d) }
 
-pub loop-direction-back : (d : ColorLoopDirectionEnum) → Back loopDirectionOf (λ n. leb n 1) (loopDirectionNumber d) d
-unfolding loopDirectionOf
-loop-direction-back ColorLoopDirectionEnum.Decrement = record { same = refl; taken = refl }
-loop-direction-back ColorLoopDirectionEnum.Increment = record { same = refl; taken = refl }
+pub move-mode-back : (m : MoveModeEnum) → Back moveModeRead moveModeKnown (moveModeNumber m) m
+unfolding moveModeRead moveModeKnown
+move-mode-back m = record { same = ap moveModeCase (by-number.move-mode-back m); taken = ap moveModeHas (by-number.move-mode-back m) }
 
-pub color-mode-back : (m : ColorModeEnum) → Back colorModeOf (λ n. leb n 2) (colorModeNumber m) m
-unfolding colorModeOf
-color-mode-back ColorModeEnum.CurrentHueAndCurrentSaturation = record { same = refl; taken = refl }
-color-mode-back ColorModeEnum.CurrentXAndCurrentY = record { same = refl; taken = refl }
-color-mode-back ColorModeEnum.ColorTemperatureMireds = record { same = refl; taken = refl }
+pub step-mode-back : (m : StepModeEnum) → Back stepModeRead stepModeKnown (stepModeNumber m) m
+unfolding stepModeRead stepModeKnown
+step-mode-back m = record { same = ap stepModeCase (by-number.step-mode-back m); taken = ap stepModeHas (by-number.step-mode-back m) }
 
-pub enhanced-mode-back : (m : EnhancedColorModeEnum) → Back enhancedModeOf (λ n. leb n 3) (enhancedColorModeNumber m) m
-unfolding enhancedModeOf
-enhanced-mode-back EnhancedColorModeEnum.CurrentHueAndCurrentSaturation = record { same = refl; taken = refl }
-enhanced-mode-back EnhancedColorModeEnum.CurrentXAndCurrentY = record { same = refl; taken = refl }
-enhanced-mode-back EnhancedColorModeEnum.ColorTemperatureMireds = record { same = refl; taken = refl }
-enhanced-mode-back EnhancedColorModeEnum.EnhancedCurrentHueAndCurrentSaturation = record { same = refl; taken = refl }
+pub loop-action-back : (a : ColorLoopActionEnum) → Back loopActionRead loopActionKnown (loopActionNumber a) a
+unfolding loopActionRead loopActionKnown
+loop-action-back a = record { same = ap loopActionCase (by-number.loop-action-back a); taken = ap loopActionHas (by-number.loop-action-back a) }
+
+pub loop-direction-back : (d : ColorLoopDirectionEnum) → Back loopDirectionRead loopDirectionKnown (loopDirectionNumber d) d
+unfolding loopDirectionRead loopDirectionKnown
+loop-direction-back d = record { same = ap loopDirectionCase (by-number.loop-direction-back d); taken = ap loopDirectionHas (by-number.loop-direction-back d) }
+
+pub color-mode-back : (m : ColorModeEnum) → Back colorModeRead colorModeKnown (colorModeNumber m) m
+unfolding colorModeRead colorModeKnown
+color-mode-back m = record { same = ap colorModeCase (by-number.color-mode-back m); taken = ap colorModeHas (by-number.color-mode-back m) }
+
+pub enhanced-mode-back : (m : EnhancedColorModeEnum) → Back enhancedModeRead enhancedModeKnown (enhancedColorModeNumber m) m
+unfolding enhancedModeRead enhancedModeKnown
+enhanced-mode-back m = record { same = ap enhancedModeCase (by-number.enhanced-color-mode-back m); taken = ap enhancedModeHas (by-number.enhanced-color-mode-back m) }
+
+pub on-off-back : (o : OnOff) → Back onOffRead onOffKnown (onOffNumber o) o
+unfolding onOffRead onOffKnown
+on-off-back o = record { same = ap onOffCase (by-number.on-off-back o); taken = ap onOffHas (by-number.on-off-back o) }
 
 -- ---- signed numbers
 

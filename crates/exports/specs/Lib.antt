@@ -2,6 +2,7 @@ pub mod Words
 pub mod Enums
 pub mod Moves
 pub mod Lamps
+pub mod Kinds
 pub mod Calls
 pub mod Answers
 pub mod Exported

@@ -20,7 +20,7 @@ use Rattle.tasks.specs.declared.Running.{Running}
 use Rattle.exports.specs.declared.moves.TaskNumbers.{TaskNumbers}
 use Rattle.exports.specs.declared.moves.RecordNumbers.{RecordNumbers}
 use Rattle.exports.specs.Words.{byte, short, long, flag, flagNumber, signed, signOf, sizeOf}
-use Rattle.exports.specs.Enums.{moveModeOf, loopDirectionOf, moveModeKnown}
+use Rattle.exports.specs.Enums.{moveModeRead, loopDirectionRead, moveModeKnown, loopDirectionKnown}
 
 -- ---- reading
 
@@ -35,10 +35,10 @@ unfoldable pub moveToOf : TaskNumbers → HueSaturationMoveTo
 moveToOf n = record { delta = deltaOf (n .a) (n .b); saturation = targetOf (n .c) (n .d); ms = long (n .e); enhanced = flag (n .f) }
 
 unfoldable pub hueMoveOf : TaskNumbers → HueMove
-hueMoveOf n = record { direction = moveModeOf (n .a); rate = long (n .b); enhanced = flag (n .c) }
+hueMoveOf n = record { direction = moveModeRead (n .a); rate = long (n .b); enhanced = flag (n .c) }
 
 unfoldable pub saturationMoveOf : TaskNumbers → SaturationMove
-saturationMoveOf n = record { direction = moveModeOf (n .a); rate = long (n .b) }
+saturationMoveOf n = record { direction = moveModeRead (n .a); rate = long (n .b) }
 
 unfoldable pub miredsToOf : TaskNumbers → ColorTemperatureMoveTo
 miredsToOf n = record { target = short (n .a); ms = long (n .b) }
@@ -47,7 +47,7 @@ unfoldable pub miredsMoveOf : TaskNumbers → ColorTemperatureMove
 miredsMoveOf n = record { rate = signed (n .a) (n .b); min = short (n .c); max = short (n .d) }
 
 unfoldable pub colorLoopOf : TaskNumbers → ColorLoop
-colorLoopOf n = record { direction = loopDirectionOf (n .a); seconds = short (n .b) }
+colorLoopOf n = record { direction = loopDirectionRead (n .a); seconds = short (n .b) }
 
 unfoldable pub taskOf : TaskNumbers → Task
 taskOf n =
@@ -87,7 +87,7 @@ unfoldable pub taskKnown : TaskNumbers → Bool
 taskKnown n =
     taskFits n
     && ((eqb (n .kind) 1 && leb (n .a) 2) || ((eqb (n .kind) 2 || eqb (n .kind) 3) && moveModeKnown (n .a)) || eqb (n .kind) 4
-    || (eqb (n .kind) 5 && leb (n .a) 2) || (eqb (n .kind) 6 && leb (n .a) 1) || eqb (n .kind) 7)
+    || (eqb (n .kind) 5 && leb (n .a) 2) || (eqb (n .kind) 6 && loopDirectionKnown (n .a)) || eqb (n .kind) 7)
 
 unfoldable pub recordKnown : RecordNumbers → Bool
 recordKnown r =

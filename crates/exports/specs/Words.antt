@@ -4,7 +4,7 @@ use Prim.Native.Nat.{ℕ, _%_, _^_}
 use mathlib.Core.Bool.{Bool, cond}
 use mathlib.Core.List.{List}
 use lib.ListN.{getD}
-use lib.Dec.{eqb}
+use lib.Dec.{eqb, leb}
 use lib.IntN.{ℤ, pos, negℤ, natAbs}
 use lib.Signed.{ltZ}
 
@@ -21,6 +21,10 @@ short x = x % 2 ^ 16
 
 abbrev pub long : ℕ → ℕ
 long x = x % 2 ^ 32
+
+-- an enum's number: past eight bits it is 255, which no enum has
+unfoldable pub capped : ℕ → ℕ
+capped x = cond (leb x 255) x 255
 
 -- 1 is true, and true is 1
 unfoldable pub flag : ℕ → Bool

@@ -11,18 +11,48 @@ use matter::Command;
 use matter::CommandOptions;
 ghost use mathlib.Core.Path.{_≡_};
 ghost use Rattle.exports.specs.Calls as C;
-ghost use Rattle.exports.specs.Calls.{optionsOf, hueCommand, saturationCommand, enhancedCommand, miredsCommand, loopCommand, commandOf, commandFits, commandKnown, commandNumbers, startNumbers, callKnown};
+ghost use Rattle.exports.specs.Calls.{optionsRead, hueCommand, saturationCommand, enhancedCommand, miredsCommand, loopCommand, commandOf, commandFits, commandKnown, commandNumbers, startNumbers, callKnown};
 
 pub const CALL_WORDS: usize = 10;
 
-// The kinds of calls: a command's number in the cluster, and these.
+// The kinds of calls: a command's number in the cluster, and START, STEP and HALT past those.
+const MOVE_TO_HUE: u64 = 0;
+
+const MOVE_HUE: u64 = 1;
+
+const STEP_HUE: u64 = 2;
+
+const MOVE_TO_SATURATION: u64 = 3;
+
+const MOVE_SATURATION: u64 = 4;
+
+const STEP_SATURATION: u64 = 5;
+
+const MOVE_TO_HUE_AND_SATURATION: u64 = 6;
+
+const MOVE_TO_COLOR_TEMPERATURE: u64 = 10;
+
+const ENHANCED_MOVE_TO_HUE: u64 = 64;
+
+const ENHANCED_MOVE_HUE: u64 = 65;
+
+const ENHANCED_STEP_HUE: u64 = 66;
+
+const COLOR_LOOP_SET: u64 = 68;
+
+const STOP_MOVE_STEP: u64 = 71;
+
+const MOVE_COLOR_TEMPERATURE: u64 = 75;
+
+const STEP_COLOR_TEMPERATURE: u64 = 76;
+
 pub const START: u64 = 256;
 
 pub const STEP: u64 = 257;
 
 pub const HALT: u64 = 258;
 
-// The number of a call or a lamp that cannot be read.
+// The number of a call that cannot be read.
 pub const UNREADABLE: u8 = 100;
 
 // A command's number, options and arguments.
@@ -39,7 +69,7 @@ pub struct CommandNumbers {
 
 impl CommandNumbers {
     fn options(self) -> CommandOptions
-        ensures { λ r. ⌜ r ≡ optionsOf self ⌝ }
+        ensures { λ r. ⌜ r ≡ optionsRead self ⌝ }
     {
         CommandOptions {
             mask: words::byte(self.mask),
@@ -51,7 +81,7 @@ impl CommandNumbers {
         ensures { λ r. ⌜ r ≡ hueCommand self ⌝ }
     {
         let options = self.options();
-        if self.kind == 0 {
+        if self.kind == MOVE_TO_HUE {
             return Command::MoveToHue {
                 hue: words::byte(self.a),
                 direction: enums::direction(self.b),
@@ -59,7 +89,7 @@ impl CommandNumbers {
                 options: options,
             };
         }
-        if self.kind == 1 {
+        if self.kind == MOVE_HUE {
             return Command::MoveHue {
                 mode: enums::move_mode(self.a),
                 rate: words::byte(self.b),
@@ -79,21 +109,21 @@ impl CommandNumbers {
         ensures { λ r. ⌜ r ≡ saturationCommand self ⌝ }
     {
         let options = self.options();
-        if self.kind == 3 {
+        if self.kind == MOVE_TO_SATURATION {
             return Command::MoveToSaturation {
                 saturation: words::byte(self.a),
                 time: words::short(self.b),
                 options: options,
             };
         }
-        if self.kind == 4 {
+        if self.kind == MOVE_SATURATION {
             return Command::MoveSaturation {
                 mode: enums::move_mode(self.a),
                 rate: words::byte(self.b),
                 options: options,
             };
         }
-        if self.kind == 5 {
+        if self.kind == STEP_SATURATION {
             return Command::StepSaturation {
                 mode: enums::step_mode(self.a),
                 size: words::byte(self.b),
@@ -115,7 +145,7 @@ impl CommandNumbers {
         ensures { λ r. ⌜ r ≡ enhancedCommand self ⌝ }
     {
         let options = self.options();
-        if self.kind == 64 {
+        if self.kind == ENHANCED_MOVE_TO_HUE {
             return Command::EnhancedMoveToHue {
                 hue: words::short(self.a),
                 direction: enums::direction(self.b),
@@ -123,7 +153,7 @@ impl CommandNumbers {
                 options: options,
             };
         }
-        if self.kind == 65 {
+        if self.kind == ENHANCED_MOVE_HUE {
             return Command::EnhancedMoveHue {
                 mode: enums::move_mode(self.a),
                 rate: words::short(self.b),
@@ -142,14 +172,14 @@ impl CommandNumbers {
         ensures { λ r. ⌜ r ≡ miredsCommand self ⌝ }
     {
         let options = self.options();
-        if self.kind == 10 {
+        if self.kind == MOVE_TO_COLOR_TEMPERATURE {
             return Command::MoveToColorTemperature {
                 mireds: words::short(self.a),
                 time: words::short(self.b),
                 options: options,
             };
         }
-        if self.kind == 75 {
+        if self.kind == MOVE_COLOR_TEMPERATURE {
             return Command::MoveColorTemperature {
                 mode: enums::move_mode(self.a),
                 rate: words::short(self.b),
@@ -185,20 +215,20 @@ impl CommandNumbers {
     fn command(self) -> Command
         ensures { λ r. ⌜ r ≡ commandOf self ⌝ }
     {
-        if self.kind <= 2 {
+        if self.kind <= STEP_HUE {
             return self.hue_command();
         }
-        if self.kind <= 6 {
+        if self.kind <= MOVE_TO_HUE_AND_SATURATION {
             return self.saturation_command();
         }
-        if self.kind == 68 {
+        if self.kind == COLOR_LOOP_SET {
             return self.loop_command();
         }
-        if self.kind == 71 {
+        if self.kind == STOP_MOVE_STEP {
             let options = self.options();
             return Command::StopMoveStep { options: options };
         }
-        if (64 <= self.kind) & (self.kind <= 66) {
+        if (ENHANCED_MOVE_TO_HUE <= self.kind) & (self.kind <= ENHANCED_STEP_HUE) {
             return self.enhanced_command();
         }
         self.mireds_command()
@@ -216,10 +246,19 @@ impl CommandNumbers {
             & (self.c <= 65535)
             & (self.d <= 65535)
             & (self.e <= 65535)
-            & (!((k == 0) | (k == 3) | (k == 6) | (k == 68)) | (self.a <= 255))
-            & (!((k == 1) | (k == 2) | (k == 4) | (k == 5) | (k == 6)) | (self.b <= 255))
-            & (!(k == 1) | (self.c <= 1))
-            & (!(k == 6) | (self.d <= 1))
+            & (!((k == MOVE_TO_HUE)
+                | (k == MOVE_TO_SATURATION)
+                | (k == MOVE_TO_HUE_AND_SATURATION)
+                | (k == COLOR_LOOP_SET))
+                | (self.a <= 255))
+            & (!((k == MOVE_HUE)
+                | (k == STEP_HUE)
+                | (k == MOVE_SATURATION)
+                | (k == STEP_SATURATION)
+                | (k == MOVE_TO_HUE_AND_SATURATION))
+                | (self.b <= 255))
+            & (!(k == MOVE_HUE) | (self.c <= 1))
+            & (!(k == MOVE_TO_HUE_AND_SATURATION) | (self.d <= 1))
     }
 
     // Whether the kind and the enums' numbers exist, and each argument is within its field.
@@ -228,14 +267,24 @@ impl CommandNumbers {
     {
         let k = self.kind;
         self.fits()
-            & ((((k == 0) | (k == 64)) & (self.b <= 3))
-                | (((k == 1) | (k == 4) | (k == 65) | (k == 75)) & enums::move_mode_known(self.a))
-                | (((k == 2) | (k == 5) | (k == 66) | (k == 76)) & enums::step_mode_known(self.a))
-                | (k == 3)
-                | (k == 6)
-                | (k == 10)
-                | (k == 71)
-                | ((k == 68) & (self.b <= 2) & (self.c <= 1)))
+            & ((((k == MOVE_TO_HUE) | (k == ENHANCED_MOVE_TO_HUE)) & enums::direction_known(self.b))
+                | (((k == MOVE_HUE)
+                    | (k == MOVE_SATURATION)
+                    | (k == ENHANCED_MOVE_HUE)
+                    | (k == MOVE_COLOR_TEMPERATURE))
+                    & enums::move_mode_known(self.a))
+                | (((k == STEP_HUE)
+                    | (k == STEP_SATURATION)
+                    | (k == ENHANCED_STEP_HUE)
+                    | (k == STEP_COLOR_TEMPERATURE))
+                    & enums::step_mode_known(self.a))
+                | (k == MOVE_TO_SATURATION)
+                | (k == MOVE_TO_HUE_AND_SATURATION)
+                | (k == MOVE_TO_COLOR_TEMPERATURE)
+                | (k == STOP_MOVE_STEP)
+                | ((k == COLOR_LOOP_SET)
+                    & enums::loop_action_known(self.b)
+                    & enums::loop_direction_known(self.c)))
     }
 }
 
@@ -279,7 +328,7 @@ pub(crate) fn call_known(w: &[u64]) -> bool
         & (((kind == START) & task.known())
             | (kind == STEP)
             | (kind == HALT)
-            | (command.known() & (at(w, 2) <= 2)))
+            | (command.known() & enums::on_off_known(at(w, 2))))
 }
 
 // Sends a call to the lamp. A kind past the last one is no call.

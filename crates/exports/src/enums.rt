@@ -1,120 +1,166 @@
-// The cluster's enums by their numbers. A number that no case has is read as the case that stands last here.
+// The cluster's enums by their numbers, which `matter` states. A number that no case has is read as the case that stands
+// last here.
+use crate::words;
 use matter::ColorLoopActionEnum;
+use matter::ColorLoopActionFound;
 use matter::ColorLoopDirectionEnum;
+use matter::ColorLoopDirectionFound;
 use matter::ColorModeEnum;
+use matter::ColorModeFound;
 use matter::DirectionEnum;
+use matter::DirectionFound;
 use matter::EnhancedColorModeEnum;
+use matter::EnhancedColorModeFound;
 use matter::MoveModeEnum;
+use matter::MoveModeFound;
 use matter::OnOff;
+use matter::OnOffFound;
 use matter::StepModeEnum;
+use matter::StepModeFound;
 ghost use mathlib.Core.Path.{_≡_};
-ghost use Rattle.exports.specs.Enums.{directionOf, moveModeOf, stepModeOf, loopActionOf, loopDirectionOf, colorModeOf, enhancedModeOf, onOffOf, moveModeKnown, stepModeKnown};
+ghost use Rattle.exports.specs.Enums.{directionRead, moveModeRead, stepModeRead, loopActionRead, loopDirectionRead, colorModeRead, enhancedModeRead, onOffRead, directionKnown, moveModeKnown, stepModeKnown, loopActionKnown, loopDirectionKnown, colorModeKnown, enhancedModeKnown, onOffKnown};
 
 pub(crate) fn direction(n: u64) -> DirectionEnum
-    ensures { λ r. ⌜ r ≡ directionOf n ⌝ }
+    ensures { λ r. ⌜ r ≡ directionRead n ⌝ }
 {
-    if n == 1 {
-        return DirectionEnum::Longest;
+    match DirectionEnum::of_number(words::capped(n)) {
+        DirectionFound::Known(direction) => direction,
+        DirectionFound::Reserved => DirectionEnum::Shortest,
     }
-    if n == 2 {
-        return DirectionEnum::Up;
-    }
-    if n == 3 {
-        return DirectionEnum::Down;
-    }
-    DirectionEnum::Shortest
 }
 
 pub(crate) fn move_mode(n: u64) -> MoveModeEnum
-    ensures { λ r. ⌜ r ≡ moveModeOf n ⌝ }
+    ensures { λ r. ⌜ r ≡ moveModeRead n ⌝ }
 {
-    if n == 1 {
-        return MoveModeEnum::Up;
+    match MoveModeEnum::of_number(words::capped(n)) {
+        MoveModeFound::Known(mode) => mode,
+        MoveModeFound::Reserved => MoveModeEnum::Stop,
     }
-    if n == 3 {
-        return MoveModeEnum::Down;
-    }
-    MoveModeEnum::Stop
 }
 
 pub(crate) fn step_mode(n: u64) -> StepModeEnum
-    ensures { λ r. ⌜ r ≡ stepModeOf n ⌝ }
+    ensures { λ r. ⌜ r ≡ stepModeRead n ⌝ }
 {
-    if n == 1 {
-        return StepModeEnum::Up;
+    match StepModeEnum::of_number(words::capped(n)) {
+        StepModeFound::Known(mode) => mode,
+        StepModeFound::Reserved => StepModeEnum::Down,
     }
-    StepModeEnum::Down
 }
 
 pub(crate) fn loop_action(n: u64) -> ColorLoopActionEnum
-    ensures { λ r. ⌜ r ≡ loopActionOf n ⌝ }
+    ensures { λ r. ⌜ r ≡ loopActionRead n ⌝ }
 {
-    if n == 1 {
-        return ColorLoopActionEnum::ActivateFromColorLoopStartEnhancedHue;
+    match ColorLoopActionEnum::of_number(words::capped(n)) {
+        ColorLoopActionFound::Known(action) => action,
+        ColorLoopActionFound::Reserved => ColorLoopActionEnum::Deactivate,
     }
-    if n == 2 {
-        return ColorLoopActionEnum::ActivateFromEnhancedCurrentHue;
-    }
-    ColorLoopActionEnum::Deactivate
 }
 
 pub(crate) fn loop_direction(n: u64) -> ColorLoopDirectionEnum
-    ensures { λ r. ⌜ r ≡ loopDirectionOf n ⌝ }
+    ensures { λ r. ⌜ r ≡ loopDirectionRead n ⌝ }
 {
-    if n == 1 {
-        return ColorLoopDirectionEnum::Increment;
+    match ColorLoopDirectionEnum::of_number(words::capped(n)) {
+        ColorLoopDirectionFound::Known(direction) => direction,
+        ColorLoopDirectionFound::Reserved => ColorLoopDirectionEnum::Decrement,
     }
-    ColorLoopDirectionEnum::Decrement
 }
 
 pub(crate) fn color_mode(n: u64) -> ColorModeEnum
-    ensures { λ r. ⌜ r ≡ colorModeOf n ⌝ }
+    ensures { λ r. ⌜ r ≡ colorModeRead n ⌝ }
 {
-    if n == 1 {
-        return ColorModeEnum::CurrentXAndCurrentY;
+    match ColorModeEnum::of_number(words::capped(n)) {
+        ColorModeFound::Known(mode) => mode,
+        ColorModeFound::Reserved => ColorModeEnum::CurrentHueAndCurrentSaturation,
     }
-    if n == 2 {
-        return ColorModeEnum::ColorTemperatureMireds;
-    }
-    ColorModeEnum::CurrentHueAndCurrentSaturation
 }
 
 pub(crate) fn enhanced_mode(n: u64) -> EnhancedColorModeEnum
-    ensures { λ r. ⌜ r ≡ enhancedModeOf n ⌝ }
+    ensures { λ r. ⌜ r ≡ enhancedModeRead n ⌝ }
 {
-    if n == 1 {
-        return EnhancedColorModeEnum::CurrentXAndCurrentY;
+    match EnhancedColorModeEnum::of_number(words::capped(n)) {
+        EnhancedColorModeFound::Known(mode) => mode,
+        EnhancedColorModeFound::Reserved => EnhancedColorModeEnum::CurrentHueAndCurrentSaturation,
     }
-    if n == 2 {
-        return EnhancedColorModeEnum::ColorTemperatureMireds;
-    }
-    if n == 3 {
-        return EnhancedColorModeEnum::EnhancedCurrentHueAndCurrentSaturation;
-    }
-    EnhancedColorModeEnum::CurrentHueAndCurrentSaturation
 }
 
 pub(crate) fn on_off(n: u64) -> OnOff
-    ensures { λ r. ⌜ r ≡ onOffOf n ⌝ }
+    ensures { λ r. ⌜ r ≡ onOffRead n ⌝ }
 {
-    if n == 1 {
-        return OnOff::On;
+    match OnOff::of_number(words::capped(n)) {
+        OnOffFound::Known(state) => state,
+        OnOffFound::Reserved => OnOff::Off,
     }
-    if n == 2 {
-        return OnOff::NoHandler;
-    }
-    OnOff::Off
 }
 
-// Whether a move mode has the number, and a step mode.
-pub(crate) fn move_mode_known(n: u64) -> bool
-    ensures { λ r. ⌜ r ≡ moveModeKnown n ⌝ }
+// Whether a case has the number.
+pub(crate) fn direction_known(number: u64) -> bool
+    ensures { λ r. ⌜ r ≡ directionKnown number ⌝ }
 {
-    (n <= 1) | (n == 3)
+    match DirectionEnum::of_number(words::capped(number)) {
+        DirectionFound::Known(_) => true,
+        DirectionFound::Reserved => false,
+    }
 }
 
-pub(crate) fn step_mode_known(n: u64) -> bool
-    ensures { λ r. ⌜ r ≡ stepModeKnown n ⌝ }
+pub(crate) fn move_mode_known(number: u64) -> bool
+    ensures { λ r. ⌜ r ≡ moveModeKnown number ⌝ }
 {
-    (n == 1) | (n == 3)
+    match MoveModeEnum::of_number(words::capped(number)) {
+        MoveModeFound::Known(_) => true,
+        MoveModeFound::Reserved => false,
+    }
+}
+
+pub(crate) fn step_mode_known(number: u64) -> bool
+    ensures { λ r. ⌜ r ≡ stepModeKnown number ⌝ }
+{
+    match StepModeEnum::of_number(words::capped(number)) {
+        StepModeFound::Known(_) => true,
+        StepModeFound::Reserved => false,
+    }
+}
+
+pub(crate) fn loop_action_known(number: u64) -> bool
+    ensures { λ r. ⌜ r ≡ loopActionKnown number ⌝ }
+{
+    match ColorLoopActionEnum::of_number(words::capped(number)) {
+        ColorLoopActionFound::Known(_) => true,
+        ColorLoopActionFound::Reserved => false,
+    }
+}
+
+pub(crate) fn loop_direction_known(number: u64) -> bool
+    ensures { λ r. ⌜ r ≡ loopDirectionKnown number ⌝ }
+{
+    match ColorLoopDirectionEnum::of_number(words::capped(number)) {
+        ColorLoopDirectionFound::Known(_) => true,
+        ColorLoopDirectionFound::Reserved => false,
+    }
+}
+
+pub(crate) fn color_mode_known(number: u64) -> bool
+    ensures { λ r. ⌜ r ≡ colorModeKnown number ⌝ }
+{
+    match ColorModeEnum::of_number(words::capped(number)) {
+        ColorModeFound::Known(_) => true,
+        ColorModeFound::Reserved => false,
+    }
+}
+
+pub(crate) fn enhanced_mode_known(number: u64) -> bool
+    ensures { λ r. ⌜ r ≡ enhancedModeKnown number ⌝ }
+{
+    match EnhancedColorModeEnum::of_number(words::capped(number)) {
+        EnhancedColorModeFound::Known(_) => true,
+        EnhancedColorModeFound::Reserved => false,
+    }
+}
+
+pub(crate) fn on_off_known(number: u64) -> bool
+    ensures { λ r. ⌜ r ≡ onOffKnown number ⌝ }
+{
+    match OnOff::of_number(words::capped(number)) {
+        OnOffFound::Known(_) => true,
+        OnOffFound::Reserved => false,
+    }
 }

@@ -114,7 +114,14 @@ pub(crate) fn lamp_known(w: &[u64]) -> bool
     ensures { λ r. ⌜ r ≡ lampKnown (now (w .entry)) ⌝ }
 {
     let record = record(w);
-    lamp_fits(w) & (at(w, 11) <= 2) & (at(w, 12) <= 3) & (at(w, 14) <= 1) & record.known()
+    let mode = at(w, 11);
+    let emode = at(w, 12);
+    let direction = at(w, 14);
+    lamp_fits(w)
+        & enums::color_mode_known(mode)
+        & enums::enhanced_mode_known(emode)
+        & enums::loop_direction_known(direction)
+        & record.known()
 }
 
 pub(crate) fn lamp_words(lamp: Lamp) -> [u64; 28]

@@ -167,7 +167,7 @@ impl TaskNumbers {
                     & enums::move_mode_known(self.a))
                 | (self.kind == MIREDS_TO)
                 | ((self.kind == MIREDS_MOVE) & (self.a <= 2))
-                | ((self.kind == LOOP) & (self.a <= 1))
+                | ((self.kind == LOOP) & enums::loop_direction_known(self.a))
                 | (self.kind == STOP))
     }
 

@@ -28,6 +28,13 @@ pub(crate) fn long(x: u64) -> u32
     (x % 4294967296) as u32
 }
 
+// An enum's number: past eight bits it is 255, which no enum has.
+pub(crate) fn capped(x: u64) -> u8
+    ensures { λ r. ⌜ r ≡ W.capped x ⌝ }
+{
+    if x <= 255 { x as u8 } else { 255 }
+}
+
 pub(crate) fn flag(x: u64) -> bool
     ensures { λ r. ⌜ r ≡ W.flag x ⌝ }
 {

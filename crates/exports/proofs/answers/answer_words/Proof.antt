@@ -59,7 +59,23 @@ place-requires-16 : tie.Need-place-requires-16
 place-requires-16 c κs = search needs
 
 returns : tie.Need-returns
-returns c = simp (c .place16 .ensures, c .before .place15 .ensures, c .before .before .place14 .ensures, c .before .before .before .place13 .ensures, c .before .before .before .before .place12 .ensures, c .before .before .before .before .before .place11 .ensures, c .before .before .before .before .before .before .place10 .ensures, c .before .before .before .before .before .before .before .place9 .ensures, c .before .before .before .before .before .before .before .before .place8 .ensures, c .before .before .before .before .before .before .before .before .before .place7 .ensures, c .before .before .before .before .before .before .before .before .before .before .place6 .ensures, c .before .before .before .before .before .before .before .before .before .before .before .place5 .ensures, c .before .before .before .before .before .before .before .before .before .before .before .before .place4 .ensures, c .before .before .before .before .before .before .before .before .before .before .before .before .before .place3 .ensures, c .before .before .before .before .before .before .before .before .before .before .before .before .before .before .place2 .ensures, c .before .before .before .before .before .before .before .before .before .before .before .before .before .before .before .place .ensures, c .before .before .before .before .before .before .before .before .before .before .before .before .before .before .before .before .before .of-given .ensures)
+returns c =
+    let at-place14 = c .before .before in
+    let at-place13 = at-place14 .before in
+    let at-place12 = at-place13 .before in
+    let at-place11 = at-place12 .before in
+    let at-place10 = at-place11 .before in
+    let at-place9 = at-place10 .before in
+    let at-place8 = at-place9 .before in
+    let at-place7 = at-place8 .before in
+    let at-place6 = at-place7 .before in
+    let at-place5 = at-place6 .before in
+    let at-place4 = at-place5 .before in
+    let at-place3 = at-place4 .before in
+    let at-place2 = at-place3 .before in
+    let at-place = at-place2 .before in
+    let at-of-given = at-place .before .before in
+    simp (c .place16 .ensures, c .before .place15 .ensures, at-place14 .place14 .ensures, at-place13 .place13 .ensures, at-place12 .place12 .ensures, at-place11 .place11 .ensures, at-place10 .place10 .ensures, at-place9 .place9 .ensures, at-place8 .place8 .ensures, at-place7 .place7 .ensures, at-place6 .place6 .ensures, at-place5 .place5 .ensures, at-place4 .place4 .ensures, at-place3 .place3 .ensures, at-place2 .place2 .ensures, at-place .place .ensures, at-of-given .of-given .ensures)
 
 pub answer-words-spec : {M : Type 1} → statement M
 answer-words-spec =

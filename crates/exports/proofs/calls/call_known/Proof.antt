@@ -25,9 +25,18 @@ known-requires-2 c κs = search needs
 at-requires-2 : tie.Need-at-requires-2
 at-requires-2 c κs = search needs
 
+on-off-known-requires : tie.Need-on-off-known-requires
+on-off-known-requires c κs = search needs
+
 returns : tie.Need-returns
 unfolding callKnown
-returns c = simp (c .at2 .ensures, c .before .known2 .ensures, c .before .before .known .ensures, c .before .before .before .command-numbers .ensures, c .before .before .before .before .task-numbers .ensures, c .before .before .before .before .before .at .ensures)
+returns c =
+    let at-known2 = c .before .before in
+    let at-known = at-known2 .before in
+    let at-command-numbers = at-known .before in
+    let at-task-numbers = at-command-numbers .before in
+    let at-at = at-task-numbers .before in
+    simp (c .on-off-known .ensures, c .before .at2 .ensures, at-known2 .known2 .ensures, at-known .known .ensures, at-command-numbers .command-numbers .ensures, at-task-numbers .task-numbers .ensures, at-at .at .ensures)
 
 pub call-known-spec : {M : Type 1} → statement M
 call-known-spec =
@@ -39,4 +48,5 @@ call-known-spec =
     known-requires
     known-requires-2
     at-requires-2
+    on-off-known-requires
     returns)

@@ -29,7 +29,14 @@ at-requires-8 : tie.Need-at-requires-8
 at-requires-8 c κs = search needs
 
 returns : tie.Need-returns
-returns c = simp (c .at8 .ensures, c .before .at7 .ensures, c .before .before .at6 .ensures, c .before .before .before .at5 .ensures, c .before .before .before .before .at4 .ensures, c .before .before .before .before .before .at3 .ensures, c .before .before .before .before .before .before .at2 .ensures, c .before .before .before .before .before .before .before .at .ensures)
+returns c =
+    let at-at6 = c .before .before in
+    let at-at5 = at-at6 .before in
+    let at-at4 = at-at5 .before in
+    let at-at3 = at-at4 .before in
+    let at-at2 = at-at3 .before in
+    let at-at = at-at2 .before in
+    simp (c .at8 .ensures, c .before .at7 .ensures, at-at6 .at6 .ensures, at-at5 .at5 .ensures, at-at4 .at4 .ensures, at-at3 .at3 .ensures, at-at2 .at2 .ensures, at-at .at .ensures)
 
 pub command-numbers-spec : {M : Type 1} → statement M
 command-numbers-spec =

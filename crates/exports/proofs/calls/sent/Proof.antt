@@ -18,14 +18,21 @@ refused-requires c κs = search needs
 
 returns : tie.Need-returns
 unfolding sent callOf answer
-returns c = simp (c .refused .ensures, lt-ltb _ _ (rw (c .before .before .before .at .ensures) at (c .before .if1 .taken)), c .before .before .at2 .ensures, c .before .before .before .at .ensures)
+returns c =
+    let at-at2 = c .before .before in
+    let at-at = at-at2 .before in
+    simp (c .refused .ensures, lt-ltb _ _ (rw (at-at .at .ensures) at (c .before .if1 .taken)), at-at2 .at2 .ensures, at-at .at .ensures)
 
 step-requires : tie.Need-step-requires
 step-requires c κs = search needs
 
 returns-2 : tie.Need-returns-2
 unfolding sent callOf answer
-returns-2 c = simp (c .step .ensures, eq-eqb _ _ (rw (c .before .before .before .before .at .ensures) at (c .before .if2 .taken)), le-ltb _ _ (rw (c .before .before .before .before .at .ensures) at (c .before .before .if1 .left)), c .before .before .before .at2 .ensures, c .before .before .before .before .at .ensures)
+returns-2 c =
+    let at-if1 = c .before .before in
+    let at-at2 = at-if1 .before in
+    let at-at = at-at2 .before in
+    simp (c .step .ensures, eq-eqb _ _ (rw (at-at .at .ensures) at (c .before .if2 .taken)), le-ltb _ _ (rw (at-at .at .ensures) at (at-if1 .if1 .left)), at-at2 .at2 .ensures, at-at .at .ensures)
 
 task-numbers-requires : tie.Need-task-numbers-requires
 task-numbers-requires c κs = search needs
@@ -38,14 +45,27 @@ start-requires c κs = search needs
 
 returns-3 : tie.Need-returns-3
 unfolding sent callOf answer
-returns-3 c = simp (c .start .ensures, c .before .task .ensures, c .before .before .task-numbers .ensures, eq-eqb _ _ (rw (c .before .before .before .before .before .before .before .at .ensures) at (c .before .before .before .if3 .taken)), ne-eqb _ _ (rw (c .before .before .before .before .before .before .before .at .ensures) at (c .before .before .before .before .if2 .left)), le-ltb _ _ (rw (c .before .before .before .before .before .before .before .at .ensures) at (c .before .before .before .before .before .if1 .left)), c .before .before .before .before .before .before .at2 .ensures, c .before .before .before .before .before .before .before .at .ensures)
+returns-3 c =
+    let at-task-numbers = c .before .before in
+    let at-if3 = at-task-numbers .before in
+    let at-if2 = at-if3 .before in
+    let at-if1 = at-if2 .before in
+    let at-at2 = at-if1 .before in
+    let at-at = at-at2 .before in
+    simp (c .start .ensures, c .before .task .ensures, at-task-numbers .task-numbers .ensures, eq-eqb _ _ (rw (at-at .at .ensures) at (at-if3 .if3 .taken)), ne-eqb _ _ (rw (at-at .at .ensures) at (at-if2 .if2 .left)), le-ltb _ _ (rw (at-at .at .ensures) at (at-if1 .if1 .left)), at-at2 .at2 .ensures, at-at .at .ensures)
 
 halt-requires : tie.Need-halt-requires
 halt-requires c κs = search needs
 
 returns-4 : tie.Need-returns-4
 unfolding sent callOf answer
-returns-4 c = simp (c .halt .ensures, eq-eqb _ _ (rw (c .before .before .before .before .before .before .at .ensures) at (c .before .if4 .taken)), ne-eqb _ _ (rw (c .before .before .before .before .before .before .at .ensures) at (c .before .before .if3 .left)), ne-eqb _ _ (rw (c .before .before .before .before .before .before .at .ensures) at (c .before .before .before .if2 .left)), le-ltb _ _ (rw (c .before .before .before .before .before .before .at .ensures) at (c .before .before .before .before .if1 .left)), c .before .before .before .before .before .at2 .ensures, c .before .before .before .before .before .before .at .ensures)
+returns-4 c =
+    let at-if3 = c .before .before in
+    let at-if2 = at-if3 .before in
+    let at-if1 = at-if2 .before in
+    let at-at2 = at-if1 .before in
+    let at-at = at-at2 .before in
+    simp (c .halt .ensures, eq-eqb _ _ (rw (at-at .at .ensures) at (c .before .if4 .taken)), ne-eqb _ _ (rw (at-at .at .ensures) at (at-if3 .if3 .left)), ne-eqb _ _ (rw (at-at .at .ensures) at (at-if2 .if2 .left)), le-ltb _ _ (rw (at-at .at .ensures) at (at-if1 .if1 .left)), at-at2 .at2 .ensures, at-at .at .ensures)
 
 command-numbers-requires : tie.Need-command-numbers-requires
 command-numbers-requires c κs = search needs
@@ -64,7 +84,17 @@ invoke-requires c κs = search needs
 
 returns-5 : tie.Need-returns-5
 unfolding sent callOf answer
-returns-5 c = simp (c .invoke .ensures, c .before .on-off .ensures, c .before .before .at3 .ensures, c .before .before .before .command .ensures, c .before .before .before .before .command-numbers .ensures, ne-eqb _ _ (rw (c .before .before .before .before .before .before .before .before .before .before .at .ensures) at (c .before .before .before .before .before .if4 .left)), ne-eqb _ _ (rw (c .before .before .before .before .before .before .before .before .before .before .at .ensures) at (c .before .before .before .before .before .before .if3 .left)), ne-eqb _ _ (rw (c .before .before .before .before .before .before .before .before .before .before .at .ensures) at (c .before .before .before .before .before .before .before .if2 .left)), le-ltb _ _ (rw (c .before .before .before .before .before .before .before .before .before .before .at .ensures) at (c .before .before .before .before .before .before .before .before .if1 .left)), c .before .before .before .before .before .before .before .before .before .at2 .ensures, c .before .before .before .before .before .before .before .before .before .before .at .ensures)
+returns-5 c =
+    let at-at3 = c .before .before in
+    let at-command = at-at3 .before in
+    let at-command-numbers = at-command .before in
+    let at-if4 = at-command-numbers .before in
+    let at-if3 = at-if4 .before in
+    let at-if2 = at-if3 .before in
+    let at-if1 = at-if2 .before in
+    let at-at2 = at-if1 .before in
+    let at-at = at-at2 .before in
+    simp (c .invoke .ensures, c .before .on-off .ensures, at-at3 .at3 .ensures, at-command .command .ensures, at-command-numbers .command-numbers .ensures, ne-eqb _ _ (rw (at-at .at .ensures) at (at-if4 .if4 .left)), ne-eqb _ _ (rw (at-at .at .ensures) at (at-if3 .if3 .left)), ne-eqb _ _ (rw (at-at .at .ensures) at (at-if2 .if2 .left)), le-ltb _ _ (rw (at-at .at .ensures) at (at-if1 .if1 .left)), at-at2 .at2 .ensures, at-at .at .ensures)
 
 pub sent-spec : {M : Type 1} → statement M
 sent-spec =

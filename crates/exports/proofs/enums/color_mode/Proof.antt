@@ -1,21 +1,36 @@
--- `enums::color_mode`: the definition takes the case that the tests on the way have found.
+-- `enums::color_mode`: the case is the one that `matter` finds by the number.
 -- Assumes nothing.
-use Rattle.exports.specs.Enums.{colorModeOf}
-use borrow.Author.Tests.{eq-eqb, ne-eqb}
+use borrow.Author.Needs.{needs}
+use mathlib.Core.Path.{sym, ap, _∙_}
+use Rattle.exports.specs.Enums.{colorModeCase, colorModeRead}
+use Rattle.exports.proofs.Found.{color-mode-capped}
 use Rattle.exports.proofs.enums.color_mode.Statement.{statement}
 use Rattle.exports.proofs.enums.color_mode.Tie as tie
 
+capped-requires : tie.Need-capped-requires
+capped-requires c κs = search needs
+
+of-number-requires : tie.Need-of-number-requires
+of-number-requires c κs = search needs
+
+enum-known-mode : tie.Need-enum-known-mode
+enum-known-mode c = search needs
+
+enum-told : tie.Need-enum-told
+enum-told c = search needs
+
 returns : tie.Need-returns
-unfolding colorModeOf
-returns c = simp (eq-eqb _ _ (c .if1 .taken))
+unfolding colorModeRead
+returns c =
+    let at-of-number = c .before .before .before in
+    let at-capped = at-of-number .before in
+    ap colorModeCase (sym (c .before .mode .given .1) ∙ at-of-number .of-number .ensures ∙ color-mode-capped _ (at-capped .capped .ensures))
 
 returns-2 : tie.Need-returns-2
-unfolding colorModeOf
-returns-2 c = simp (eq-eqb _ _ (c .if2 .taken), ne-eqb _ _ (c .before .if1 .left))
-
-returns-3 : tie.Need-returns-3
-unfolding colorModeOf
-returns-3 c = simp (ne-eqb _ _ (c .if2 .left), ne-eqb _ _ (c .before .if1 .left))
+unfolding colorModeRead
+returns-2 c = ap colorModeCase (sym (c .enum-told .given .1) ∙ c .before .before .of-number .ensures ∙ color-mode-capped _ (c .before .before .before .capped .ensures))
 
 pub color-mode-spec : {M : Type 1} → statement M
-color-mode-spec = tie.close (tie.spec returns returns-2 returns-3)
+color-mode-spec =
+    tie.close
+    (tie.spec capped-requires of-number-requires enum-known-mode enum-told returns returns-2)

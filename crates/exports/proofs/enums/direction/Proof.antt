@@ -1,25 +1,36 @@
--- `enums::direction`: the definition takes the case that the tests on the way have found.
+-- `enums::direction`: the case is the one that `matter` finds by the number.
 -- Assumes nothing.
-use Rattle.exports.specs.Enums.{directionOf}
-use borrow.Author.Tests.{eq-eqb, ne-eqb}
+use borrow.Author.Needs.{needs}
+use mathlib.Core.Path.{sym, ap, _∙_}
+use Rattle.exports.specs.Enums.{directionCase, directionRead}
+use Rattle.exports.proofs.Found.{direction-capped}
 use Rattle.exports.proofs.enums.direction.Statement.{statement}
 use Rattle.exports.proofs.enums.direction.Tie as tie
 
+capped-requires : tie.Need-capped-requires
+capped-requires c κs = search needs
+
+of-number-requires : tie.Need-of-number-requires
+of-number-requires c κs = search needs
+
+enum-known-direction : tie.Need-enum-known-direction
+enum-known-direction c = search needs
+
+enum-told : tie.Need-enum-told
+enum-told c = search needs
+
 returns : tie.Need-returns
-unfolding directionOf
-returns c = simp (eq-eqb _ _ (c .if1 .taken))
+unfolding directionRead
+returns c =
+    let at-of-number = c .before .before .before in
+    let at-capped = at-of-number .before in
+    ap directionCase (sym (c .before .direction .given .1) ∙ at-of-number .of-number .ensures ∙ direction-capped _ (at-capped .capped .ensures))
 
 returns-2 : tie.Need-returns-2
-unfolding directionOf
-returns-2 c = simp (eq-eqb _ _ (c .if2 .taken), ne-eqb _ _ (c .before .if1 .left))
-
-returns-3 : tie.Need-returns-3
-unfolding directionOf
-returns-3 c = simp (eq-eqb _ _ (c .if3 .taken), ne-eqb _ _ (c .before .if2 .left), ne-eqb _ _ (c .before .before .if1 .left))
-
-returns-4 : tie.Need-returns-4
-unfolding directionOf
-returns-4 c = simp (ne-eqb _ _ (c .if3 .left), ne-eqb _ _ (c .before .if2 .left), ne-eqb _ _ (c .before .before .if1 .left))
+unfolding directionRead
+returns-2 c = ap directionCase (sym (c .enum-told .given .1) ∙ c .before .before .of-number .ensures ∙ direction-capped _ (c .before .before .before .capped .ensures))
 
 pub direction-spec : {M : Type 1} → statement M
-direction-spec = tie.close (tie.spec returns returns-2 returns-3 returns-4)
+direction-spec =
+    tie.close
+    (tie.spec capped-requires of-number-requires enum-known-direction enum-told returns returns-2)

@@ -1,25 +1,36 @@
--- `enums::enhanced_mode`: the definition takes the case that the tests on the way have found.
+-- `enums::enhanced_mode`: the case is the one that `matter` finds by the number.
 -- Assumes nothing.
-use Rattle.exports.specs.Enums.{enhancedModeOf}
-use borrow.Author.Tests.{eq-eqb, ne-eqb}
+use borrow.Author.Needs.{needs}
+use mathlib.Core.Path.{sym, ap, _∙_}
+use Rattle.exports.specs.Enums.{enhancedModeCase, enhancedModeRead}
+use Rattle.exports.proofs.Found.{enhanced-mode-capped}
 use Rattle.exports.proofs.enums.enhanced_mode.Statement.{statement}
 use Rattle.exports.proofs.enums.enhanced_mode.Tie as tie
 
+capped-requires : tie.Need-capped-requires
+capped-requires c κs = search needs
+
+of-number-requires : tie.Need-of-number-requires
+of-number-requires c κs = search needs
+
+enum-known-mode : tie.Need-enum-known-mode
+enum-known-mode c = search needs
+
+enum-told : tie.Need-enum-told
+enum-told c = search needs
+
 returns : tie.Need-returns
-unfolding enhancedModeOf
-returns c = simp (eq-eqb _ _ (c .if1 .taken))
+unfolding enhancedModeRead
+returns c =
+    let at-of-number = c .before .before .before in
+    let at-capped = at-of-number .before in
+    ap enhancedModeCase (sym (c .before .mode .given .1) ∙ at-of-number .of-number .ensures ∙ enhanced-mode-capped _ (at-capped .capped .ensures))
 
 returns-2 : tie.Need-returns-2
-unfolding enhancedModeOf
-returns-2 c = simp (eq-eqb _ _ (c .if2 .taken), ne-eqb _ _ (c .before .if1 .left))
-
-returns-3 : tie.Need-returns-3
-unfolding enhancedModeOf
-returns-3 c = simp (eq-eqb _ _ (c .if3 .taken), ne-eqb _ _ (c .before .if2 .left), ne-eqb _ _ (c .before .before .if1 .left))
-
-returns-4 : tie.Need-returns-4
-unfolding enhancedModeOf
-returns-4 c = simp (ne-eqb _ _ (c .if3 .left), ne-eqb _ _ (c .before .if2 .left), ne-eqb _ _ (c .before .before .if1 .left))
+unfolding enhancedModeRead
+returns-2 c = ap enhancedModeCase (sym (c .enum-told .given .1) ∙ c .before .before .of-number .ensures ∙ enhanced-mode-capped _ (c .before .before .before .capped .ensures))
 
 pub enhanced-mode-spec : {M : Type 1} → statement M
-enhanced-mode-spec = tie.close (tie.spec returns returns-2 returns-3 returns-4)
+enhanced-mode-spec =
+    tie.close
+    (tie.spec capped-requires of-number-requires enum-known-mode enum-told returns returns-2)

@@ -1,21 +1,36 @@
--- `enums::move_mode`: the definition takes the case that the tests on the way have found.
+-- `enums::move_mode`: the case is the one that `matter` finds by the number.
 -- Assumes nothing.
-use Rattle.exports.specs.Enums.{moveModeOf}
-use borrow.Author.Tests.{eq-eqb, ne-eqb}
+use borrow.Author.Needs.{needs}
+use mathlib.Core.Path.{sym, ap, _∙_}
+use Rattle.exports.specs.Enums.{moveModeCase, moveModeRead}
+use Rattle.exports.proofs.Found.{move-mode-capped}
 use Rattle.exports.proofs.enums.move_mode.Statement.{statement}
 use Rattle.exports.proofs.enums.move_mode.Tie as tie
 
+capped-requires : tie.Need-capped-requires
+capped-requires c κs = search needs
+
+of-number-requires : tie.Need-of-number-requires
+of-number-requires c κs = search needs
+
+enum-known-mode : tie.Need-enum-known-mode
+enum-known-mode c = search needs
+
+enum-told : tie.Need-enum-told
+enum-told c = search needs
+
 returns : tie.Need-returns
-unfolding moveModeOf
-returns c = simp (eq-eqb _ _ (c .if1 .taken))
+unfolding moveModeRead
+returns c =
+    let at-of-number = c .before .before .before in
+    let at-capped = at-of-number .before in
+    ap moveModeCase (sym (c .before .mode .given .1) ∙ at-of-number .of-number .ensures ∙ move-mode-capped _ (at-capped .capped .ensures))
 
 returns-2 : tie.Need-returns-2
-unfolding moveModeOf
-returns-2 c = simp (eq-eqb _ _ (c .if2 .taken), ne-eqb _ _ (c .before .if1 .left))
-
-returns-3 : tie.Need-returns-3
-unfolding moveModeOf
-returns-3 c = simp (ne-eqb _ _ (c .if2 .left), ne-eqb _ _ (c .before .if1 .left))
+unfolding moveModeRead
+returns-2 c = ap moveModeCase (sym (c .enum-told .given .1) ∙ c .before .before .of-number .ensures ∙ move-mode-capped _ (c .before .before .before .capped .ensures))
 
 pub move-mode-spec : {M : Type 1} → statement M
-move-mode-spec = tie.close (tie.spec returns returns-2 returns-3)
+move-mode-spec =
+    tie.close
+    (tie.spec capped-requires of-number-requires enum-known-mode enum-told returns returns-2)

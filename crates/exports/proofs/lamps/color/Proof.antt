@@ -44,7 +44,19 @@ at-requires-8 : tie.Need-at-requires-8
 at-requires-8 c κs = search needs
 
 returns : tie.Need-returns
-returns c = simp (c .at8 .ensures, c .before .at7 .ensures, c .before .before .at6 .ensures, c .before .before .before .enhanced-mode .ensures, c .before .before .before .before .at5 .ensures, c .before .before .before .before .before .color-mode .ensures, c .before .before .before .before .before .before .at4 .ensures, c .before .before .before .before .before .before .before .short2 .ensures, c .before .before .before .before .before .before .before .before .at3 .ensures, c .before .before .before .before .before .before .before .before .before .byte .ensures, c .before .before .before .before .before .before .before .before .before .before .at2 .ensures, c .before .before .before .before .before .before .before .before .before .before .before .short .ensures, c .before .before .before .before .before .before .before .before .before .before .before .before .at .ensures)
+returns c =
+    let at-at6 = c .before .before in
+    let at-enhanced-mode = at-at6 .before in
+    let at-at5 = at-enhanced-mode .before in
+    let at-color-mode = at-at5 .before in
+    let at-at4 = at-color-mode .before in
+    let at-short2 = at-at4 .before in
+    let at-at3 = at-short2 .before in
+    let at-byte = at-at3 .before in
+    let at-at2 = at-byte .before in
+    let at-short = at-at2 .before in
+    let at-at = at-short .before in
+    simp (c .at8 .ensures, c .before .at7 .ensures, at-at6 .at6 .ensures, at-enhanced-mode .enhanced-mode .ensures, at-at5 .at5 .ensures, at-color-mode .color-mode .ensures, at-at4 .at4 .ensures, at-short2 .short2 .ensures, at-at3 .at3 .ensures, at-byte .byte .ensures, at-at2 .at2 .ensures, at-short .short .ensures, at-at .at .ensures)
 
 pub color-spec : {M : Type 1} → statement M
 color-spec =

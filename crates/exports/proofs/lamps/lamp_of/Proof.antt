@@ -35,7 +35,15 @@ running-requires : tie.Need-running-requires
 running-requires c κs = search needs
 
 returns : tie.Need-returns
-returns c = simp (c .running .ensures, c .before .byte .ensures, c .before .before .at3 .ensures, c .before .before .before .short .ensures, c .before .before .before .before .at2 .ensures, c .before .before .before .before .before .looping .ensures, c .before .before .before .before .before .before .color .ensures, c .before .before .before .before .before .before .before .bounds .ensures, c .before .before .before .before .before .before .before .before .at .ensures, c .before .before .before .before .before .before .before .before .before .«record» .ensures)
+returns c =
+    let at-at3 = c .before .before in
+    let at-short = at-at3 .before in
+    let at-at2 = at-short .before in
+    let at-looping = at-at2 .before in
+    let at-color = at-looping .before in
+    let at-bounds = at-color .before in
+    let at-at = at-bounds .before in
+    simp (c .running .ensures, c .before .byte .ensures, at-at3 .at3 .ensures, at-short .short .ensures, at-at2 .at2 .ensures, at-looping .looping .ensures, at-color .color .ensures, at-bounds .bounds .ensures, at-at .at .ensures, c .before .before .before .before .before .before .before .before .before .«record» .ensures)
 
 pub lamp-of-spec : {M : Type 1} → statement M
 lamp-of-spec =

@@ -62,7 +62,13 @@ cast-t28 : tie.Need-cast-t28
 cast-t28 c = search needs
 
 returns : tie.Need-returns
-returns c = simp (c .before .before .before .number3 .ensures, c .before .before .before .before .of-flag .ensures, c .before .before .before .before .before .number2 .ensures, c .before .before .before .before .before .before .number .ensures, c .before .before .before .before .before .before .before .before .before .before .before .before .before .before .before .of-running .ensures)
+returns c =
+    let at-number3 = c .before .before .before in
+    let at-of-flag = at-number3 .before in
+    let at-number2 = at-of-flag .before in
+    let at-number = at-number2 .before in
+    let at-of-running = at-number .before .before .before .before .before .before .before .before .before in
+    simp (at-number3 .number3 .ensures, at-of-flag .of-flag .ensures, at-number2 .number2 .ensures, at-number .number .ensures, at-of-running .of-running .ensures)
 
 pub lamp-words-spec : {M : Type 1} → statement M
 lamp-words-spec =

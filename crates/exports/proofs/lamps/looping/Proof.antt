@@ -35,7 +35,16 @@ short-requires-3 : tie.Need-short-requires-3
 short-requires-3 c κs = search needs
 
 returns : tie.Need-returns
-returns c = simp (c .short3 .ensures, c .before .at5 .ensures, c .before .before .short2 .ensures, c .before .before .before .at4 .ensures, c .before .before .before .before .short .ensures, c .before .before .before .before .before .at3 .ensures, c .before .before .before .before .before .before .loop-direction .ensures, c .before .before .before .before .before .before .before .at2 .ensures, c .before .before .before .before .before .before .before .before .flag .ensures, c .before .before .before .before .before .before .before .before .before .at .ensures)
+returns c =
+    let at-short2 = c .before .before in
+    let at-at4 = at-short2 .before in
+    let at-short = at-at4 .before in
+    let at-at3 = at-short .before in
+    let at-loop-direction = at-at3 .before in
+    let at-at2 = at-loop-direction .before in
+    let at-flag = at-at2 .before in
+    let at-at = at-flag .before in
+    simp (c .short3 .ensures, c .before .at5 .ensures, at-short2 .short2 .ensures, at-at4 .at4 .ensures, at-short .short .ensures, at-at3 .at3 .ensures, at-loop-direction .loop-direction .ensures, at-at2 .at2 .ensures, at-flag .flag .ensures, at-at .at .ensures)
 
 pub looping-spec : {M : Type 1} → statement M
 looping-spec =

@@ -35,7 +35,16 @@ at-requires-10 : tie.Need-at-requires-10
 at-requires-10 c κs = search needs
 
 returns : tie.Need-returns
-returns c = simp (c .at10 .ensures, c .before .at9 .ensures, c .before .before .at8 .ensures, c .before .before .before .at7 .ensures, c .before .before .before .before .at6 .ensures, c .before .before .before .before .before .at5 .ensures, c .before .before .before .before .before .before .at4 .ensures, c .before .before .before .before .before .before .before .at3 .ensures, c .before .before .before .before .before .before .before .before .at2 .ensures, c .before .before .before .before .before .before .before .before .before .at .ensures)
+returns c =
+    let at-at8 = c .before .before in
+    let at-at7 = at-at8 .before in
+    let at-at6 = at-at7 .before in
+    let at-at5 = at-at6 .before in
+    let at-at4 = at-at5 .before in
+    let at-at3 = at-at4 .before in
+    let at-at2 = at-at3 .before in
+    let at-at = at-at2 .before in
+    simp (c .at10 .ensures, c .before .at9 .ensures, at-at8 .at8 .ensures, at-at7 .at7 .ensures, at-at6 .at6 .ensures, at-at5 .at5 .ensures, at-at4 .at4 .ensures, at-at3 .at3 .ensures, at-at2 .at2 .ensures, at-at .at .ensures)
 
 pub record-spec : {M : Type 1} → statement M
 record-spec =

@@ -24,8 +24,11 @@ numbers-requires c κs = search needs
 
 returns : tie.Need-returns
 returns c =
-    let e : toZ w64 (ofZ w64 (c .before .before .before .before .before .before .before .args .t .rate)) ≡ c .before .before .before .before .before .before .before .args .t .rate = search needs in
-    simp (c .numbers .ensures, c .before .before .before .size-of .ensures, c .before .before .before .before .before .sign-of .ensures, e)
+    let at-size-of = c .before .before .before in
+    let at-sign-of = at-size-of .before .before in
+    let at-start = at-sign-of .before .before in
+    let e : toZ w64 (ofZ w64 (at-start .args .t .rate)) ≡ at-start .args .t .rate = search needs in
+    simp (c .numbers .ensures, at-size-of .size-of .ensures, at-sign-of .sign-of .ensures, e)
 
 pub of-mireds-move-spec : {M : Type 1} → statement M
 of-mireds-move-spec =

@@ -26,7 +26,12 @@ numbers-requires : tie.Need-numbers-requires
 numbers-requires c κs = search needs
 
 returns : tie.Need-returns
-returns c = simp (c .numbers .ensures, c .before .of-flag .ensures, c .before .before .before .target-saturation .ensures, c .before .before .before .before .target-given .ensures, c .before .before .before .before .before .delta-size .ensures, c .before .before .before .before .before .before .delta-sign .ensures)
+returns c =
+    let at-target-saturation = c .before .before .before in
+    let at-target-given = at-target-saturation .before in
+    let at-delta-size = at-target-given .before in
+    let at-delta-sign = at-delta-size .before in
+    simp (c .numbers .ensures, c .before .of-flag .ensures, at-target-saturation .target-saturation .ensures, at-target-given .target-given .ensures, at-delta-size .delta-size .ensures, at-delta-sign .delta-sign .ensures)
 
 pub of-move-to-spec : {M : Type 1} → statement M
 of-move-to-spec =

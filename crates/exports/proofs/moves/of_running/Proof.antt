@@ -115,8 +115,9 @@ returns-5 c = simp (c .record5 .ensures, c .before .of-mireds-to .ensures, c .be
 returns-6 : tie.Need-returns-6
 unfolding recordNumbers
 returns-6 c =
-    let e : toZ w64 (ofZ w64 (c .before .before .before .before .before .running5 .given .0 .0 .rate)) ≡ c .before .before .before .before .before .running5 .given .0 .0 .rate = search needs in
-    simp (c .record6 .ensures, c .before .of-mireds-move .ensures, c .before .before .before .before .before .running5 .given .1, e)
+    let at-running5 = c .before .before .before .before .before in
+    let e : toZ w64 (ofZ w64 (at-running5 .running5 .given .0 .0 .rate)) ≡ at-running5 .running5 .given .0 .0 .rate = search needs in
+    simp (c .record6 .ensures, c .before .of-mireds-move .ensures, at-running5 .running5 .given .1, e)
 
 returns-7 : tie.Need-returns-7
 unfolding recordNumbers

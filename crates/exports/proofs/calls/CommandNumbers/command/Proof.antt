@@ -25,28 +25,45 @@ loop-command-requires c κs = search needs
 
 returns-3 : tie.Need-returns-3
 unfolding commandOf
-returns-3 c = simp (c .loop-command .ensures, eq-eqb _ _ (c .before .if3 .taken), lt-leb _ _ (c .before .before .before .if2 .left), lt-leb _ _ (c .before .before .before .before .before .if1 .left))
+returns-3 c =
+    let at-if2 = c .before .before .before in
+    let at-if1 = at-if2 .before .before in
+    simp (c .loop-command .ensures, eq-eqb _ _ (c .before .if3 .taken), lt-leb _ _ (at-if2 .if2 .left), lt-leb _ _ (at-if1 .if1 .left))
 
 options-requires : tie.Need-options-requires
 options-requires c κs = search needs
 
 returns-4 : tie.Need-returns-4
 unfolding commandOf
-returns-4 c = simp (c .options .ensures, eq-eqb _ _ (c .before .if4 .taken), ne-eqb _ _ (c .before .before .before .if3 .left), lt-leb _ _ (c .before .before .before .before .before .if2 .left), lt-leb _ _ (c .before .before .before .before .before .before .before .if1 .left))
+returns-4 c =
+    let at-if3 = c .before .before .before in
+    let at-if2 = at-if3 .before .before in
+    let at-if1 = at-if2 .before .before in
+    simp (c .options .ensures, eq-eqb _ _ (c .before .if4 .taken), ne-eqb _ _ (at-if3 .if3 .left), lt-leb _ _ (at-if2 .if2 .left), lt-leb _ _ (at-if1 .if1 .left))
 
 enhanced-command-requires : tie.Need-enhanced-command-requires
 enhanced-command-requires c κs = search needs
 
 returns-5 : tie.Need-returns-5
 unfolding commandOf
-returns-5 c = simp (c .enhanced-command .ensures, c .before .if5 .taken, ne-eqb _ _ (c .before .before .before .before .if4 .left), ne-eqb _ _ (c .before .before .before .before .before .before .if3 .left), lt-leb _ _ (c .before .before .before .before .before .before .before .before .if2 .left), lt-leb _ _ (c .before .before .before .before .before .before .before .before .before .before .if1 .left))
+returns-5 c =
+    let at-if4 = c .before .before .before .before in
+    let at-if3 = at-if4 .before .before in
+    let at-if2 = at-if3 .before .before in
+    let at-if1 = at-if2 .before .before in
+    simp (c .enhanced-command .ensures, c .before .if5 .taken, ne-eqb _ _ (at-if4 .if4 .left), ne-eqb _ _ (at-if3 .if3 .left), lt-leb _ _ (at-if2 .if2 .left), lt-leb _ _ (at-if1 .if1 .left))
 
 mireds-command-requires : tie.Need-mireds-command-requires
 mireds-command-requires c κs = search needs
 
 returns-6 : tie.Need-returns-6
 unfolding commandOf
-returns-6 c = simp (c .mireds-command .ensures, c .before .if5 .left, ne-eqb _ _ (c .before .before .before .before .if4 .left), ne-eqb _ _ (c .before .before .before .before .before .before .if3 .left), lt-leb _ _ (c .before .before .before .before .before .before .before .before .if2 .left), lt-leb _ _ (c .before .before .before .before .before .before .before .before .before .before .if1 .left))
+returns-6 c =
+    let at-if4 = c .before .before .before .before in
+    let at-if3 = at-if4 .before .before in
+    let at-if2 = at-if3 .before .before in
+    let at-if1 = at-if2 .before .before in
+    simp (c .mireds-command .ensures, c .before .if5 .left, ne-eqb _ _ (at-if4 .if4 .left), ne-eqb _ _ (at-if3 .if3 .left), lt-leb _ _ (at-if2 .if2 .left), lt-leb _ _ (at-if1 .if1 .left))
 
 pub command-spec : {M : Type 1} → statement M
 command-spec =

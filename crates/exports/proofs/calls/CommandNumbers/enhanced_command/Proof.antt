@@ -20,7 +20,11 @@ short-requires-2 c κs = search needs
 
 returns : tie.Need-returns
 unfolding enhancedCommand
-returns c = simp (c .short2 .ensures, c .before .direction .ensures, c .before .before .short .ensures, eq-eqb _ _ (c .before .before .before .if1 .taken), c .before .before .before .before .before .options .ensures)
+returns c =
+    let at-short = c .before .before in
+    let at-if1 = at-short .before in
+    let at-options = at-if1 .before .before in
+    simp (c .short2 .ensures, c .before .direction .ensures, at-short .short .ensures, eq-eqb _ _ (at-if1 .if1 .taken), at-options .options .ensures)
 
 move-mode-requires : tie.Need-move-mode-requires
 move-mode-requires c κs = search needs
@@ -30,7 +34,11 @@ short-requires-3 c κs = search needs
 
 returns-2 : tie.Need-returns-2
 unfolding enhancedCommand
-returns-2 c = simp (c .short3 .ensures, c .before .move-mode .ensures, eq-eqb _ _ (c .before .before .if2 .taken), ne-eqb _ _ (c .before .before .before .before .if1 .left), c .before .before .before .before .before .before .options .ensures)
+returns-2 c =
+    let at-if2 = c .before .before in
+    let at-if1 = at-if2 .before .before in
+    let at-options = at-if1 .before .before in
+    simp (c .short3 .ensures, c .before .move-mode .ensures, eq-eqb _ _ (at-if2 .if2 .taken), ne-eqb _ _ (at-if1 .if1 .left), at-options .options .ensures)
 
 step-mode-requires : tie.Need-step-mode-requires
 step-mode-requires c κs = search needs
@@ -43,7 +51,12 @@ short-requires-5 c κs = search needs
 
 returns-3 : tie.Need-returns-3
 unfolding enhancedCommand
-returns-3 c = simp (c .short5 .ensures, c .before .short4 .ensures, c .before .before .step-mode .ensures, ne-eqb _ _ (c .before .before .before .if2 .left), ne-eqb _ _ (c .before .before .before .before .before .if1 .left), c .before .before .before .before .before .before .before .options .ensures)
+returns-3 c =
+    let at-step-mode = c .before .before in
+    let at-if2 = at-step-mode .before in
+    let at-if1 = at-if2 .before .before in
+    let at-options = at-if1 .before .before in
+    simp (c .short5 .ensures, c .before .short4 .ensures, at-step-mode .step-mode .ensures, ne-eqb _ _ (at-if2 .if2 .left), ne-eqb _ _ (at-if1 .if1 .left), at-options .options .ensures)
 
 pub enhanced-command-spec : {M : Type 1} → statement M
 enhanced-command-spec =

@@ -20,7 +20,11 @@ short-requires c κs = search needs
 
 returns : tie.Need-returns
 unfolding hueCommand
-returns c = simp (c .short .ensures, c .before .direction .ensures, c .before .before .byte .ensures, eq-eqb _ _ (c .before .before .before .if1 .taken), c .before .before .before .before .before .options .ensures)
+returns c =
+    let at-byte = c .before .before in
+    let at-if1 = at-byte .before in
+    let at-options = at-if1 .before .before in
+    simp (c .short .ensures, c .before .direction .ensures, at-byte .byte .ensures, eq-eqb _ _ (at-if1 .if1 .taken), at-options .options .ensures)
 
 move-mode-requires : tie.Need-move-mode-requires
 move-mode-requires c κs = search needs
@@ -33,7 +37,12 @@ flag-requires c κs = search needs
 
 returns-2 : tie.Need-returns-2
 unfolding hueCommand
-returns-2 c = simp (c .flag .ensures, c .before .byte2 .ensures, c .before .before .move-mode .ensures, eq-eqb _ _ (c .before .before .before .if2 .taken), ne-eqb _ _ (c .before .before .before .before .before .if1 .left), c .before .before .before .before .before .before .before .options .ensures)
+returns-2 c =
+    let at-move-mode = c .before .before in
+    let at-if2 = at-move-mode .before in
+    let at-if1 = at-if2 .before .before in
+    let at-options = at-if1 .before .before in
+    simp (c .flag .ensures, c .before .byte2 .ensures, at-move-mode .move-mode .ensures, eq-eqb _ _ (at-if2 .if2 .taken), ne-eqb _ _ (at-if1 .if1 .left), at-options .options .ensures)
 
 step-mode-requires : tie.Need-step-mode-requires
 step-mode-requires c κs = search needs
@@ -46,7 +55,12 @@ short-requires-2 c κs = search needs
 
 returns-3 : tie.Need-returns-3
 unfolding hueCommand
-returns-3 c = simp (c .short2 .ensures, c .before .byte3 .ensures, c .before .before .step-mode .ensures, ne-eqb _ _ (c .before .before .before .if2 .left), ne-eqb _ _ (c .before .before .before .before .before .if1 .left), c .before .before .before .before .before .before .before .options .ensures)
+returns-3 c =
+    let at-step-mode = c .before .before in
+    let at-if2 = at-step-mode .before in
+    let at-if1 = at-if2 .before .before in
+    let at-options = at-if1 .before .before in
+    simp (c .short2 .ensures, c .before .byte3 .ensures, at-step-mode .step-mode .ensures, ne-eqb _ _ (at-if2 .if2 .left), ne-eqb _ _ (at-if1 .if1 .left), at-options .options .ensures)
 
 pub hue-command-spec : {M : Type 1} → statement M
 hue-command-spec =

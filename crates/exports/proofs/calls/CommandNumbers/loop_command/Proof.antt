@@ -25,7 +25,12 @@ short-requires-2 c κs = search needs
 
 returns : tie.Need-returns
 unfolding loopCommand
-returns c = simp (c .short2 .ensures, c .before .short .ensures, c .before .before .loop-direction .ensures, c .before .before .before .loop-action .ensures, c .before .before .before .before .byte .ensures, c .before .before .before .before .before .options .ensures)
+returns c =
+    let at-loop-direction = c .before .before in
+    let at-loop-action = at-loop-direction .before in
+    let at-byte = at-loop-action .before in
+    let at-options = at-byte .before in
+    simp (c .short2 .ensures, c .before .short .ensures, at-loop-direction .loop-direction .ensures, at-loop-action .loop-action .ensures, at-byte .byte .ensures, at-options .options .ensures)
 
 pub loop-command-spec : {M : Type 1} → statement M
 loop-command-spec =

@@ -33,7 +33,13 @@ short-requires-5 c κs = search needs
 
 returns-2 : tie.Need-returns-2
 unfolding miredsCommand
-returns-2 c = simp (c .short5 .ensures, c .before .short4 .ensures, c .before .before .short3 .ensures, c .before .before .before .move-mode .ensures, eq-eqb _ _ (c .before .before .before .before .if2 .taken), ne-eqb _ _ (c .before .before .before .before .before .before .if1 .left), c .before .before .before .before .before .before .before .before .options .ensures)
+returns-2 c =
+    let at-short3 = c .before .before in
+    let at-move-mode = at-short3 .before in
+    let at-if2 = at-move-mode .before in
+    let at-if1 = at-if2 .before .before in
+    let at-options = at-if1 .before .before in
+    simp (c .short5 .ensures, c .before .short4 .ensures, at-short3 .short3 .ensures, at-move-mode .move-mode .ensures, eq-eqb _ _ (at-if2 .if2 .taken), ne-eqb _ _ (at-if1 .if1 .left), at-options .options .ensures)
 
 step-mode-requires : tie.Need-step-mode-requires
 step-mode-requires c κs = search needs
@@ -52,7 +58,14 @@ short-requires-9 c κs = search needs
 
 returns-3 : tie.Need-returns-3
 unfolding miredsCommand
-returns-3 c = simp (c .short9 .ensures, c .before .short8 .ensures, c .before .before .short7 .ensures, c .before .before .before .short6 .ensures, c .before .before .before .before .step-mode .ensures, ne-eqb _ _ (c .before .before .before .before .before .if2 .left), ne-eqb _ _ (c .before .before .before .before .before .before .before .if1 .left), c .before .before .before .before .before .before .before .before .before .options .ensures)
+returns-3 c =
+    let at-short7 = c .before .before in
+    let at-short6 = at-short7 .before in
+    let at-step-mode = at-short6 .before in
+    let at-if2 = at-step-mode .before in
+    let at-if1 = at-if2 .before .before in
+    let at-options = at-if1 .before .before in
+    simp (c .short9 .ensures, c .before .short8 .ensures, at-short7 .short7 .ensures, at-short6 .short6 .ensures, at-step-mode .step-mode .ensures, ne-eqb _ _ (at-if2 .if2 .left), ne-eqb _ _ (at-if1 .if1 .left), at-options .options .ensures)
 
 pub mireds-command-spec : {M : Type 1} → statement M
 mireds-command-spec =

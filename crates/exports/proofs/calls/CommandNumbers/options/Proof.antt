@@ -1,6 +1,6 @@
 -- `calls::CommandNumbers::options`: the parts are those of the definition.
 -- Assumes nothing.
-use Rattle.exports.specs.Calls.{optionsOf}
+use Rattle.exports.specs.Calls.{optionsRead}
 use borrow.Author.Needs.{needs}
 use Rattle.exports.proofs.calls.CommandNumbers.options.Statement.{statement}
 use Rattle.exports.proofs.calls.CommandNumbers.options.Tie as tie
@@ -12,7 +12,7 @@ byte-requires-2 : tie.Need-byte-requires-2
 byte-requires-2 c κs = search needs
 
 returns : tie.Need-returns
-unfolding optionsOf
+unfolding optionsRead
 returns c = simp (c .byte2 .ensures, c .before .byte .ensures)
 
 pub options-spec : {M : Type 1} → statement M

@@ -27,7 +27,11 @@ byte-requires-2 c κs = search needs
 
 returns-2 : tie.Need-returns-2
 unfolding saturationCommand
-returns-2 c = simp (c .byte2 .ensures, c .before .move-mode .ensures, eq-eqb _ _ (c .before .before .if2 .taken), ne-eqb _ _ (c .before .before .before .before .if1 .left), c .before .before .before .before .before .before .options .ensures)
+returns-2 c =
+    let at-if2 = c .before .before in
+    let at-if1 = at-if2 .before .before in
+    let at-options = at-if1 .before .before in
+    simp (c .byte2 .ensures, c .before .move-mode .ensures, eq-eqb _ _ (at-if2 .if2 .taken), ne-eqb _ _ (at-if1 .if1 .left), at-options .options .ensures)
 
 step-mode-requires : tie.Need-step-mode-requires
 step-mode-requires c κs = search needs
@@ -40,7 +44,13 @@ short-requires-2 c κs = search needs
 
 returns-3 : tie.Need-returns-3
 unfolding saturationCommand
-returns-3 c = simp (c .short2 .ensures, c .before .byte3 .ensures, c .before .before .step-mode .ensures, eq-eqb _ _ (c .before .before .before .if3 .taken), ne-eqb _ _ (c .before .before .before .before .before .if2 .left), ne-eqb _ _ (c .before .before .before .before .before .before .before .if1 .left), c .before .before .before .before .before .before .before .before .before .options .ensures)
+returns-3 c =
+    let at-step-mode = c .before .before in
+    let at-if3 = at-step-mode .before in
+    let at-if2 = at-if3 .before .before in
+    let at-if1 = at-if2 .before .before in
+    let at-options = at-if1 .before .before in
+    simp (c .short2 .ensures, c .before .byte3 .ensures, at-step-mode .step-mode .ensures, eq-eqb _ _ (at-if3 .if3 .taken), ne-eqb _ _ (at-if2 .if2 .left), ne-eqb _ _ (at-if1 .if1 .left), at-options .options .ensures)
 
 byte-requires-4 : tie.Need-byte-requires-4
 byte-requires-4 c κs = search needs
@@ -59,7 +69,15 @@ short-requires-4 c κs = search needs
 
 returns-4 : tie.Need-returns-4
 unfolding saturationCommand
-returns-4 c = simp (c .short4 .ensures, c .before .flag .ensures, c .before .before .short3 .ensures, c .before .before .before .byte5 .ensures, c .before .before .before .before .byte4 .ensures, ne-eqb _ _ (c .before .before .before .before .before .if3 .left), ne-eqb _ _ (c .before .before .before .before .before .before .before .if2 .left), ne-eqb _ _ (c .before .before .before .before .before .before .before .before .before .if1 .left), c .before .before .before .before .before .before .before .before .before .before .before .options .ensures)
+returns-4 c =
+    let at-short3 = c .before .before in
+    let at-byte5 = at-short3 .before in
+    let at-byte4 = at-byte5 .before in
+    let at-if3 = at-byte4 .before in
+    let at-if2 = at-if3 .before .before in
+    let at-if1 = at-if2 .before .before in
+    let at-options = at-if1 .before .before in
+    simp (c .short4 .ensures, c .before .flag .ensures, at-short3 .short3 .ensures, at-byte5 .byte5 .ensures, at-byte4 .byte4 .ensures, ne-eqb _ _ (at-if3 .if3 .left), ne-eqb _ _ (at-if2 .if2 .left), ne-eqb _ _ (at-if1 .if1 .left), at-options .options .ensures)
 
 pub saturation-command-spec : {M : Type 1} → statement M
 saturation-command-spec =

@@ -51,7 +51,10 @@ enum-told : tie.Need-enum-told
 enum-told c = search needs
 
 returns : tie.Need-returns
-returns c = simp (c .byte .ensures, c .before .short .ensures, sym (c .before .before .before .before .before .task .ensures) ∙ c .before .before .before .task2 .given .1)
+returns c =
+    let at-task2 = c .before .before .before in
+    let at-task = at-task2 .before .before in
+    simp (c .byte .ensures, c .before .short .ensures, sym (at-task .task .ensures) ∙ at-task2 .task2 .given .1)
 
 returns-2 : tie.Need-returns-2
 returns-2 c = simp (c .short2 .ensures, sym (c .before .before .before .before .task .ensures) ∙ c .before .before .task3 .given .1)

@@ -50,7 +50,13 @@ returns-6 c = rw (c .color-loop .ensures, c .before .if6 .taken)
 
 returns-7 : tie.Need-returns-7
 unfolding taskOf
-returns-7 c = simp (ne-eqb _ _ (c .if6 .left), ne-eqb _ _ (c .before .before .if5 .left), ne-eqb _ _ (c .before .before .before .before .if4 .left), ne-eqb _ _ (c .before .before .before .before .before .before .if3 .left), ne-eqb _ _ (c .before .before .before .before .before .before .before .before .if2 .left), ne-eqb _ _ (c .before .before .before .before .before .before .before .before .before .before .if1 .left))
+returns-7 c =
+    let at-if5 = c .before .before in
+    let at-if4 = at-if5 .before .before in
+    let at-if3 = at-if4 .before .before in
+    let at-if2 = at-if3 .before .before in
+    let at-if1 = at-if2 .before .before in
+    simp (ne-eqb _ _ (c .if6 .left), ne-eqb _ _ (at-if5 .if5 .left), ne-eqb _ _ (at-if4 .if4 .left), ne-eqb _ _ (at-if3 .if3 .left), ne-eqb _ _ (at-if2 .if2 .left), ne-eqb _ _ (at-if1 .if1 .left))
 
 pub task-spec : {M : Type 1} → statement M
 task-spec =
