@@ -11,9 +11,9 @@ use Rattle.commands.specs.Kept.{form-kept, typed-kept}
 use Rattle.schedule.specs.Calls.{next, after, TypedCalls}
 use Rattle.schedule.specs.Schedule.{target}
 use Rattle.schedule.specs.Claim.{fed, KeptFade}
+use Rattle.schedule.specs.Fades.{Fade, finds, found, ready, begun, later, PremisedButHue, Premised}
 use Rattle.schedule.proofs.Lists.{typed-split, form-after, typed-after}
 use Rattle.schedule.proofs.Keeps.{target-small, keeps-schedule}
-use Rattle.consequences.specs.Fades.{Fade, finds, found, ready, begun, later, Premised}
 
 -- a typed lamp in form
 record Good (l : Lamp) : Type 0 where
@@ -26,13 +26,14 @@ good-after l xs t g = record { form = form-after l xs (g .form); typed = typed-a
 good-next : (l : Lamp) (x : Call) → TypedCall x → Good l → Good (next l x)
 good-next l x t g = record { form = form-kept l x (g .form); typed = typed-kept l x (g .form) (g .typed) t }
 
-module _ (e : Fade) (p : Premised e) where
-  -- the fade keeps its schedule
-  pub kept : KeptFade (begun e) (fed (e .move) (finds e) (e .start)) (e .calls)
-  kept =
-      keeps-schedule (e .lamp) _ (p .form) (p .typedLamp) (p .typedCalls) (e .before) _ (e .move) (e .onOff) (e .clock) refl (p .accepted) (p .leave)
-      .fades (e .between) (e .calls) (e .start) refl (p .started)
+-- the fade keeps its schedule
+pub kept : (e : Fade) → Premised e → KeptFade (begun e) (fed (e .move) (finds e) (e .start)) (e .calls)
+kept e p =
+    let q = p .others in
+    keeps-schedule (e .lamp) _ (q .form) (q .typedLamp) (q .typedCalls) (e .before) _ (e .move) (e .onOff) (e .clock) refl (q .accepted) (q .leave)
+    .fades (e .between) (e .calls) (e .start) refl (record { accepted = q .started; hue = p .hue; undisturbed = q .undisturbed })
 
+module _ (e : Fade) (p : PremisedButHue e) where
   -- the hue that the command found, its target, and each hue shown are hues
   pub found-small : found e < 65536
   found-small = let t = typed-split (e .before) _ (p .typedCalls) in

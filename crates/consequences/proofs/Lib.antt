@@ -1,4 +1,5 @@
 pub mod Kept
 pub mod NeverThrough
+pub mod OffTarget
 pub mod Together
 pub mod Instances

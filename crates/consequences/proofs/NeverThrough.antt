@@ -9,7 +9,7 @@ use Rattle.hue.specs.Hue.{distance}
 use Rattle.arc.specs.Arc.{OnArc}
 use Rattle.arc.specs.Laws.{arc-up, arc-down, none-inside}
 use Rattle.schedule.specs.Schedule.{target, wayFrom}
-use Rattle.consequences.specs.Fades.{found, later}
+use Rattle.schedule.specs.Fades.{found, later}
 use Rattle.consequences.specs.NeverThrough.{StaysOnArc, NeverThrough, NeverThroughAsked}
 use Rattle.consequences.proofs.Kept.{kept, found-small, aim-small, shown-small}
 
@@ -20,7 +20,7 @@ on-arc (negsuc n) f hue hf h k = arc-down f n hue hf h k
 
 pub stays-on-arc : StaysOnArc
 stays-on-arc e p ys zs split =
-    on-arc (wayFrom (e .move) (found e)) (found e) (later e ys .color .hue) (found-small e p) (shown-small e p ys zs split)
+    on-arc (wayFrom (e .move) (found e)) (found e) (later e ys .color .hue) (found-small e (p .others)) (shown-small e (p .others) ys zs split)
     (kept e p .everywhere ys zs split .arc)
 
 pub never-through : NeverThrough
@@ -28,4 +28,4 @@ never-through e p b outside ys zs split = outside (later e ys .color .hue) (stay
 
 pub never-through-asked : NeverThroughAsked
 never-through-asked e p b t asked =
-    never-through e p b (none-inside (found e) (target (e .move)) b (found-small e p) (aim-small e p) t (e .move .direction) asked)
+    never-through e p b (none-inside (found e) (target (e .move)) b (found-small e (p .others)) (aim-small e (p .others)) t (e .move .direction) asked)

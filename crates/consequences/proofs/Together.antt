@@ -14,8 +14,8 @@ use Rattle.commands.specs.Answers.{clockOf}
 use Rattle.schedule.specs.Calls.{next, after, accepts, acceptedStep, steps}
 use Rattle.schedule.specs.Schedule.{Fed, Shown, shownAt, target, takes, followed, scheduledFrom, scheduled}
 use Rattle.schedule.specs.Claim.{fed, KeptFade}
+use Rattle.schedule.specs.Fades.{Fade, finds, begun}
 use Rattle.schedule.proofs.Lists.{after-one, scheduled-one}
-use Rattle.consequences.specs.Fades.{Fade, finds, begun}
 use Rattle.consequences.specs.Together.{stepClocks, Alike, Together, AfterEach}
 use Rattle.consequences.proofs.Kept.{kept}
 

@@ -1,11 +1,12 @@
--- Fades that meet the premises, by computation: from red to cyan through green, and the other way round; and two lamps that fade
--- together, one of them among other calls.
+-- Fades that meet the premises, by computation: from red to cyan through green, and the other way round; two lamps that fade
+-- together, one of them among other calls; and one whose hue moved between command and start.
 -- Assumes nothing.
 use Prim.Native.Nat.{ℕ}
 use mathlib.Core.Bool.{Bool, true, false}
 use mathlib.Core.List.{List, [], _∷_, map}
 use mathlib.Core.Path.{_≡_, refl}
 use lib.Dec.{lit<}
+use lib.IntN.{pos}
 use Rattle.matter.specs.declared.Command.{Command}
 use Rattle.matter.specs.declared.CommandOptions.{CommandOptions}
 use Rattle.matter.specs.declared.DirectionEnum.{DirectionEnum}
@@ -20,19 +21,23 @@ use Rattle.arc.specs.Examples.{green}
 use Rattle.progress.specs.Progress.{permilleOf}
 use Rattle.color.specs.Form.{colorForm}
 use Rattle.color.specs.Setters.{hueSet}
+use Rattle.tasks.specs.declared.HueDelta.{HueDelta}
+use Rattle.tasks.specs.declared.TargetSaturation.{TargetSaturation}
+use Rattle.tasks.specs.declared.Task.{Task}
 use Rattle.tasks.specs.Form.{moveToForm, taskForm, runningForm}
 use Rattle.lamp.specs.Answers.{formOrClock}
 use Rattle.lamp.specs.Calls.{hueSaturationStart, started, stepped, startAnswer, stepAnswer, haltAnswer}
 use Rattle.lamp.specs.Form.{lampForm}
 use Rattle.lamp.specs.Passes.{hueSaturationPass}
-use Rattle.lamp.specs.Typed.{command, step, halt}
+use Rattle.lamp.specs.Typed.{command, start, step, halt}
 use Rattle.commands.specs.Commands.{commandEffect}
 use Rattle.commands.specs.Answers.{answer, commandCause, commandAnswer}
 use Rattle.schedule.specs.Calls.{after, quiet}
 use Rattle.schedule.specs.Schedule.{target}
-use Rattle.schedule.specs.Examples.{lampAt, plain, Look, seen, looks, typed-lamp}
-use Rattle.consequences.specs.Fades.{Fade, found, begun, Premised}
+use Rattle.schedule.specs.Fades.{Fade, found, begun, PremisedButHue, Premised, seen, looks, shown}
+use Rattle.schedule.specs.Examples.{lampAt, plain, typed-lamp, typed-plain}
 use Rattle.consequences.specs.Together.{stepClocks, Alike}
+use Rattle.consequences.specs.OffTarget.{movedBetween}
 
 -- ---- from red to cyan
 
@@ -98,6 +103,24 @@ among =
           ∷ [];
     }
 
+-- ---- the hue moved in between
+
+-- from 0 to 1000 in two tenths; before the start another task moves the hue to 50, at once
+abbrev pub movedTo50 : Fade
+movedTo50 =
+    record {
+      lamp = lampAt 0;
+      before = [];
+      move = record { enhanced = true; hue = 1000; direction = DirectionEnum.Shortest; tenths = 2; options = plain };
+      onOff = OnOff.On;
+      clock = 5000;
+      between =
+          start (Task.HueSaturationMoveTo (record { delta = HueDelta.By (pos 50); saturation = TargetSaturation.Keep; ms = 0; enhanced = true })) 5000
+          ∷ [];
+      start = 5000;
+      calls = step 5100 ∷ step 5200 ∷ [];
+    }
+
 -- ---- what is asked and shown
 
 -- what a console asks before it sends a fade: Shortest goes up, half way round, and through green; Down does not
@@ -108,10 +131,7 @@ pub asked : (ask (redToCyan DirectionEnum.Shortest) ≡ true) × (ask (redToCyan
 unfolding passesThrough meet pathDelta distance after
 asked = (refl, refl)
 
--- what the lamp shows, from the start on, and the clocks of the accepted steps
-abbrev pub shown : Fade → List Look
-shown e = looks (begun e .lamp) (e .calls)
-
+-- the clocks of the accepted steps
 abbrev pub clocks : Fade → List ℕ
 clocks e = stepClocks (begun e .lamp) (e .calls)
 
@@ -137,14 +157,16 @@ pub same-shown : map shown (alone ∷ among ∷ []) ≡
 unfolding looks after answer commandCause commandAnswer formOrClock lampForm all colorForm runningForm moveToForm taskForm commandEffect startAnswer stepAnswer haltAnswer started stepped hueSaturationStart hueSaturationPass hueSet permilleOf pathDelta distance movedHue hasFlag
 same-shown = refl
 
+-- 50 off the target, which is 1000
+pub off-by-50 : (movedBetween movedTo50 ≡ pos 50) × (shown movedTo50 ≡ seen 50 2 false ∷ seen 550 1 false ∷ seen 1050 0 true ∷ [])
+unfolding looks after answer commandCause commandAnswer formOrClock lampForm all colorForm runningForm moveToForm taskForm commandEffect startAnswer stepAnswer haltAnswer started stepped hueSaturationStart hueSaturationPass hueSet permilleOf pathDelta distance movedHue hasFlag
+off-by-50 = (refl, refl)
+
 -- ---- they meet the premises
 
 pub alike : Alike alone among
 unfolding after answer haltAnswer stepAnswer formOrClock lampForm all colorForm runningForm
 alike = record { found = refl; target = refl; direction = refl; tenths = refl; start = refl }
-
-typed-plain : TypedOptions plain
-typed-plain = record { mask = lit< tt; over = lit< tt }
 
 typed-whileOff : TypedOptions whileOff
 typed-whileOff = record { mask = lit< tt; over = lit< tt }
@@ -153,27 +175,56 @@ pub premised : Premised (redToCyan DirectionEnum.Down) × Premised alone × Prem
 unfolding quiet after answer commandCause commandAnswer formOrClock lampForm all colorForm runningForm moveToForm taskForm commandEffect startAnswer stepAnswer haltAnswer started stepped hueSaturationStart hueSaturationPass hueSet permilleOf pathDelta distance movedHue hasFlag
 premised = (
   record {
-    form = refl;
-    typedLamp = typed-lamp 0 (lit< tt);
-    typedCalls = (((lit< tt, lit< tt, typed-plain), lit< tt), ((record { delta = lit< tt; saturation = tt; ms = lit< tt }, lit< tt), (lit< tt, (lit< tt, (lit< tt, (lit< tt, tt))))));
-    accepted = refl;
-    leave = refl;
-    started = record { accepted = refl; hue = refl; undisturbed = refl };
+    others =
+        record {
+          form = refl;
+          typedLamp = typed-lamp 0 (lit< tt);
+          typedCalls = (((lit< tt, lit< tt, typed-plain), lit< tt), ((record { delta = lit< tt; saturation = tt; ms = lit< tt }, lit< tt), (lit< tt, (lit< tt, (lit< tt, (lit< tt, tt))))));
+          accepted = refl;
+          leave = refl;
+          started = refl;
+          undisturbed = refl;
+        };
+    hue = refl;
   },
   record {
-    form = refl;
-    typedLamp = typed-lamp 60000 (lit< tt);
-    typedCalls = (((lit< tt, lit< tt, typed-plain), lit< tt), ((record { delta = lit< tt; saturation = tt; ms = lit< tt }, lit< tt), (lit< tt, (lit< tt, (lit< tt, tt)))));
-    accepted = refl;
-    leave = refl;
-    started = record { accepted = refl; hue = refl; undisturbed = refl };
+    others =
+        record {
+          form = refl;
+          typedLamp = typed-lamp 60000 (lit< tt);
+          typedCalls = (((lit< tt, lit< tt, typed-plain), lit< tt), ((record { delta = lit< tt; saturation = tt; ms = lit< tt }, lit< tt), (lit< tt, (lit< tt, (lit< tt, tt)))));
+          accepted = refl;
+          leave = refl;
+          started = refl;
+          undisturbed = refl;
+        };
+    hue = refl;
   },
   record {
-    form = refl;
-    typedLamp = typed-lamp 60000 (lit< tt);
-    typedCalls = (lit< tt, (lit< tt, (((lit< tt, lit< tt, typed-whileOff), lit< tt), (((lit< tt, lit< tt, typed-plain), lit< tt), ((record { delta = lit< tt; saturation = tt; ms = lit< tt }, lit< tt), (lit< tt, (lit< tt, (((lit< tt, lit< tt, typed-plain), lit< tt), (((lit< tt, typed-plain), lit< tt), (lit< tt, (lit< tt, (lit< tt, (lit< tt, tt)))))))))))));
-    accepted = refl;
-    leave = refl;
-    started = record { accepted = refl; hue = refl; undisturbed = refl };
+    others =
+        record {
+          form = refl;
+          typedLamp = typed-lamp 60000 (lit< tt);
+          typedCalls = (lit< tt, (lit< tt, (((lit< tt, lit< tt, typed-whileOff), lit< tt), (((lit< tt, lit< tt, typed-plain), lit< tt), ((record { delta = lit< tt; saturation = tt; ms = lit< tt }, lit< tt), (lit< tt, (lit< tt, (((lit< tt, lit< tt, typed-plain), lit< tt), (((lit< tt, typed-plain), lit< tt), (lit< tt, (lit< tt, (lit< tt, (lit< tt, tt)))))))))))));
+          accepted = refl;
+          leave = refl;
+          started = refl;
+          undisturbed = refl;
+        };
+    hue = refl;
   },
 )
+
+-- all but the one of the hue
+pub premised-but-hue : PremisedButHue movedTo50
+unfolding quiet after answer commandCause commandAnswer formOrClock lampForm all colorForm runningForm moveToForm taskForm commandEffect startAnswer stepAnswer haltAnswer started stepped hueSaturationStart hueSaturationPass hueSet permilleOf pathDelta distance movedHue hasFlag
+premised-but-hue =
+    record {
+      form = refl;
+      typedLamp = typed-lamp 0 (lit< tt);
+      typedCalls = (((lit< tt, lit< tt, typed-plain), lit< tt), ((record { delta = lit< tt; saturation = tt; ms = lit< tt }, lit< tt), ((record { delta = lit< tt; saturation = tt; ms = lit< tt }, lit< tt), (lit< tt, (lit< tt, tt)))));
+      accepted = refl;
+      leave = refl;
+      started = refl;
+      undisturbed = refl;
+    }

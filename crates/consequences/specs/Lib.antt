@@ -1,4 +1,4 @@
-pub mod Fades
 pub mod Together
 pub mod NeverThrough
+pub mod OffTarget
 pub mod Examples

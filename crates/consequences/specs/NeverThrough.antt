@@ -1,5 +1,5 @@
--- *Never through*: "if a band of hues (say green's) has no hue on the chosen arc, no hue shown from the start to done lies in
--- it". Said of the arc itself, and of the test that a console asks before it sends the fade.
+-- *Never through*: if a band of hues (say green's) has no hue on the chosen arc, no hue shown from the start to done lies in
+-- it. Said of the arc itself, and of the test that a console asks before it sends the fade.
 -- Assumes nothing.
 use Prim.Native.Nat.{ℕ}
 use mathlib.Core.Bool.{false}
@@ -9,7 +9,7 @@ use Rattle.arc.specs.declared.Band.{Band}
 use Rattle.arc.specs.Arc.{OnArc, inBand, TypedBand, passesThrough}
 use Rattle.lamp.specs.Typed.{Call}
 use Rattle.schedule.specs.Schedule.{target, wayFrom}
-use Rattle.consequences.specs.Fades.{Fade, found, later, Premised}
+use Rattle.schedule.specs.Fades.{Fade, found, later, Premised}
 
 -- no hue that the lamp shows, at the start and after each call that follows, is in the band
 abbrev pub Avoids : Fade → Band → Type 0

@@ -17,7 +17,7 @@ use Rattle.progress.specs.Laws.{permille-most, permille-grows, part-within, par
 use Rattle.lamp.specs.Typed.{Call, command, start, step, halt}
 use Rattle.commands.specs.Answers.{clockOf}
 use Rattle.schedule.specs.Calls.{isStep}
-use Rattle.schedule.specs.Schedule.{target, wayFrom, time, Fed, Shown, over, shownAt, takes, moved, followed}
+use Rattle.schedule.specs.Schedule.{target, wayFrom, time, Fed, Shown, over, shownAt, takes, whenTaken, followed}
 use Rattle.matter.specs.Laws.{and-left, and-right, or-left, or-right}
 use Rattle.schedule.proofs.Tests.{either, never, positive, leb-same}
 use Rattle.schedule.proofs.Arithmetic.{gone, gone-part, gone-whole}
@@ -123,7 +123,7 @@ stepTaken f s x = isStep x && takes f s x
 pub takes-late : (f : Fed) (s : Shown) (x : Call) → takes f s x ≡ true → s .clock ≤ clockOf x
 takes-late f s x e = leb-true (s .clock) (clockOf x) (and-left (leb (s .clock) (clockOf x)) _ (and-left (leb (s .clock) (clockOf x) && leb (clockOf x) clockLimit) _ e))
 
-pub taken : (f : Fed) (s : Shown) (x : Call) → takes f s x ≡ true → followed f s x ≡ moved f s x
+pub taken : (f : Fed) (s : Shown) (x : Call) → takes f s x ≡ true → followed f s x ≡ whenTaken f s x
 taken f s x e = rw e
 
 pub refused : (f : Fed) (s : Shown) (x : Call) → takes f s x ≡ false → followed f s x ≡ s
@@ -149,30 +149,30 @@ same-done s t true e = e
 same-done s t false e = refl
 
 pub other-is : (f : Fed) (s : Shown) (x : Call) → stepTaken f s x ≡ false → followed f s x .done ≡ s .done
-other-is f s (command c onOff clock) e = same-done s (moved f s (command c onOff clock)) (takes f s (command c onOff clock)) refl
-other-is f s (start task clock) e = same-done s (moved f s (start task clock)) (takes f s (start task clock)) refl
+other-is f s (command c onOff clock) e = same-done s (whenTaken f s (command c onOff clock)) (takes f s (command c onOff clock)) refl
+other-is f s (start task clock) e = same-done s (whenTaken f s (start task clock)) (takes f s (start task clock)) refl
 other-is f s (step clock) e = ap (λ (t : Shown). t .done) (refused f s (step clock) e)
-other-is f s (halt clock) e = same-done s (moved f s (halt clock)) (takes f s (halt clock)) refl
+other-is f s (halt clock) e = same-done s (whenTaken f s (halt clock)) (takes f s (halt clock)) refl
 
 module _ (f : Fed) (n : Sane f) (s : Shown) (r : Right f s) where
-  moved-right : (x : Call) → takes f s x ≡ true → Right f (moved f s x)
-  moved-right (command c onOff clock) e = later-right f s clock r (takes-late f s (command c onOff clock) e)
-  moved-right (start task clock) e = later-right f s clock r (takes-late f s (start task clock) e)
-  moved-right (step clock) e = at-right f n clock (le-trans (r .since) (takes-late f s (step clock) e))
-  moved-right (halt clock) e = later-right f s clock r (takes-late f s (halt clock) e)
+  taken-right : (x : Call) → takes f s x ≡ true → Right f (whenTaken f s x)
+  taken-right (command c onOff clock) e = later-right f s clock r (takes-late f s (command c onOff clock) e)
+  taken-right (start task clock) e = later-right f s clock r (takes-late f s (start task clock) e)
+  taken-right (step clock) e = at-right f n clock (le-trans (r .since) (takes-late f s (step clock) e))
+  taken-right (halt clock) e = later-right f s clock r (takes-late f s (halt clock) e)
 
   pub followed-right : (x : Call) → Right f (followed f s x)
-  followed-right x = elim (either (takes f s x)) [ inl e ↦ rw e (moved-right x e) | inr e ↦ rw e r ]
+  followed-right x = elim (either (takes f s x)) [ inl e ↦ rw e (taken-right x e) | inr e ↦ rw e r ]
 
-  moved-on : (x : Call) → takes f s x ≡ true → goneOf f (s .hue) ≤ goneOf f (moved f s x .hue)
-  moved-on (command c onOff clock) e = le-refl (goneOf f (s .hue))
-  moved-on (start task clock) e = le-refl (goneOf f (s .hue))
-  moved-on (step clock) e = let o = step-open f s (step clock) e in at-on f n s clock r (o .0) (o .1)
-  moved-on (halt clock) e = le-refl (goneOf f (s .hue))
+  taken-on : (x : Call) → takes f s x ≡ true → goneOf f (s .hue) ≤ goneOf f (whenTaken f s x .hue)
+  taken-on (command c onOff clock) e = le-refl (goneOf f (s .hue))
+  taken-on (start task clock) e = le-refl (goneOf f (s .hue))
+  taken-on (step clock) e = let o = step-open f s (step clock) e in at-on f n s clock r (o .0) (o .1)
+  taken-on (halt clock) e = le-refl (goneOf f (s .hue))
 
   -- over a call the way travelled never shrinks
   pub followed-on : (x : Call) → goneOf f (s .hue) ≤ goneOf f (followed f s x .hue)
-  followed-on x = elim (either (takes f s x)) [ inl e ↦ rw e (moved-on x e) | inr e ↦ rw e (le-refl (goneOf f (s .hue))) ]
+  followed-on x = elim (either (takes f s x)) [ inl e ↦ rw e (taken-on x e) | inr e ↦ rw e (le-refl (goneOf f (s .hue))) ]
 
   at-done : (clock : ℕ) → f .start ≤ clock → 0 < wholeOf f → shownAt f clock .done ≡ leb (f .start + time (f .fade)) clock
   at-done clock h k =

@@ -26,7 +26,7 @@ use Rattle.lamp.specs.Typed.{Call, command, start, step, halt}
 use Rattle.commands.specs.Answers.{answer, isLoopSet}
 use Rattle.commands.specs.Kept.{form-kept, bounds-kept, options-kept, quiet-command}
 use Rattle.schedule.specs.Calls.{next, accepts, idle, acceptedStep, interrupts}
-use Rattle.schedule.specs.Schedule.{taskOf, time, wayFrom, Fed, Shown, over, shownAt, own, takes, moved, followed}
+use Rattle.schedule.specs.Schedule.{taskOf, time, wayFrom, Fed, Shown, over, shownAt, own, takes, whenTaken, followed}
 use Rattle.matter.specs.Laws.{or-left}
 use Rattle.schedule.proofs.Tests.{either, never, positive}
 use Rattle.schedule.proofs.Course.{Sane, Right, wholeOf, at-right, step-open, followed-right, done-is, begins-done}
@@ -93,7 +93,7 @@ step-meets {f} {l} {s} k clock n d =
     from-over g e w h = rw (ne-eqb (wholeOf g) 0 (λ z. omega arith), or-false (leb (time (g .fade)) e)) at h
 
 module _ {f : Fed} {l : Lamp} {s : Shown} (k : Fading f l s) (n : Sane f) where
-  accepted-shows : (x : Call) → not (interrupts x && accepts l x) ≡ true → accepts l x ≡ true → Shows f (k .saturation) (next l x) (moved f s x)
+  accepted-shows : (x : Call) → not (interrupts x && accepts l x) ≡ true → accepts l x ≡ true → Shows f (k .saturation) (next l x) (whenTaken f s x)
   accepted-shows (command c onOff clock) q a =
       let z : isLoopSet c ≡ false = not-true (isLoopSet c) (rw (a, and-true) at q) in
       rw (quiet-command l c onOff clock z (no-cause l (command c onOff clock) a))

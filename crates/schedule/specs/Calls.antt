@@ -4,10 +4,12 @@ use Prim.Native.Nat.{ℕ, suc, _+_}
 use mathlib.Core.Bool.{Bool, true, false, not, cond, _&&_, _||_}
 use mathlib.Core.List.{List, [], _∷_}
 use lib.Dec.{leb, eqb}
+use Rattle.matter.specs.declared.Bounds.{Bounds}
 use Rattle.matter.specs.Causes.{accepted}
 use Rattle.tasks.specs.Runs.{runs}
 use Rattle.lamp.specs.declared.Lamp.{Lamp}
 use Rattle.lamp.specs.Typed.{Call, command, start, step, halt, TypedCall}
+use Rattle.commands.specs.Commands.{crossed}
 use Rattle.commands.specs.Answers.{answer, clockOf, isLoopSet}
 
 -- the lamp that a call leaves
@@ -66,3 +68,14 @@ unfoldable pub paced : ℕ → Lamp → List Call → Bool
 paced due l [] = true
 paced due l (x ∷ xs) =
     cond (acceptedStep l x) (leb due (clockOf x) && paced (clockOf x + answer l x .wait) (next l x) xs) (paced due (next l x) xs)
+
+-- a mired step whose limits cross within the bounds, and a list without one
+abbrev pub crosses : Bounds → Call → Bool
+crosses bounds (command c onOff clock) = crossed bounds c
+crosses bounds (start task clock) = false
+crosses bounds (step clock) = false
+crosses bounds (halt clock) = false
+
+abbrev pub noneCrosses : Bounds → List Call → Bool
+noneCrosses bounds [] = true
+noneCrosses bounds (x ∷ xs) = not (crosses bounds x) && noneCrosses bounds xs

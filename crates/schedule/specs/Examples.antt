@@ -1,11 +1,11 @@
 -- Fades that meet every premise of the claim at once, and what their lamps show, by computation: with each wait kept, with no
 -- way, with no time, down past 0, and with refused calls, foreign commands and a jump of the clock inside.
 -- Assumes nothing.
-use Prim.Native.Nat.{ℕ, _+_, _<_}
-use mathlib.Core.Bool.{Bool, true, false, _&&_}
-use mathlib.Core.List.{List, [], _∷_, _++_, map}
+use Prim.Native.Nat.{ℕ, _<_}
+use mathlib.Core.Bool.{true, false}
+use mathlib.Core.List.{List, [], _∷_, map}
 use mathlib.Core.Path.{_≡_, refl}
-use lib.Dec.{eqb, lit<}
+use lib.Dec.{lit<}
 use Rattle.matter.specs.declared.ColorLoopActionEnum.{ColorLoopActionEnum}
 use Rattle.matter.specs.declared.ColorLoopDirectionEnum.{ColorLoopDirectionEnum}
 use Rattle.matter.specs.declared.ColorModeEnum.{ColorModeEnum}
@@ -26,18 +26,17 @@ use Rattle.tasks.specs.declared.Running.{Running}
 use Rattle.tasks.specs.declared.Task.{Task}
 use Rattle.tasks.specs.Form.{moveToForm, taskForm, runningForm}
 use Rattle.lamp.specs.declared.Lamp.{Lamp}
-use Rattle.lamp.specs.declared.Answer.{Answer}
 use Rattle.lamp.specs.Answers.{formOrClock}
 use Rattle.lamp.specs.Calls.{hueSaturationStart, started, stepped, startAnswer, stepAnswer, haltAnswer}
 use Rattle.lamp.specs.Form.{lampForm}
 use Rattle.lamp.specs.Passes.{hueSaturationPass}
-use Rattle.lamp.specs.Typed.{Call, command, start, step, halt, TypedLamp}
+use Rattle.lamp.specs.Typed.{command, start, step, halt, TypedLamp}
 use Rattle.commands.specs.Commands.{commandEffect}
-use Rattle.commands.specs.Answers.{answer, allowed, commandCause, commandAnswer}
-use Rattle.schedule.specs.Calls.{next, after, accepts, idle, TypedCalls, quiet, steps, paced}
-use Rattle.schedule.specs.Schedule.{HueCommand, asCommand, taskOf}
+use Rattle.commands.specs.Answers.{answer, commandCause, commandAnswer}
+use Rattle.schedule.specs.Calls.{after, quiet, steps, paced}
+use Rattle.schedule.specs.Fades.{Fade, Premised, waitsKept, seen, looks, shown, stepsTaken}
 
--- ---- a lamp, and a fade on it
+-- ---- a lamp
 
 -- an idle lamp at this hue, whose clock is 5000
 abbrev pub lampAt : ℕ → Lamp
@@ -60,74 +59,6 @@ lampAt hue =
       running = Running.Idle;
     }
 
--- a lamp, and the parts of a list of calls: those before the command, the command and its clock, those between it and the start,
--- the clock of the start, and the calls after it
-pub record Fade : Type 0 where
-  pub lamp : Lamp
-  pub before : List Call
-  pub fade : HueCommand
-  pub clock : ℕ
-  pub between : List Call
-  pub at : ℕ
-  pub calls : List Call
-
--- the lamp that the command finds
-abbrev pub foundOf : Fade → Lamp
-foundOf e = after (e .lamp) (e .before)
-
-abbrev pub commandOf : Fade → Call
-commandOf e = command (asCommand (e .fade)) OnOff.On (e .clock)
-
--- the lamp that the start finds
-abbrev pub readyOf : Fade → Lamp
-readyOf e = after (next (foundOf e) (commandOf e)) (e .between)
-
-abbrev pub startOf : Fade → Call
-startOf e = start (taskOf (e .fade) (foundOf e .color .hue)) (e .at)
-
-abbrev pub begunOf : Fade → Answer
-begunOf e = answer (readyOf e) (startOf e)
-
-abbrev pub listOf : Fade → List Call
-listOf e = e .before ++ (commandOf e ∷ (e .between ++ (startOf e ∷ e .calls)))
-
--- the premises of the claim, but for the types: form, command and start accepted, leave to run, the hue as the command found
--- it, no other accepted start, halt or colour-loop command after the start, and every wait kept
-unfoldable pub meets : Fade → Bool
-meets e =
-    lampForm (e .lamp)
-    && accepts (foundOf e) (commandOf e)
-    && allowed (foundOf e) (asCommand (e .fade)) OnOff.On
-    && accepts (readyOf e) (startOf e)
-    && eqb (readyOf e .color .hue) (foundOf e .color .hue)
-    && quiet (begunOf e .lamp) (e .calls)
-    && paced (e .at + begunOf e .wait) (begunOf e .lamp) (e .calls)
-
--- what is seen of a lamp
-pub record Look : Type 0 where
-  pub hue : ℕ
-  pub remaining : ℕ
-  pub idle : Bool
-
-abbrev pub look : Lamp → Look
-look l = record { hue = l .color .hue; remaining = l .remaining .tenths; idle = idle l }
-
-abbrev pub seen : ℕ → ℕ → Bool → Look
-seen hue remaining idle = record { hue = hue; remaining = remaining; idle = idle }
-
--- at first, and after each call
-unfoldable pub looks : Lamp → List Call → List Look
-looks l [] = look l ∷ []
-looks l (x ∷ xs) = look l ∷ looks (next l x) xs
-
--- from the start on
-unfoldable pub shows : Fade → List Look
-shows e = looks (begunOf e .lamp) (e .calls)
-
--- how many steps are accepted after the start
-unfoldable pub taken : Fade → ℕ
-taken e = steps (begunOf e .lamp) (e .calls)
-
 -- ---- the fades
 
 abbrev pub plain : CommandOptions
@@ -139,10 +70,11 @@ paceKept =
     record {
       lamp = lampAt 0;
       before = [];
-      fade = record { enhanced = false; hue = 128; direction = DirectionEnum.Shortest; tenths = 2; options = plain };
+      move = record { enhanced = false; hue = 128; direction = DirectionEnum.Shortest; tenths = 2; options = plain };
+      onOff = OnOff.On;
       clock = 5000;
       between = [];
-      at = 5000;
+      start = 5000;
       calls = step 5100 ∷ step 5200 ∷ [];
     }
 
@@ -152,10 +84,11 @@ noWay =
     record {
       lamp = lampAt 2560;
       before = [];
-      fade = record { enhanced = false; hue = 10; direction = DirectionEnum.Longest; tenths = 5; options = plain };
+      move = record { enhanced = false; hue = 10; direction = DirectionEnum.Longest; tenths = 5; options = plain };
+      onOff = OnOff.On;
       clock = 5000;
       between = [];
-      at = 5000;
+      start = 5000;
       calls = step 5100 ∷ [];
     }
 
@@ -165,10 +98,11 @@ noTime =
     record {
       lamp = lampAt 0;
       before = [];
-      fade = record { enhanced = false; hue = 10; direction = DirectionEnum.Down; tenths = 0; options = plain };
+      move = record { enhanced = false; hue = 10; direction = DirectionEnum.Down; tenths = 0; options = plain };
+      onOff = OnOff.On;
       clock = 5000;
       between = [];
-      at = 5000;
+      start = 5000;
       calls = step 5100 ∷ [];
     }
 
@@ -178,10 +112,11 @@ pastZero =
     record {
       lamp = lampAt 1000;
       before = [];
-      fade = record { enhanced = true; hue = 64536; direction = DirectionEnum.Down; tenths = 4; options = plain };
+      move = record { enhanced = true; hue = 64536; direction = DirectionEnum.Down; tenths = 4; options = plain };
+      onOff = OnOff.On;
       clock = 5000;
       between = [];
-      at = 5000;
+      start = 5000;
       calls = step 5100 ∷ step 5200 ∷ step 5300 ∷ step 5400 ∷ [];
     }
 
@@ -191,10 +126,11 @@ amongOthers =
     record {
       lamp = lampAt 60000;
       before = halt 5000 ∷ step 5000 ∷ [];
-      fade = record { enhanced = true; hue = 1000; direction = DirectionEnum.Up; tenths = 10; options = plain };
+      move = record { enhanced = true; hue = 1000; direction = DirectionEnum.Up; tenths = 10; options = plain };
+      onOff = OnOff.On;
       clock = 5000;
       between = command (Command.MoveToSaturation 100 20 plain) OnOff.NoHandler 5050 ∷ [];
-      at = 5100;
+      start = 5100;
       calls =
           step 5200
           -- refused: an earlier clock
@@ -218,17 +154,11 @@ amongOthers =
           ∷ [];
     }
 
-abbrev pub fades : List Fade
-fades = paceKept ∷ noWay ∷ noTime ∷ pastZero ∷ amongOthers ∷ []
+abbrev examples : List Fade
+examples = paceKept ∷ noWay ∷ noTime ∷ pastZero ∷ amongOthers ∷ []
 
 -- ---- they meet the premises
 
--- form, acceptance, leave, hue, quiet and pace
-pub all-meet : map meets fades ≡ true ∷ true ∷ true ∷ true ∷ true ∷ []
-unfolding meets after quiet paced answer commandCause commandAnswer formOrClock lampForm all colorForm runningForm moveToForm taskForm commandEffect startAnswer stepAnswer haltAnswer started stepped hueSaturationStart hueSaturationPass hueSet permilleOf pathDelta distance movedHue hasFlag
-all-meet = refl
-
--- the types
 pub typed-lamp : (hue : ℕ) → hue < 65536 → TypedLamp (lampAt hue)
 typed-lamp hue h =
     record {
@@ -248,32 +178,87 @@ typed-lamp hue h =
       running = tt;
     }
 
-typed-plain : TypedOptions plain
+pub typed-plain : TypedOptions plain
 typed-plain = record { mask = lit< tt; over = lit< tt }
 
-pub typed-paceKept : TypedCalls (listOf paceKept)
-unfolding after pathDelta distance
-typed-paceKept = (((lit< tt, lit< tt, typed-plain), lit< tt), ((record { delta = lit< tt; saturation = tt; ms = lit< tt }, lit< tt), (lit< tt, (lit< tt, tt))))
+pub all-meet : Premised paceKept × Premised noWay × Premised noTime × Premised pastZero × Premised amongOthers
+unfolding after quiet answer commandCause commandAnswer formOrClock lampForm all colorForm runningForm moveToForm taskForm commandEffect startAnswer stepAnswer haltAnswer started stepped hueSaturationStart hueSaturationPass hueSet permilleOf pathDelta distance movedHue hasFlag
+all-meet = (
+  record {
+    others =
+        record {
+          form = refl;
+          typedLamp = typed-lamp 0 (lit< tt);
+          typedCalls = (((lit< tt, lit< tt, typed-plain), lit< tt), ((record { delta = lit< tt; saturation = tt; ms = lit< tt }, lit< tt), (lit< tt, (lit< tt, tt))));
+          accepted = refl;
+          leave = refl;
+          started = refl;
+          undisturbed = refl;
+        };
+    hue = refl;
+  },
+  record {
+    others =
+        record {
+          form = refl;
+          typedLamp = typed-lamp 2560 (lit< tt);
+          typedCalls = (((lit< tt, lit< tt, typed-plain), lit< tt), ((record { delta = lit< tt; saturation = tt; ms = lit< tt }, lit< tt), (lit< tt, tt)));
+          accepted = refl;
+          leave = refl;
+          started = refl;
+          undisturbed = refl;
+        };
+    hue = refl;
+  },
+  record {
+    others =
+        record {
+          form = refl;
+          typedLamp = typed-lamp 0 (lit< tt);
+          typedCalls = (((lit< tt, lit< tt, typed-plain), lit< tt), ((record { delta = lit< tt; saturation = tt; ms = lit< tt }, lit< tt), (lit< tt, tt)));
+          accepted = refl;
+          leave = refl;
+          started = refl;
+          undisturbed = refl;
+        };
+    hue = refl;
+  },
+  record {
+    others =
+        record {
+          form = refl;
+          typedLamp = typed-lamp 1000 (lit< tt);
+          typedCalls = (((lit< tt, lit< tt, typed-plain), lit< tt), ((record { delta = lit< tt; saturation = tt; ms = lit< tt }, lit< tt), (lit< tt, (lit< tt, (lit< tt, (lit< tt, tt))))));
+          accepted = refl;
+          leave = refl;
+          started = refl;
+          undisturbed = refl;
+        };
+    hue = refl;
+  },
+  record {
+    others =
+        record {
+          form = refl;
+          typedLamp = typed-lamp 60000 (lit< tt);
+          typedCalls = (lit< tt, (lit< tt, (((lit< tt, lit< tt, typed-plain), lit< tt), (((lit< tt, lit< tt, typed-plain), lit< tt), ((record { delta = lit< tt; saturation = tt; ms = lit< tt }, lit< tt), (lit< tt, (lit< tt, (((lit< tt, lit< tt, typed-plain), lit< tt), (((lit< tt, typed-plain), lit< tt), ((tt, lit< tt), (((lit< tt, lit< tt, lit< tt, typed-plain), lit< tt), (((lit< tt, lit< tt, typed-plain), lit< tt), (lit< tt, (lit< tt, (lit< tt, tt)))))))))))))));
+          accepted = refl;
+          leave = refl;
+          started = refl;
+          undisturbed = refl;
+        };
+    hue = refl;
+  },
+)
 
-pub typed-noWay : TypedCalls (listOf noWay)
-unfolding after pathDelta distance
-typed-noWay = (((lit< tt, lit< tt, typed-plain), lit< tt), ((record { delta = lit< tt; saturation = tt; ms = lit< tt }, lit< tt), (lit< tt, tt)))
-
-pub typed-noTime : TypedCalls (listOf noTime)
-unfolding after pathDelta distance
-typed-noTime = (((lit< tt, lit< tt, typed-plain), lit< tt), ((record { delta = lit< tt; saturation = tt; ms = lit< tt }, lit< tt), (lit< tt, tt)))
-
-pub typed-pastZero : TypedCalls (listOf pastZero)
-unfolding after pathDelta distance
-typed-pastZero = (((lit< tt, lit< tt, typed-plain), lit< tt), ((record { delta = lit< tt; saturation = tt; ms = lit< tt }, lit< tt), (lit< tt, (lit< tt, (lit< tt, (lit< tt, tt))))))
-
-pub typed-amongOthers : TypedCalls (listOf amongOthers)
-unfolding after pathDelta distance answer haltAnswer stepAnswer formOrClock lampForm all colorForm runningForm
-typed-amongOthers = (lit< tt, (lit< tt, (((lit< tt, lit< tt, typed-plain), lit< tt), (((lit< tt, lit< tt, typed-plain), lit< tt), ((record { delta = lit< tt; saturation = tt; ms = lit< tt }, lit< tt), (lit< tt, (lit< tt, (((lit< tt, lit< tt, typed-plain), lit< tt), (((lit< tt, typed-plain), lit< tt), ((tt, lit< tt), (((lit< tt, lit< tt, lit< tt, typed-plain), lit< tt), (((lit< tt, lit< tt, typed-plain), lit< tt), (lit< tt, (lit< tt, (lit< tt, tt)))))))))))))))
+-- and each accepted step comes at or after the wait that was asked
+pub all-wait : map waitsKept examples ≡ true ∷ true ∷ true ∷ true ∷ true ∷ []
+unfolding paced after answer commandCause commandAnswer formOrClock lampForm all colorForm runningForm moveToForm taskForm commandEffect startAnswer stepAnswer haltAnswer started stepped hueSaturationStart hueSaturationPass hueSet permilleOf pathDelta distance movedHue hasFlag
+all-wait = refl
 
 -- ---- what their lamps show, from the start on
 
-pub all-show : map shows fades ≡
+pub all-show : map shown examples ≡
     (seen 0 2 false ∷ seen 16384 1 false ∷ seen 32768 0 true ∷ [])
     ∷ (seen 2560 0 true ∷ seen 2560 0 true ∷ [])
     ∷ (seen 2560 0 true ∷ seen 2560 0 true ∷ [])
@@ -281,10 +266,10 @@ pub all-show : map shows fades ≡
     ∷ (seen 60000 10 false ∷ seen 60653 9 false ∷ seen 60653 9 false ∷ seen 60653 9 false ∷ seen 60653 9 false ∷ seen 60653 9 false
     ∷ seen 60653 9 false ∷ seen 60653 9 false ∷ seen 60653 9 false ∷ seen 1000 0 true ∷ seen 1000 0 true ∷ [])
     ∷ []
-unfolding shows looks after quiet paced answer commandCause commandAnswer formOrClock lampForm all colorForm runningForm moveToForm taskForm commandEffect startAnswer stepAnswer haltAnswer started stepped hueSaturationStart hueSaturationPass hueSet permilleOf pathDelta distance movedHue hasFlag
+unfolding looks after answer commandCause commandAnswer formOrClock lampForm all colorForm runningForm moveToForm taskForm commandEffect startAnswer stepAnswer haltAnswer started stepped hueSaturationStart hueSaturationPass hueSet permilleOf pathDelta distance movedHue hasFlag
 all-show = refl
 
 -- as many steps as tenths, where each comes as soon as it may
-pub all-take : map taken fades ≡ 2 ∷ 0 ∷ 0 ∷ 4 ∷ 2 ∷ []
-unfolding taken steps after quiet paced answer commandCause commandAnswer formOrClock lampForm all colorForm runningForm moveToForm taskForm commandEffect startAnswer stepAnswer haltAnswer started stepped hueSaturationStart hueSaturationPass hueSet permilleOf pathDelta distance movedHue hasFlag
+pub all-take : map stepsTaken examples ≡ 2 ∷ 0 ∷ 0 ∷ 4 ∷ 2 ∷ []
+unfolding steps after answer commandCause commandAnswer formOrClock lampForm all colorForm runningForm moveToForm taskForm commandEffect startAnswer stepAnswer haltAnswer started stepped hueSaturationStart hueSaturationPass hueSet permilleOf pathDelta distance movedHue hasFlag
 all-take = refl

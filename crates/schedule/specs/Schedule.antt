@@ -63,6 +63,10 @@ pub record Fed : Type 0 where
   -- the clock of the accepted start
   pub start : ℕ
 
+-- the same, with another ExecuteIfOff
+abbrev pub withOption : Fed → Bool → Fed
+withOption f option = record { fade = f .fade; found = f .found; bounds = f .bounds; executeIfOff = option; start = f .start }
+
 -- what it says: its clock, its hue, remaining time, wait and done
 pub record Shown : Type 0 where
   pub clock : ℕ
@@ -103,14 +107,14 @@ abbrev pub takes : Fed → Shown → Call → Bool
 takes f s x = (leb (s .clock) (clockOf x) && leb (clockOf x) clockLimit) && own f x (s .done)
 
 -- "No other call moves it": an accepted step shows the fade at its clock, another accepted call only sets the clock
-abbrev pub moved : Fed → Shown → Call → Shown
-moved f s (command c onOff clock) = record { clock = clock; hue = s .hue; remaining = s .remaining; wait = s .wait; done = s .done }
-moved f s (start task clock) = record { clock = clock; hue = s .hue; remaining = s .remaining; wait = s .wait; done = s .done }
-moved f s (step clock) = shownAt f clock
-moved f s (halt clock) = record { clock = clock; hue = s .hue; remaining = s .remaining; wait = s .wait; done = s .done }
+abbrev pub whenTaken : Fed → Shown → Call → Shown
+whenTaken f s (command c onOff clock) = record { clock = clock; hue = s .hue; remaining = s .remaining; wait = s .wait; done = s .done }
+whenTaken f s (start task clock) = record { clock = clock; hue = s .hue; remaining = s .remaining; wait = s .wait; done = s .done }
+whenTaken f s (step clock) = shownAt f clock
+whenTaken f s (halt clock) = record { clock = clock; hue = s .hue; remaining = s .remaining; wait = s .wait; done = s .done }
 
 abbrev pub followed : Fed → Shown → Call → Shown
-followed f s x = cond (takes f s x) (moved f s x) s
+followed f s x = cond (takes f s x) (whenTaken f s x) s
 
 -- the schedule after a list of calls that follow the start
 unfoldable pub scheduledFrom : Fed → Shown → List Call → Shown

@@ -75,7 +75,7 @@ at elapsed a = cond (eqb elapsed 0) a (stepAnswer (a .lamp) (5000 + elapsed))
 abbrev idle : Answer → Bool
 idle a = not (runs (a .lamp .running))
 
--- accepted and done, told nothing, with the colour and the remaining time of the lamp
+-- accepted and done, told nothing, with hue, saturation, mireds, enhanced mode and remaining time of the lamp
 abbrev unchanged : Answer → Bool
 unchanged a =
     eqb (a .number) 0 && idle a && eqb (a .notices .len) 0 && eqb (a .lamp .color .hue) (lamp .color .hue)

@@ -40,10 +40,13 @@ use Rattle.worked_examples.specs.Cases.{lamp, given}
 abbrev listed : Answer → List ℕ
 listed a = take (a .notices .len) (a .notices .places)
 
--- a move-to of a way, with a saturation or without, started on the lamp of the cases
+-- a move-to of a way, with a saturation or without, started on a lamp at clock 5000; and on the lamp of the cases
+abbrev begunOn : Lamp → HueDelta → TargetSaturation → ℕ → Bool → Answer
+begunOn l delta saturation ms enhanced =
+    startAnswer l (Task.HueSaturationMoveTo (record { delta = delta; saturation = saturation; ms = ms; enhanced = enhanced })) 5000
+
 abbrev begun : HueDelta → TargetSaturation → ℕ → Bool → Answer
-begun delta saturation ms enhanced =
-    startAnswer lamp (Task.HueSaturationMoveTo (record { delta = delta; saturation = saturation; ms = ms; enhanced = enhanced })) 5000
+begun delta saturation ms enhanced = begunOn lamp delta saturation ms enhanced
 
 -- ---- `fade` on `128 0 2 5000`: "15", "13 2 6 7 14 15", "13 2 6 7 14 15 1"
 
@@ -74,11 +77,23 @@ start-told : map listed (begun (HueDelta.By (pos 1)) TargetSaturation.Keep 1100 
 unfolding hasFlag defaultColorMode all colorForm moveToForm taskForm runningForm lampForm formOrClock clamp movedHue permilleOf told filled hueSet hueTold saturationSet saturationTold hueSaturationPass hueSaturationStart started stepped startAnswer stepAnswer
 start-told = refl
 
--- ---- the colour loop: on with all flags, on again, off, off again
+-- ---- time 0 with remaining 5: way 1 in 500 ms was started before
+
+abbrev fiveLeft : Lamp
+fiveLeft = begun (HueDelta.By (pos 1)) TargetSaturation.Keep 500 false .lamp
+
+at-once-told : (fiveLeft .remaining .tenths ≡ 5) × (listed (begunOn fiveLeft (HueDelta.By (pos 1)) TargetSaturation.Keep 0 false) ≡ (1 ∷ 13 ∷ 2 ∷ 6 ∷ 7 ∷ 14 ∷ 15 ∷ []))
+unfolding hasFlag defaultColorMode all colorForm moveToForm taskForm runningForm lampForm formOrClock clamp movedHue permilleOf told filled hueSet hueTold hueSaturationPass hueSaturationStart started stepped startAnswer stepAnswer
+at-once-told = (refl, refl)
+
+-- ---- the colour loop: on with all flags, on again, off, off again; and with no flag
+
+abbrev loopFlags : ℕ → ColorLoopActionEnum → Lamp → Answer
+loopFlags flags action l =
+    commandAnswer l (Command.ColorLoopSet flags action ColorLoopDirectionEnum.Increment 30 100 (record { mask = 0; over = 0 })) OnOff.On 5000
 
 abbrev looped : ColorLoopActionEnum → Lamp → Answer
-looped action l =
-    commandAnswer l (Command.ColorLoopSet 15 action ColorLoopDirectionEnum.Increment 30 100 (record { mask = 0; over = 0 })) OnOff.On 5000
+looped action l = loopFlags 15 action l
 
 abbrev on : Answer
 on = looped ColorLoopActionEnum.ActivateFromColorLoopStartEnhancedHue lamp
@@ -89,6 +104,10 @@ off = looped ColorLoopActionEnum.Deactivate (on .lamp)
 loop-told : map listed (on ∷ looped ColorLoopActionEnum.ActivateFromEnhancedCurrentHue (on .lamp) ∷ off ∷ looped ColorLoopActionEnum.Deactivate (off .lamp) ∷ []) ≡ ((9 ∷ 10 ∷ 11 ∷ 13 ∷ 12 ∷ 8 ∷ 2 ∷ 3 ∷ 6 ∷ 7 ∷ 14 ∷ 15 ∷ 17 ∷ []) ∷ (9 ∷ 10 ∷ 11 ∷ 13 ∷ 2 ∷ 3 ∷ 6 ∷ 7 ∷ 14 ∷ 15 ∷ 17 ∷ []) ∷ (9 ∷ 10 ∷ 11 ∷ 13 ∷ 17 ∷ 8 ∷ 13 ∷ 2 ∷ 3 ∷ 6 ∷ 7 ∷ 14 ∷ 15 ∷ []) ∷ (9 ∷ 10 ∷ 11 ∷ 13 ∷ []) ∷ [])
 unfolding hasFlag defaultColorMode all colorForm runningForm lampForm formOrClock clamp filled hueSet hueTold deactivated activated loopSet commandEffect commandCause commandAnswer
 loop-told = refl
+
+no-flag-told : listed (loopFlags 0 ColorLoopActionEnum.ActivateFromEnhancedCurrentHue lamp) ≡ (13 ∷ [])
+unfolding hasFlag defaultColorMode all colorForm runningForm lampForm formOrClock clamp filled loopSet commandEffect commandCause commandAnswer
+no-flag-told = refl
 
 -- ---- the snap at its numbers: a turn's part of 65,152 and more goes up, one of 384 and less goes down, but in the first turn
 
