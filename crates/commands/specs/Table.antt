@@ -1,18 +1,19 @@
 -- The table of causes, read off: each number in its cause and in no other, for every call; 1 and 2 as `numberCause` has them
 -- (`fields-agree` and `invalid-agree` in `conformance`). For each kind of call the lines below go through all cases of its tests, in
--- the table's order, so that no two of them meet and none is left out. And: no answer uses more than 14 of its sixteen places, the
+-- the table's order, so that no two of them meet and none is left out. And: no number is above 8; no answer uses more than 14 of its sixteen places, the
 -- rest being 0; a step of a running lamp in form with a good clock is never refused.
 -- Assumes nothing.
 use Prim.Native.Nat.{ℕ, _≤_}
-use mathlib.Core.Bool.{true, false}
+use mathlib.Core.Bool.{Bool, true, false, not, _&&_, _||_}
 use mathlib.Core.List.{List, []}
 use mathlib.Core.Path.{_≡_, refl}
 use native.Mathlib.Omega.{arith}
-use lib.Dec.{eqb}
+use lib.Dec.{eqb, ltb}
 use lib.ListN.{length}
 use Rattle.matter.specs.declared.Command.{Command}
 use Rattle.matter.specs.declared.OnOff.{OnOff}
 use Rattle.matter.specs.Laws.{cond-both}
+use Rattle.matter.specs.Limits.{hueLimit, saturationLimit}
 use Rattle.notices.specs.Notices.{noted}
 use Rattle.tasks.specs.declared.Task.{Task}
 use Rattle.tasks.specs.Form.{taskForm}
@@ -24,8 +25,8 @@ use Rattle.lamp.specs.Form.{lampForm}
 use Rattle.lamp.specs.Calls.{started, stepped, startAnswer, stepAnswer, haltAnswer, choose, startCause, stepCause}
 use Rattle.lamp.specs.Kept.{started-few, stepped-few}
 use Rattle.lamp.specs.Typed.{Call, command, start, step, halt}
-use Rattle.commands.specs.Commands.{stopMode, numberCause, crossed}
-use Rattle.commands.specs.Answers.{allowed, commandCause, commandDone, commandAnswer, cause, answer}
+use Rattle.commands.specs.Commands.{stopMode, causeIf, numberCause, crossed}
+use Rattle.commands.specs.Answers.{allowed, afterClock, commandCause, commandDone, commandAnswer, cause, answer}
 use Rattle.commands.specs.Kept.{commands-few}
 
 module _ (l : Lamp) (clock : ℕ) where
@@ -107,6 +108,50 @@ module _ (l : Lamp) (clock : ℕ) where
     pub command-0 : lampForm l ≡ true → badClock l clock ≡ false → stopMode c ≡ false → eqb (numberCause c) 0 ≡ true → allowed l c onOff ≡ true → crossed (l .bounds) c ≡ false → cause l (command c onOff clock) ≡ 0
     unfolding cause commandCause formOrClock
     command-0 f b s n a x = simp (f, b, s, n, a, x)
+
+-- ---- no number is above 8
+
+number-small : (bad : Bool) (number : ℕ) → number ≤ 8 → causeIf bad number ≤ 8
+number-small bad number h = cond-both (λ n. n ≤ 8) bad number 0 (λ e. h) (λ e. omega arith)
+
+own-small : (c : Command) → numberCause c ≤ 8
+own-small (Command.MoveToHue hue direction time options) = number-small (ltb hueLimit hue) 1 (omega arith)
+own-small (Command.MoveHue mode rate enhanced options) = number-small (eqb rate 0) 2 (omega arith)
+own-small (Command.StepHue mode size time options) = number-small (eqb size 0) 2 (omega arith)
+own-small (Command.MoveToSaturation saturation time options) = number-small (ltb saturationLimit saturation) 1 (omega arith)
+own-small (Command.MoveSaturation mode rate options) = number-small (eqb rate 0) 2 (omega arith)
+own-small (Command.StepSaturation mode size time options) = number-small (eqb size 0) 2 (omega arith)
+own-small (Command.MoveToHueAndSaturation hue saturation time enhanced enhancedHue options) =
+    number-small ((not enhanced && ltb hueLimit hue) || ltb saturationLimit saturation) 1 (omega arith)
+own-small (Command.EnhancedMoveToHue hue direction time options) = omega arith
+own-small (Command.EnhancedMoveHue mode rate options) = number-small (eqb rate 0) 2 (omega arith)
+own-small (Command.EnhancedStepHue mode size time options) = number-small (eqb size 0) 2 (omega arith)
+own-small (Command.MoveToColorTemperature mireds time options) = number-small (eqb mireds 0) 1 (omega arith)
+own-small (Command.MoveColorTemperature mode rate min max options) = number-small (eqb rate 0) 2 (omega arith)
+own-small (Command.StepColorTemperature mode size time min max options) = number-small (eqb size 0) 2 (omega arith)
+own-small (Command.ColorLoopSet flags action direction time startHue options) = omega arith
+own-small (Command.StopMoveStep options) = omega arith
+
+first-small : (l : Lamp) (clock : ℕ) → formOrClock l clock ≤ 8
+unfolding formOrClock
+first-small l clock =
+    cond-both (λ n. n ≤ 8) (not (lampForm l)) 8 _ (λ e. omega arith) (λ e. number-small (badClock l clock) 4 (omega arith))
+
+pub cause-small : (l : Lamp) (x : Call) → cause l x ≤ 8
+unfolding cause commandCause
+cause-small l (command c onOff clock) =
+    cond-both (λ n. n ≤ 8) (eqb (formOrClock l clock) 0) (afterClock l c onOff) (formOrClock l clock)
+    (λ e. cond-both (λ n. n ≤ 8) (stopMode c) 0 _ (λ e. omega arith)
+    (λ e. cond-both (λ n. n ≤ 8) (eqb (numberCause c) 0) _ (numberCause c) (λ e. number-small (allowed l c onOff && crossed (l .bounds) c) 3 (omega arith)) (λ e. own-small c)))
+    (λ e. first-small l clock)
+cause-small l (start task clock) =
+    cond-both (λ n. n ≤ 8) (eqb (formOrClock l clock) 0) _ (formOrClock l clock)
+    (λ e. cond-both (λ n. n ≤ 8) (taskForm task) 0 6 (λ e. omega arith) (λ e. omega arith))
+    (λ e. first-small l clock)
+cause-small l (step clock) =
+    cond-both (λ n. n ≤ 8) (not (lampForm l)) 8 _ (λ e. omega arith)
+    (λ e. cond-both (λ n. n ≤ 8) (not (runs (l .running))) 7 _ (λ e. omega arith) (λ e. number-small (badClock l clock) 4 (omega arith)))
+cause-small l (halt clock) = first-small l clock
 
 -- ---- at most 14 notices: an answer's list is some list of at most 14 in its places, with zeros behind
 

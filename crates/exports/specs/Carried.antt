@@ -3,7 +3,7 @@
 -- answer has room or not; a call's clock is a word of 64 bits.
 -- Assumes nothing.
 use Prim.Native.Nat.{ℕ, zero, suc, _%_, _^_, _<_, _≤_}
-use mathlib.Core.Bool.{Bool, true, false, cond, not, _&&_, _||_}
+use mathlib.Core.Bool.{Bool, true, false, cond, not, _&&_}
 use mathlib.Core.List.{List, [], _∷_}
 use mathlib.Core.Path.{_≡_, refl, sym, ap, _∙_}
 use native.Mathlib.Omega.{arith}
@@ -13,27 +13,24 @@ use lib.ListN.{length}
 use lib.Signed.{mag}
 use borrow.Author.Tests.{ltb-false}
 use Rattle.matter.specs.declared.Bounds.{Bounds}
-use Rattle.matter.specs.declared.Command.{Command}
 use Rattle.matter.specs.Laws.{cond-both}
-use Rattle.matter.specs.Limits.{clockLimit, hueLimit, saturationLimit}
+use Rattle.matter.specs.Limits.{clockLimit}
 use Rattle.matter.specs.Typed.{Byte, Clock, TypedBounds, TypedOptions, TypedCommand}
 use Rattle.tasks.specs.declared.HueDelta.{HueDelta}
 use Rattle.tasks.specs.declared.TargetSaturation.{TargetSaturation}
 use Rattle.tasks.specs.declared.Task.{Task}
-use Rattle.tasks.specs.Form.{taskForm}
-use Rattle.tasks.specs.Runs.{runs}
 use Rattle.tasks.specs.Typed.{Signed64, TypedDelta, TypedTarget, TypedTask}
 use Rattle.lamp.specs.declared.Lamp.{Lamp}
 use Rattle.lamp.specs.declared.Answer.{Answer}
-use Rattle.lamp.specs.Answers.{badClock, formOrClock, refusal}
+use Rattle.lamp.specs.Answers.{refusal}
 use Rattle.lamp.specs.Form.{lampForm}
 use Rattle.lamp.specs.Laws.{fresh-form}
 use Rattle.lamp.specs.Making.{freshLamp, making}
 use Rattle.lamp.specs.Typed.{Call, command, start, step, halt, TypedLamp, TypedCall}
 use Rattle.lamp.specs.TypedKept.{typed-of}
-use Rattle.commands.specs.Answers.{allowed, afterClock, commandCause, cause, answer}
-use Rattle.commands.specs.Commands.{stopMode, causeIf, numberCause, crossed}
+use Rattle.commands.specs.Answers.{answer}
 use Rattle.commands.specs.Kept.{number-is-cause, form-kept, typed-kept}
+use Rattle.commands.specs.Table.{cause-small}
 use Rattle.exports.specs.declared.moves.TaskNumbers.{TaskNumbers}
 use Rattle.exports.specs.declared.calls.CommandNumbers.{CommandNumbers}
 use Rattle.exports.specs.Kinds as K
@@ -122,49 +119,7 @@ call-typed call clock =
     (λ e. cond-both TypedCall (eqb (at call 0) K.start) _ _ (λ e. (task-typed (startNumbers call), clock))
     (λ e. cond-both TypedCall (eqb (at call 0) K.halt) _ _ (λ e. clock) (λ e. (command-typed (commandNumbers call), clock))))
 
--- ---- the numbers of causes end at 8
-
-number-small : (bad : Bool) (number : ℕ) → number ≤ 8 → causeIf bad number ≤ 8
-number-small bad number h = cond-both (λ n. n ≤ 8) bad number 0 (λ e. h) (λ e. omega arith)
-
-own-small : (c : Command) → numberCause c ≤ 8
-own-small (Command.MoveToHue hue direction time options) = number-small (ltb hueLimit hue) 1 (omega arith)
-own-small (Command.MoveHue mode rate enhanced options) = number-small (eqb rate 0) 2 (omega arith)
-own-small (Command.StepHue mode size time options) = number-small (eqb size 0) 2 (omega arith)
-own-small (Command.MoveToSaturation saturation time options) = number-small (ltb saturationLimit saturation) 1 (omega arith)
-own-small (Command.MoveSaturation mode rate options) = number-small (eqb rate 0) 2 (omega arith)
-own-small (Command.StepSaturation mode size time options) = number-small (eqb size 0) 2 (omega arith)
-own-small (Command.MoveToHueAndSaturation hue saturation time enhanced enhancedHue options) =
-    number-small ((not enhanced && ltb hueLimit hue) || ltb saturationLimit saturation) 1 (omega arith)
-own-small (Command.EnhancedMoveToHue hue direction time options) = omega arith
-own-small (Command.EnhancedMoveHue mode rate options) = number-small (eqb rate 0) 2 (omega arith)
-own-small (Command.EnhancedStepHue mode size time options) = number-small (eqb size 0) 2 (omega arith)
-own-small (Command.MoveToColorTemperature mireds time options) = number-small (eqb mireds 0) 1 (omega arith)
-own-small (Command.MoveColorTemperature mode rate min max options) = number-small (eqb rate 0) 2 (omega arith)
-own-small (Command.StepColorTemperature mode size time min max options) = number-small (eqb size 0) 2 (omega arith)
-own-small (Command.ColorLoopSet flags action direction time startHue options) = omega arith
-own-small (Command.StopMoveStep options) = omega arith
-
-first-small : (l : Lamp) (clock : ℕ) → formOrClock l clock ≤ 8
-unfolding formOrClock
-first-small l clock =
-    cond-both (λ n. n ≤ 8) (not (lampForm l)) 8 _ (λ e. omega arith) (λ e. number-small (badClock l clock) 4 (omega arith))
-
-cause-small : (l : Lamp) (x : Call) → cause l x ≤ 8
-unfolding cause commandCause
-cause-small l (command c onOff clock) =
-    cond-both (λ n. n ≤ 8) (eqb (formOrClock l clock) 0) (afterClock l c onOff) (formOrClock l clock)
-    (λ e. cond-both (λ n. n ≤ 8) (stopMode c) 0 _ (λ e. omega arith)
-    (λ e. cond-both (λ n. n ≤ 8) (eqb (numberCause c) 0) _ (numberCause c) (λ e. number-small (allowed l c onOff && crossed (l .bounds) c) 3 (omega arith)) (λ e. own-small c)))
-    (λ e. first-small l clock)
-cause-small l (start task clock) =
-    cond-both (λ n. n ≤ 8) (eqb (formOrClock l clock) 0) _ (formOrClock l clock)
-    (λ e. cond-both (λ n. n ≤ 8) (taskForm task) 0 6 (λ e. omega arith) (λ e. omega arith))
-    (λ e. first-small l clock)
-cause-small l (step clock) =
-    cond-both (λ n. n ≤ 8) (not (lampForm l)) 8 _ (λ e. omega arith)
-    (λ e. cond-both (λ n. n ≤ 8) (not (runs (l .running))) 7 _ (λ e. omega arith) (λ e. number-small (badClock l clock) 4 (omega arith)))
-cause-small l (halt clock) = first-small l clock
+-- ---- the number of an answer to a call that is read
 
 sent-small : (l : Lamp) (call : List ℕ) → sent l call .number ≤ 100
 unfolding sent
