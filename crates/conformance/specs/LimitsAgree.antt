@@ -2,14 +2,18 @@
 -- Assumes nothing.
 use Prim.Native.Nat.{ℕ, zero, suc, _≤_, _<_, min, max}
 use mathlib.Core.Bool.{Bool, true, false, cond}
+use mathlib.Core.List.{[]}
 use mathlib.Core.Path.{_≡_, refl}
 use native.Mathlib.Omega.{arith}
-use lib.Dec.{ltb}
-use lib.IntN.{pos}
+use lib.Dec.{ltb, leb}
+use lib.IntN.{ℤ, pos}
 use borrow.Author.Tests.{ltb-true, ltb-false, ne-eqb}
 use Rattle.matter.specs.declared.Bounds.{Bounds}
 use Rattle.progress.specs.Progress.{clamp}
-use Rattle.lamp.specs.Calls.{lower, upper}
+use Rattle.tasks.specs.declared.Running.{Running}
+use Rattle.lamp.specs.declared.Lamp.{Lamp}
+use Rattle.lamp.specs.Calls.{temperatureStart}
+use Rattle.lamp.specs.Passes.{moved, temperaturePass}
 use Rattle.commands.specs.Commands.{asked, lo, hi}
 use Rattle.conformance.specs.Limits.{Allowed, Closest}
 
@@ -43,9 +47,11 @@ module _ (bounds : Bounds) where
         fieldMaximum = λ z. omega (arith, asked-is (bounds .max) maximum z);
       }
 
-  -- a move's task carries the fields, and its start finds the same bounds
-  pub move-bounds : (minimum maximum : ℕ) → (lower bounds (asked (bounds .min) minimum) ≡ lo bounds minimum) × (upper bounds (asked (bounds .max) maximum) ≡ hi bounds maximum)
-  move-bounds minimum maximum = (refl, refl)
+-- a move's task carries the fields with only 0 replaced; its start runs between the bounds that the text allows, and is done at once
+-- where they cross or meet
+pub move-bounds : (l : Lamp) (rate : ℤ) (minimum maximum : ℕ) → temperatureStart l (record { rate = rate; min = asked (l .bounds .min) minimum; max = asked (l .bounds .max) maximum }) ≡ cond (leb (hi (l .bounds) maximum) (lo (l .bounds) minimum)) (record { lamp = moved l (l .color) Running.Idle; told = []; wait = 0 }) (temperaturePass l (record { start = l .clock; mireds = l .color .mireds; rate = rate; lo = lo (l .bounds) minimum; hi = hi (l .bounds) maximum }))
+unfolding temperatureStart
+move-bounds l rate minimum maximum = refl
 
 closest-by : (least most n : ℕ) (s t : Bool) → ltb n least ≡ s → ltb most n ≡ t → least ≤ most → Closest least most n (cond s least (cond t most n))
 closest-by least most n true t e f h =

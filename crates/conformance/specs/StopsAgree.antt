@@ -22,7 +22,7 @@ use Rattle.commands.specs.Answers.{allowed, commandDone, cause, answer}
 use Rattle.commands.specs.Commands.{giving, commandEffect}
 use Rattle.conformance.specs.Stops.{Terminated, NoTimeLeft, stopTakesEffect, loopTurns}
 
--- StopMoveStep with leave to run asks for a stop, and so does every Stop mode
+-- StopMoveStep with leave to run asks for a stop (every Stop mode does: `options-passed-by` in OptionsAgree)
 pub stop-asked : (l : Lamp) (options : CommandOptions) (onOff : OnOff) → allowed l (Command.StopMoveStep options) onOff ≡ true → commandDone l (Command.StopMoveStep options) onOff ≡ giving l Task.Stop
 unfolding commandEffect
 stop-asked l options onOff e = rw e

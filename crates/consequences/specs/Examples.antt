@@ -1,4 +1,4 @@
--- Fades that meet the premises, by computation: from red to cyan through green, and the other way round; two lamps that fade
+-- Fades by computation: from red to cyan through green, and, with the premises met, the other way round; two lamps that fade
 -- together, one of them among other calls; and one whose hue moved between command and start.
 -- Assumes nothing.
 use Prim.Native.Nat.{ℕ}

@@ -162,7 +162,7 @@ task-back (Task.ColorLoop t) h s =
     record { same = simp (d .same, n .same); taken = simp (d .taken, n .taken) }
 task-back Task.Stop h s = record { same = refl; taken = refl }
 
--- the smallest number is written, and not known
+-- the smallest number, as a rate of mireds, is written, and not known
 pub smallest-unknown : (min max : ℕ) → taskKnown (taskNumbers (Task.ColorTemperatureMove (record { rate = negsuc 9223372036854775807; min = min; max = max }))) ≡ false
 unfolding taskNumbers taskKnown taskFits
 smallest-unknown min max = refl

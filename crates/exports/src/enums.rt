@@ -1,5 +1,5 @@
-// The cluster's enums by their numbers, which `matter` states. A number that no case has is read as the case that stands
-// last here.
+// The cluster's enums by their numbers, which `matter` states. A number that no case has is read as the case that the
+// line of `Reserved` has here.
 use crate::words;
 use matter::ColorLoopActionEnum;
 use matter::ColorLoopActionFound;

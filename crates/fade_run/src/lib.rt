@@ -237,7 +237,8 @@ impl Fade {
     }
 
     // As many lines as fit are written from the slice's beginning on. The contract leaves free how many (something is
-    // written where the run is not over and the slice has 512 places) and what stands in the slice behind them.
+    // written where the run is not over and the slice has 512 places), what stands in the slice behind them, and of the
+    // run that is left all but its text.
     pub fn write(self, out: &mut [u8]) -> Written
         ensures { λ r. ⌜ take (r .len) (now (out .exit)) ++ text (r .fade) ≡ text self ⌝ }
         ensures { λ r. ⌜ r .len ≤ length (now (out .exit)) ⌝ }

@@ -10,7 +10,7 @@ use Rattle.matter.specs.declared.Command.{Command}
 use Rattle.matter.specs.declared.DirectionEnum.{DirectionEnum}
 use Rattle.matter.specs.declared.MoveModeEnum.{MoveModeEnum}
 use Rattle.matter.specs.declared.OnOff.{OnOff}
-use Rattle.matter.specs.Numbers.{enhancedColorModeNumber}
+use Rattle.matter.specs.Numbers.{colorModeNumber, enhancedColorModeNumber}
 use Rattle.matter.specs.declared.ColorLoopDirectionEnum.{ColorLoopDirectionEnum}
 use Rattle.hue.specs.Hue.{pathDelta, movedHue}
 use Rattle.progress.specs.Progress.{permilleOf, partOf, broughtWithin, tenthsOf, loopWay}
@@ -75,14 +75,20 @@ at elapsed a = cond (eqb elapsed 0) a (stepAnswer (a .lamp) (5000 + elapsed))
 abbrev idle : Answer → Bool
 idle a = not (runs (a .lamp .running))
 
--- accepted and done, told nothing, with hue, saturation, mireds, enhanced mode and remaining time of the lamp
+-- accepted and done, told nothing, given no wait, with the colour, its stamps, the remaining time and the clock of the lamp
 abbrev unchanged : Answer → Bool
 unchanged a =
     eqb (a .number) 0 && idle a && eqb (a .notices .len) 0 && eqb (a .lamp .color .hue) (lamp .color .hue)
     && eqb (a .lamp .color .saturation) (lamp .color .saturation)
     && eqb (a .lamp .color .mireds) (lamp .color .mireds)
     && eqb (enhancedColorModeNumber (a .lamp .color .emode)) (enhancedColorModeNumber (lamp .color .emode))
+    && eqb (colorModeNumber (a .lamp .color .mode)) (colorModeNumber (lamp .color .mode))
+    && eqb (a .lamp .color .stamps .hue) (lamp .color .stamps .hue)
+    && eqb (a .lamp .color .stamps .saturation) (lamp .color .stamps .saturation)
+    && eqb (a .lamp .color .stamps .mireds) (lamp .color .stamps .mireds)
     && eqb (a .lamp .remaining .tenths) (lamp .remaining .tenths)
+    && eqb (a .lamp .clock) (lamp .clock)
+    && eqb (a .wait) 0
 
 -- whether the definitions say the same
 abbrev pub holds : Case → Bool
