@@ -1,7 +1,8 @@
 -- The table of causes, read off: each number in its cause and in no other, for every call; 1 and 2 as `numberCause` has them
--- (`fields-agree` and `invalid-agree` in `conformance`), which gives 1, 2 or no cause (`own-small`). For each kind of call the lines below go through all cases of its tests, in
--- the table's order, so that no two of them meet and none is left out. And: no number is above 8; no answer uses more than 14 of its sixteen places, the
--- rest being 0; a step of a running lamp in form with a good clock is never refused.
+-- (`fields-agree` and `invalid-agree` in `conformance`), which gives 1, 2 or no cause (`own-small`). For each kind of call the
+-- lines below go through all cases of its tests, in the table's order, so that no two of them meet and none is left out. And: no
+-- number is above 8; no answer uses more than 14 of its sixteen places, the rest being 0; a step of a running lamp in form with a
+-- good clock is never refused.
 -- Assumes nothing.
 use Prim.Native.Nat.{ℕ, _≤_}
 use mathlib.Core.Bool.{Bool, true, false, not, _&&_, _||_}
@@ -111,42 +112,39 @@ module _ (l : Lamp) (clock : ℕ) where
 
 -- ---- no number is above 8
 
-number-small : (bad : Bool) (number : ℕ) → number ≤ 8 → causeIf bad number ≤ 8
-number-small bad number h = cond-both (λ n. n ≤ 8) bad number 0 (λ e. h) (λ e. omega arith)
+small : {most : ℕ} (test : Bool) (number : ℕ) → number ≤ most → causeIf test number ≤ most
+small {most} test number h = cond-both (λ n. n ≤ most) test number 0 (λ e. h) (λ e. omega arith)
 
 -- a command's own numbers give 1, 2 or no cause
-own-two : (bad : Bool) (number : ℕ) → number ≤ 2 → causeIf bad number ≤ 2
-own-two bad number h = cond-both (λ n. n ≤ 2) bad number 0 (λ e. h) (λ e. omega arith)
-
 pub own-small : (c : Command) → numberCause c ≤ 2
-own-small (Command.MoveToHue hue direction time options) = own-two (ltb hueLimit hue) 1 (omega arith)
-own-small (Command.MoveHue mode rate enhanced options) = own-two (eqb rate 0) 2 (omega arith)
-own-small (Command.StepHue mode size time options) = own-two (eqb size 0) 2 (omega arith)
-own-small (Command.MoveToSaturation saturation time options) = own-two (ltb saturationLimit saturation) 1 (omega arith)
-own-small (Command.MoveSaturation mode rate options) = own-two (eqb rate 0) 2 (omega arith)
-own-small (Command.StepSaturation mode size time options) = own-two (eqb size 0) 2 (omega arith)
+own-small (Command.MoveToHue hue direction time options) = small (ltb hueLimit hue) 1 (omega arith)
+own-small (Command.MoveHue mode rate enhanced options) = small (eqb rate 0) 2 (omega arith)
+own-small (Command.StepHue mode size time options) = small (eqb size 0) 2 (omega arith)
+own-small (Command.MoveToSaturation saturation time options) = small (ltb saturationLimit saturation) 1 (omega arith)
+own-small (Command.MoveSaturation mode rate options) = small (eqb rate 0) 2 (omega arith)
+own-small (Command.StepSaturation mode size time options) = small (eqb size 0) 2 (omega arith)
 own-small (Command.MoveToHueAndSaturation hue saturation time enhanced enhancedHue options) =
-    own-two ((not enhanced && ltb hueLimit hue) || ltb saturationLimit saturation) 1 (omega arith)
+    small ((not enhanced && ltb hueLimit hue) || ltb saturationLimit saturation) 1 (omega arith)
 own-small (Command.EnhancedMoveToHue hue direction time options) = omega arith
-own-small (Command.EnhancedMoveHue mode rate options) = own-two (eqb rate 0) 2 (omega arith)
-own-small (Command.EnhancedStepHue mode size time options) = own-two (eqb size 0) 2 (omega arith)
-own-small (Command.MoveToColorTemperature mireds time options) = own-two (eqb mireds 0) 1 (omega arith)
-own-small (Command.MoveColorTemperature mode rate min max options) = own-two (eqb rate 0) 2 (omega arith)
-own-small (Command.StepColorTemperature mode size time min max options) = own-two (eqb size 0) 2 (omega arith)
+own-small (Command.EnhancedMoveHue mode rate options) = small (eqb rate 0) 2 (omega arith)
+own-small (Command.EnhancedStepHue mode size time options) = small (eqb size 0) 2 (omega arith)
+own-small (Command.MoveToColorTemperature mireds time options) = small (eqb mireds 0) 1 (omega arith)
+own-small (Command.MoveColorTemperature mode rate min max options) = small (eqb rate 0) 2 (omega arith)
+own-small (Command.StepColorTemperature mode size time min max options) = small (eqb size 0) 2 (omega arith)
 own-small (Command.ColorLoopSet flags action direction time startHue options) = omega arith
 own-small (Command.StopMoveStep options) = omega arith
 
 first-small : (l : Lamp) (clock : ℕ) → formOrClock l clock ≤ 8
 unfolding formOrClock
 first-small l clock =
-    cond-both (λ n. n ≤ 8) (not (lampForm l)) 8 _ (λ e. omega arith) (λ e. number-small (badClock l clock) 4 (omega arith))
+    cond-both (λ n. n ≤ 8) (not (lampForm l)) 8 _ (λ e. omega arith) (λ e. small (badClock l clock) 4 (omega arith))
 
 pub cause-small : (l : Lamp) (x : Call) → cause l x ≤ 8
 unfolding cause commandCause
 cause-small l (command c onOff clock) =
     cond-both (λ n. n ≤ 8) (eqb (formOrClock l clock) 0) (afterClock l c onOff) (formOrClock l clock)
     (λ e. cond-both (λ n. n ≤ 8) (stopMode c) 0 _ (λ e. omega arith)
-    (λ e. cond-both (λ n. n ≤ 8) (eqb (numberCause c) 0) _ (numberCause c) (λ e. number-small (allowed l c onOff && crossed (l .bounds) c) 3 (omega arith)) (λ e. omega (arith, own-small c))))
+    (λ e. cond-both (λ n. n ≤ 8) (eqb (numberCause c) 0) _ (numberCause c) (λ e. small (allowed l c onOff && crossed (l .bounds) c) 3 (omega arith)) (λ e. omega (arith, own-small c))))
     (λ e. first-small l clock)
 cause-small l (start task clock) =
     cond-both (λ n. n ≤ 8) (eqb (formOrClock l clock) 0) _ (formOrClock l clock)
@@ -154,7 +152,7 @@ cause-small l (start task clock) =
     (λ e. first-small l clock)
 cause-small l (step clock) =
     cond-both (λ n. n ≤ 8) (not (lampForm l)) 8 _ (λ e. omega arith)
-    (λ e. cond-both (λ n. n ≤ 8) (not (runs (l .running))) 7 _ (λ e. omega arith) (λ e. number-small (badClock l clock) 4 (omega arith)))
+    (λ e. cond-both (λ n. n ≤ 8) (not (runs (l .running))) 7 _ (λ e. omega arith) (λ e. small (badClock l clock) 4 (omega arith)))
 cause-small l (halt clock) = first-small l clock
 
 -- ---- at most 14 notices: an answer's list is some list of at most 14 in its places, with zeros behind
