@@ -6,7 +6,7 @@ use mathlib.Core.List.{[], _∷_}
 use lib.Dec.{leb, eqb}
 use Rattle.matter.specs.declared.ColorModeEnum.{ColorModeEnum}
 use Rattle.matter.specs.declared.EnhancedColorModeEnum.{EnhancedColorModeEnum}
-use Rattle.matter.specs.All.{all}
+use Rattle.matter.specs.All.{allTrue}
 use Rattle.matter.specs.Limits.{saturationLimit}
 use Rattle.matter.specs.Numbers.{colorModeNumber}
 use Rattle.matter.specs.Rules.{colorModeOf}
@@ -19,7 +19,7 @@ modesAgree mode emode = eqb (colorModeNumber mode) (colorModeNumber (colorModeOf
 
 unfoldable pub colorForm : Color → Bounds → ℕ → Bool
 colorForm c bounds clock =
-    all
+    allTrue
     ( -- "saturation above 254"
     leb (c .saturation) saturationLimit
     -- "mireds outside the bounds"

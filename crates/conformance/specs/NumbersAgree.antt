@@ -9,7 +9,7 @@ use Rattle.matter.specs.Numbers.{directionNumber, directions, moveModeNumber, m
 use Rattle.conformance.specs.Numbers.{Line, directionTable, moveModeTable, stepModeTable, actionTable, loopDirectionTable, colorModeTable, enhancedColorModeTable}
 use Rattle.conformance.specs.Options.{bit}
 
--- the port's cases with their numbers, which are all that it looks a number up in (matter/specs/Numbers, `lookup`)
+-- the port's cases with their numbers, which are all that it looks a number up in (matter/specs/Numbers, `caseNumbered`)
 abbrev pub listed : {A : Type 0} → (A → ℕ) → List A → List (Line A)
 listed number cases = map (λ a. record { number = number a; means = a }) cases
 

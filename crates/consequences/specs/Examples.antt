@@ -12,7 +12,7 @@ use Rattle.matter.specs.declared.CommandOptions.{CommandOptions}
 use Rattle.matter.specs.declared.DirectionEnum.{DirectionEnum}
 use Rattle.matter.specs.declared.MoveModeEnum.{MoveModeEnum}
 use Rattle.matter.specs.declared.OnOff.{OnOff}
-use Rattle.matter.specs.All.{all}
+use Rattle.matter.specs.All.{allTrue}
 use Rattle.matter.specs.Flags.{hasFlag}
 use Rattle.matter.specs.Typed.{TypedOptions}
 use Rattle.hue.specs.Hue.{distance, pathDelta, movedHue}
@@ -137,16 +137,16 @@ clocks e = stepClocks (begun e .lamp) (e .calls)
 
 -- 16,384 and 24,576 are green
 pub through-green : shown (redToCyan DirectionEnum.Shortest) ≡ seen 0 4 false ∷ seen 8192 3 false ∷ seen 16384 2 false ∷ seen 24576 1 false ∷ seen 32768 0 true ∷ []
-unfolding looks after answer commandCause commandAnswer formOrClock lampForm all colorForm runningForm moveToForm taskForm commandEffect startAnswer stepAnswer haltAnswer started stepped hueSaturationStart hueSaturationPass hueSet permilleOf pathDelta distance movedHue hasFlag
+unfolding looks after answer commandCause commandAnswer formOrClock lampForm allTrue colorForm runningForm moveToForm taskForm commandEffect startAnswer stepAnswer haltAnswer started stepped hueSaturationStart hueSaturationPass hueSet permilleOf pathDelta distance movedHue hasFlag
 through-green = refl
 
 pub never-green : shown (redToCyan DirectionEnum.Down) ≡ seen 0 4 false ∷ seen 57344 3 false ∷ seen 49152 2 false ∷ seen 40960 1 false ∷ seen 32768 0 true ∷ []
-unfolding looks after answer commandCause commandAnswer formOrClock lampForm all colorForm runningForm moveToForm taskForm commandEffect startAnswer stepAnswer haltAnswer started stepped hueSaturationStart hueSaturationPass hueSet permilleOf pathDelta distance movedHue hasFlag
+unfolding looks after answer commandCause commandAnswer formOrClock lampForm allTrue colorForm runningForm moveToForm taskForm commandEffect startAnswer stepAnswer haltAnswer started stepped hueSaturationStart hueSaturationPass hueSet permilleOf pathDelta distance movedHue hasFlag
 never-green = refl
 
 -- three steps of each lamp are accepted, at the same clocks, and after each they show the same
 pub same-clocks : (clocks alone ≡ 5200 ∷ 5450 ∷ 2_000_000 ∷ []) × (clocks among ≡ 5200 ∷ 5450 ∷ 2_000_000 ∷ [])
-unfolding stepClocks after answer commandCause commandAnswer formOrClock lampForm all colorForm runningForm moveToForm taskForm commandEffect startAnswer stepAnswer haltAnswer started stepped hueSaturationStart hueSaturationPass hueSet permilleOf pathDelta distance movedHue hasFlag
+unfolding stepClocks after answer commandCause commandAnswer formOrClock lampForm allTrue colorForm runningForm moveToForm taskForm commandEffect startAnswer stepAnswer haltAnswer started stepped hueSaturationStart hueSaturationPass hueSet permilleOf pathDelta distance movedHue hasFlag
 same-clocks = (refl, refl)
 
 pub same-shown : map shown (alone ∷ among ∷ []) ≡
@@ -154,25 +154,25 @@ pub same-shown : map shown (alone ∷ among ∷ []) ≡
     ∷ (seen 60000 10 false ∷ seen 60809 9 false ∷ seen 60809 9 false ∷ seen 60809 9 false ∷ seen 60809 9 false ∷ seen 62833 7 false
     ∷ seen 62833 7 false ∷ seen 2560 0 true ∷ seen 2560 0 true ∷ [])
     ∷ []
-unfolding looks after answer commandCause commandAnswer formOrClock lampForm all colorForm runningForm moveToForm taskForm commandEffect startAnswer stepAnswer haltAnswer started stepped hueSaturationStart hueSaturationPass hueSet permilleOf pathDelta distance movedHue hasFlag
+unfolding looks after answer commandCause commandAnswer formOrClock lampForm allTrue colorForm runningForm moveToForm taskForm commandEffect startAnswer stepAnswer haltAnswer started stepped hueSaturationStart hueSaturationPass hueSet permilleOf pathDelta distance movedHue hasFlag
 same-shown = refl
 
 -- 50 off the target, which is 1000
 pub off-by-50 : (movedBetween movedTo50 ≡ pos 50) × (shown movedTo50 ≡ seen 50 2 false ∷ seen 550 1 false ∷ seen 1050 0 true ∷ [])
-unfolding looks after answer commandCause commandAnswer formOrClock lampForm all colorForm runningForm moveToForm taskForm commandEffect startAnswer stepAnswer haltAnswer started stepped hueSaturationStart hueSaturationPass hueSet permilleOf pathDelta distance movedHue hasFlag
+unfolding looks after answer commandCause commandAnswer formOrClock lampForm allTrue colorForm runningForm moveToForm taskForm commandEffect startAnswer stepAnswer haltAnswer started stepped hueSaturationStart hueSaturationPass hueSet permilleOf pathDelta distance movedHue hasFlag
 off-by-50 = (refl, refl)
 
 -- ---- they meet the premises
 
 pub alike : Alike alone among
-unfolding after answer haltAnswer stepAnswer formOrClock lampForm all colorForm runningForm
+unfolding after answer haltAnswer stepAnswer formOrClock lampForm allTrue colorForm runningForm
 alike = record { found = refl; target = refl; direction = refl; tenths = refl; start = refl }
 
 typed-whileOff : TypedOptions whileOff
 typed-whileOff = record { mask = lit< tt; over = lit< tt }
 
 pub premised : Premised (redToCyan DirectionEnum.Down) × Premised alone × Premised among
-unfolding quiet after answer commandCause commandAnswer formOrClock lampForm all colorForm runningForm moveToForm taskForm commandEffect startAnswer stepAnswer haltAnswer started stepped hueSaturationStart hueSaturationPass hueSet permilleOf pathDelta distance movedHue hasFlag
+unfolding quiet after answer commandCause commandAnswer formOrClock lampForm allTrue colorForm runningForm moveToForm taskForm commandEffect startAnswer stepAnswer haltAnswer started stepped hueSaturationStart hueSaturationPass hueSet permilleOf pathDelta distance movedHue hasFlag
 premised = (
   record {
     others =
@@ -217,7 +217,7 @@ premised = (
 
 -- all but the one of the hue
 pub premised-but-hue : PremisedButHue movedTo50
-unfolding quiet after answer commandCause commandAnswer formOrClock lampForm all colorForm runningForm moveToForm taskForm commandEffect startAnswer stepAnswer haltAnswer started stepped hueSaturationStart hueSaturationPass hueSet permilleOf pathDelta distance movedHue hasFlag
+unfolding quiet after answer commandCause commandAnswer formOrClock lampForm allTrue colorForm runningForm moveToForm taskForm commandEffect startAnswer stepAnswer haltAnswer started stepped hueSaturationStart hueSaturationPass hueSet permilleOf pathDelta distance movedHue hasFlag
 premised-but-hue =
     record {
       form = refl;

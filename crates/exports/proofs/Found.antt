@@ -16,7 +16,7 @@ use Rattle.matter.specs.declared.ColorModeFound.{ColorModeFound}
 use Rattle.matter.specs.declared.EnhancedColorModeFound.{EnhancedColorModeFound}
 use Rattle.matter.specs.declared.OnOffFound.{OnOffFound}
 use Rattle.matter.specs.Laws.{and-left, and-right}
-use Rattle.matter.specs.Numbers.{lookup, directionNumber, directions, directionFound, moveModeNumber, moveModes, moveModeFound, stepModeNumber, stepModes, stepModeFound, loopActionNumber, loopActions, loopActionFound, loopDirectionNumber, loopDirections, loopDirectionFound, colorModeNumber, colorModes, colorModeFound, enhancedColorModeNumber, enhancedColorModes, enhancedColorModeFound, onOffNumber, onOffs, onOffFound}
+use Rattle.matter.specs.Numbers.{caseNumbered, directionNumber, directions, directionFound, moveModeNumber, moveModes, moveModeFound, stepModeNumber, stepModes, stepModeFound, loopActionNumber, loopActions, loopActionFound, loopDirectionNumber, loopDirections, loopDirectionFound, colorModeNumber, colorModes, colorModeFound, enhancedColorModeNumber, enhancedColorModes, enhancedColorModeFound, onOffNumber, onOffs, onOffFound}
 use Rattle.exports.specs.Words.{capped}
 
 module _ (n m : ℕ) (h : m < 255) where
@@ -33,7 +33,7 @@ module _ {A B : Type 0} (number : A → ℕ) (known : A → B) (none : B) (n : �
   below [] = true
   below (x ∷ xs) = ltb (number x) 255 && below xs
 
-  same-found : (xs : List A) → below xs ≡ true → lookup number known none xs (capped n) ≡ lookup number known none xs n
+  same-found : (xs : List A) → below xs ≡ true → caseNumbered number known none xs (capped n) ≡ caseNumbered number known none xs n
   same-found [] e = refl
   same-found (x ∷ xs) e =
       let h = ltb-true (number x) 255 (and-left _ (below xs) e) in

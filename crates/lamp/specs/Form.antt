@@ -3,7 +3,7 @@
 use mathlib.Core.Bool.{Bool}
 use mathlib.Core.List.{[], _∷_}
 use lib.Dec.{leb}
-use Rattle.matter.specs.All.{all}
+use Rattle.matter.specs.All.{allTrue}
 use Rattle.matter.specs.Limits.{clockLimit}
 use Rattle.color.specs.Form.{colorForm}
 use Rattle.tasks.specs.Form.{runningForm}
@@ -11,7 +11,7 @@ use Rattle.lamp.specs.declared.Lamp.{Lamp}
 
 unfoldable pub lampForm : Lamp → Bool
 lampForm l =
-    all
+    allTrue
     ( -- "clock above the limit"
     leb (l .clock) clockLimit
     -- saturation, mireds, bounds, modes, notice stamps

@@ -8,6 +8,6 @@ allFrom t [] = t
 allFrom t (b ∷ bs) = allFrom (t && b) bs
 
 -- every test of the list holds
-unfoldable pub all : List Bool → Bool
-all [] = true
-all (b ∷ bs) = allFrom b bs
+unfoldable pub allTrue : List Bool → Bool
+allTrue [] = true
+allTrue (b ∷ bs) = allFrom b bs

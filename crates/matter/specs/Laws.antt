@@ -7,8 +7,8 @@ use mathlib.Core.Path.{_≡_, refl, sym}
 use native.Mathlib.Omega.{arith}
 use lib.Dec.{eqb, leb}
 use borrow.Author.Tests.{eqb-true, leb-true, le-leb}
-use Rattle.matter.specs.All.{all, allFrom}
-use Rattle.matter.specs.Numbers.{lookup, directionNumber, directionFound, moveModeNumber, moveModeFound, stepModeNumber, stepModeFound, loopActionNumber, loopActionFound, loopDirectionNumber, loopDirectionFound, colorModeNumber, colorModeFound, enhancedColorModeNumber, enhancedColorModeFound, onOffNumber, onOffFound}
+use Rattle.matter.specs.All.{allTrue, allFrom}
+use Rattle.matter.specs.Numbers.{caseNumbered, directionNumber, directionFound, moveModeNumber, moveModeFound, stepModeNumber, stepModeFound, loopActionNumber, loopActionFound, loopDirectionNumber, loopDirectionFound, colorModeNumber, colorModeFound, enhancedColorModeNumber, enhancedColorModeFound, onOffNumber, onOffFound}
 use Rattle.matter.specs.declared.DirectionEnum.{DirectionEnum}
 use Rattle.matter.specs.declared.DirectionFound.{DirectionFound}
 use Rattle.matter.specs.declared.MoveModeEnum.{MoveModeEnum}
@@ -70,8 +70,8 @@ from t (b ∷ bs) e =
     let r : ((t && b) ≡ true) × Each bs = from (t && b) bs e in
     (and-left t b (r .0), (and-right t b (r .0), r .1))
 
-pub each : (bs : List Bool) → all bs ≡ true → Each bs
-unfolding all
+pub each : (bs : List Bool) → allTrue bs ≡ true → Each bs
+unfolding allTrue
 each [] e = tt
 each (b ∷ bs) e = from b bs e
 
@@ -79,8 +79,8 @@ to : (t : Bool) (bs : List Bool) → t ≡ true → Each bs → allFrom t bs ≡
 to t [] h e = h
 to t (b ∷ bs) h e = to (t && b) bs (rw (h, e .0)) (e .1)
 
-pub all-of : (bs : List Bool) → Each bs → all bs ≡ true
-unfolding all
+pub all-of : (bs : List Bool) → Each bs → allTrue bs ≡ true
+unfolding allTrue
 all-of [] e = refl
 all-of (b ∷ bs) e = to b bs (e .0) (e .1)
 
@@ -95,9 +95,9 @@ module _ {A B : Type 0} (number : A → ℕ) (known : A → B) (none : B) (n : �
   pick x r true e l = found x (sym (eqb-true n (number x) e)) refl
   pick x r false e l = l
 
-  pub looked : (xs : List A) → Looked number known none n (lookup number known none xs n)
+  pub looked : (xs : List A) → Looked number known none n (caseNumbered number known none xs n)
   looked [] = missing refl
-  looked (x ∷ xs) = pick x (lookup number known none xs n) (eqb n (number x)) refl (looked xs)
+  looked (x ∷ xs) = pick x (caseNumbered number known none xs n) (eqb n (number x)) refl (looked xs)
 
 -- ---- every case is found by its number
 

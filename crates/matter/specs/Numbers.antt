@@ -23,9 +23,9 @@ use Rattle.matter.specs.declared.OnOff.{OnOff}
 use Rattle.matter.specs.declared.OnOffFound.{OnOffFound}
 
 -- the first of the cases whose number is n, or none
-abbrev pub lookup : {A B : Type 0} → (A → ℕ) → (A → B) → B → List A → ℕ → B
-lookup number known none [] n = none
-lookup number known none (x ∷ xs) n = cond (eqb n (number x)) (known x) (lookup number known none xs n)
+abbrev pub caseNumbered : {A B : Type 0} → (A → ℕ) → (A → B) → B → List A → ℕ → B
+caseNumbered number known none [] n = none
+caseNumbered number known none (x ∷ xs) n = cond (eqb n (number x)) (known x) (caseNumbered number known none xs n)
 
 -- DirectionEnum
 abbrev pub directionNumber : DirectionEnum → ℕ
@@ -38,7 +38,7 @@ abbrev pub directions : List DirectionEnum
 directions = DirectionEnum.Shortest ∷ DirectionEnum.Longest ∷ DirectionEnum.Up ∷ DirectionEnum.Down ∷ []
 
 abbrev pub directionFound : ℕ → DirectionFound
-directionFound n = lookup directionNumber DirectionFound.Known DirectionFound.Reserved directions n
+directionFound n = caseNumbered directionNumber DirectionFound.Known DirectionFound.Reserved directions n
 
 -- MoveModeEnum
 abbrev pub moveModeNumber : MoveModeEnum → ℕ
@@ -50,7 +50,7 @@ abbrev pub moveModes : List MoveModeEnum
 moveModes = MoveModeEnum.Stop ∷ MoveModeEnum.Up ∷ MoveModeEnum.Down ∷ []
 
 abbrev pub moveModeFound : ℕ → MoveModeFound
-moveModeFound n = lookup moveModeNumber MoveModeFound.Known MoveModeFound.Reserved moveModes n
+moveModeFound n = caseNumbered moveModeNumber MoveModeFound.Known MoveModeFound.Reserved moveModes n
 
 -- StepModeEnum
 abbrev pub stepModeNumber : StepModeEnum → ℕ
@@ -61,7 +61,7 @@ abbrev pub stepModes : List StepModeEnum
 stepModes = StepModeEnum.Up ∷ StepModeEnum.Down ∷ []
 
 abbrev pub stepModeFound : ℕ → StepModeFound
-stepModeFound n = lookup stepModeNumber StepModeFound.Known StepModeFound.Reserved stepModes n
+stepModeFound n = caseNumbered stepModeNumber StepModeFound.Known StepModeFound.Reserved stepModes n
 
 -- ColorLoopActionEnum
 abbrev pub loopActionNumber : ColorLoopActionEnum → ℕ
@@ -73,7 +73,7 @@ abbrev pub loopActions : List ColorLoopActionEnum
 loopActions = ColorLoopActionEnum.Deactivate ∷ ColorLoopActionEnum.ActivateFromColorLoopStartEnhancedHue ∷ ColorLoopActionEnum.ActivateFromEnhancedCurrentHue ∷ []
 
 abbrev pub loopActionFound : ℕ → ColorLoopActionFound
-loopActionFound n = lookup loopActionNumber ColorLoopActionFound.Known ColorLoopActionFound.Reserved loopActions n
+loopActionFound n = caseNumbered loopActionNumber ColorLoopActionFound.Known ColorLoopActionFound.Reserved loopActions n
 
 -- ColorLoopDirectionEnum
 abbrev pub loopDirectionNumber : ColorLoopDirectionEnum → ℕ
@@ -84,7 +84,7 @@ abbrev pub loopDirections : List ColorLoopDirectionEnum
 loopDirections = ColorLoopDirectionEnum.Decrement ∷ ColorLoopDirectionEnum.Increment ∷ []
 
 abbrev pub loopDirectionFound : ℕ → ColorLoopDirectionFound
-loopDirectionFound n = lookup loopDirectionNumber ColorLoopDirectionFound.Known ColorLoopDirectionFound.Reserved loopDirections n
+loopDirectionFound n = caseNumbered loopDirectionNumber ColorLoopDirectionFound.Known ColorLoopDirectionFound.Reserved loopDirections n
 
 -- ColorModeEnum
 abbrev pub colorModeNumber : ColorModeEnum → ℕ
@@ -96,7 +96,7 @@ abbrev pub colorModes : List ColorModeEnum
 colorModes = ColorModeEnum.CurrentHueAndCurrentSaturation ∷ ColorModeEnum.CurrentXAndCurrentY ∷ ColorModeEnum.ColorTemperatureMireds ∷ []
 
 abbrev pub colorModeFound : ℕ → ColorModeFound
-colorModeFound n = lookup colorModeNumber ColorModeFound.Known ColorModeFound.Reserved colorModes n
+colorModeFound n = caseNumbered colorModeNumber ColorModeFound.Known ColorModeFound.Reserved colorModes n
 
 -- EnhancedColorModeEnum
 abbrev pub enhancedColorModeNumber : EnhancedColorModeEnum → ℕ
@@ -109,7 +109,7 @@ abbrev pub enhancedColorModes : List EnhancedColorModeEnum
 enhancedColorModes = EnhancedColorModeEnum.CurrentHueAndCurrentSaturation ∷ EnhancedColorModeEnum.CurrentXAndCurrentY ∷ EnhancedColorModeEnum.ColorTemperatureMireds ∷ EnhancedColorModeEnum.EnhancedCurrentHueAndCurrentSaturation ∷ []
 
 abbrev pub enhancedColorModeFound : ℕ → EnhancedColorModeFound
-enhancedColorModeFound n = lookup enhancedColorModeNumber EnhancedColorModeFound.Known EnhancedColorModeFound.Reserved enhancedColorModes n
+enhancedColorModeFound n = caseNumbered enhancedColorModeNumber EnhancedColorModeFound.Known EnhancedColorModeFound.Reserved enhancedColorModes n
 
 -- OnOff: the on/off attribute's numbers, and 2 where there is no on/off cluster (ours)
 abbrev pub onOffNumber : OnOff → ℕ
@@ -121,4 +121,4 @@ abbrev pub onOffs : List OnOff
 onOffs = OnOff.Off ∷ OnOff.On ∷ OnOff.NoHandler ∷ []
 
 abbrev pub onOffFound : ℕ → OnOffFound
-onOffFound n = lookup onOffNumber OnOffFound.Known OnOffFound.Reserved onOffs n
+onOffFound n = caseNumbered onOffNumber OnOffFound.Known OnOffFound.Reserved onOffs n

@@ -15,7 +15,7 @@ use Rattle.matter.specs.declared.DirectionEnum.{DirectionEnum}
 use Rattle.matter.specs.declared.EnhancedColorModeEnum.{EnhancedColorModeEnum}
 use Rattle.matter.specs.declared.MoveModeEnum.{MoveModeEnum}
 use Rattle.matter.specs.declared.OnOff.{OnOff}
-use Rattle.matter.specs.All.{all}
+use Rattle.matter.specs.All.{allTrue}
 use Rattle.matter.specs.Flags.{hasFlag}
 use Rattle.matter.specs.Typed.{TypedOptions}
 use Rattle.hue.specs.Hue.{distance, pathDelta, movedHue}
@@ -182,7 +182,7 @@ pub typed-plain : TypedOptions plain
 typed-plain = record { mask = lit< tt; over = lit< tt }
 
 pub all-meet : Premised paceKept × Premised noWay × Premised noTime × Premised pastZero × Premised amongOthers
-unfolding after quiet answer commandCause commandAnswer formOrClock lampForm all colorForm runningForm moveToForm taskForm commandEffect startAnswer stepAnswer haltAnswer started stepped hueSaturationStart hueSaturationPass hueSet permilleOf pathDelta distance movedHue hasFlag
+unfolding after quiet answer commandCause commandAnswer formOrClock lampForm allTrue colorForm runningForm moveToForm taskForm commandEffect startAnswer stepAnswer haltAnswer started stepped hueSaturationStart hueSaturationPass hueSet permilleOf pathDelta distance movedHue hasFlag
 all-meet = (
   record {
     others =
@@ -253,7 +253,7 @@ all-meet = (
 
 -- and each accepted step comes at or after the wait that was asked
 pub all-wait : map waitsKept examples ≡ true ∷ true ∷ true ∷ true ∷ true ∷ []
-unfolding paced after answer commandCause commandAnswer formOrClock lampForm all colorForm runningForm moveToForm taskForm commandEffect startAnswer stepAnswer haltAnswer started stepped hueSaturationStart hueSaturationPass hueSet permilleOf pathDelta distance movedHue hasFlag
+unfolding paced after answer commandCause commandAnswer formOrClock lampForm allTrue colorForm runningForm moveToForm taskForm commandEffect startAnswer stepAnswer haltAnswer started stepped hueSaturationStart hueSaturationPass hueSet permilleOf pathDelta distance movedHue hasFlag
 all-wait = refl
 
 -- ---- what their lamps show, from the start on
@@ -266,10 +266,10 @@ pub all-show : map shown examples ≡
     ∷ (seen 60000 10 false ∷ seen 60653 9 false ∷ seen 60653 9 false ∷ seen 60653 9 false ∷ seen 60653 9 false ∷ seen 60653 9 false
     ∷ seen 60653 9 false ∷ seen 60653 9 false ∷ seen 60653 9 false ∷ seen 1000 0 true ∷ seen 1000 0 true ∷ [])
     ∷ []
-unfolding looks after answer commandCause commandAnswer formOrClock lampForm all colorForm runningForm moveToForm taskForm commandEffect startAnswer stepAnswer haltAnswer started stepped hueSaturationStart hueSaturationPass hueSet permilleOf pathDelta distance movedHue hasFlag
+unfolding looks after answer commandCause commandAnswer formOrClock lampForm allTrue colorForm runningForm moveToForm taskForm commandEffect startAnswer stepAnswer haltAnswer started stepped hueSaturationStart hueSaturationPass hueSet permilleOf pathDelta distance movedHue hasFlag
 all-show = refl
 
 -- as many steps as tenths, where each comes as soon as it may
 pub all-take : map stepsTaken examples ≡ 2 ∷ 0 ∷ 0 ∷ 4 ∷ 2 ∷ []
-unfolding steps after answer commandCause commandAnswer formOrClock lampForm all colorForm runningForm moveToForm taskForm commandEffect startAnswer stepAnswer haltAnswer started stepped hueSaturationStart hueSaturationPass hueSet permilleOf pathDelta distance movedHue hasFlag
+unfolding steps after answer commandCause commandAnswer formOrClock lampForm allTrue colorForm runningForm moveToForm taskForm commandEffect startAnswer stepAnswer haltAnswer started stepped hueSaturationStart hueSaturationPass hueSet permilleOf pathDelta distance movedHue hasFlag
 all-take = refl

@@ -8,7 +8,7 @@ use lib.Dec.{leb, ltb, eqb}
 use lib.IntN.{ℤ, pos, negℤ, natAbs}
 use lib.Signed.{leZ}
 use Rattle.matter.specs.declared.MoveModeEnum.{MoveModeEnum}
-use Rattle.matter.specs.All.{all}
+use Rattle.matter.specs.All.{allTrue}
 use Rattle.matter.specs.Limits.{saturationLimit}
 use Rattle.matter.specs.declared.Bounds.{Bounds}
 use Rattle.tasks.specs.declared.HueDelta.{HueDelta}
@@ -58,15 +58,15 @@ rateForm rate = not (eqb (natAbs rate) 0) && small rate
 -- a move-to; the last test is "neither hue nor saturation"
 unfoldable pub moveToForm : HueSaturationMoveTo → Bool
 moveToForm t =
-    all (timeForm (t .ms) ∷ deltaForm (t .delta) ∷ saturationForm (t .saturation) ∷ (deltaGiven (t .delta) || saturationGiven (t .saturation)) ∷ [])
+    allTrue (timeForm (t .ms) ∷ deltaForm (t .delta) ∷ saturationForm (t .saturation) ∷ (deltaGiven (t .delta) || saturationGiven (t .saturation)) ∷ [])
 
 -- "rate 0; hue rate above 65,535"; Stop
 unfoldable pub hueMoveForm : HueMove → Bool
-hueMoveForm t = all (ltb 0 (t .rate) ∷ leb (t .rate) 65535 ∷ moves (t .direction) ∷ [])
+hueMoveForm t = allTrue (ltb 0 (t .rate) ∷ leb (t .rate) 65535 ∷ moves (t .direction) ∷ [])
 
 -- "rate 0; saturation rate above 255"; Stop
 unfoldable pub saturationMoveForm : SaturationMove → Bool
-saturationMoveForm t = all (ltb 0 (t .rate) ∷ leb (t .rate) 255 ∷ moves (t .direction) ∷ [])
+saturationMoveForm t = allTrue (ltb 0 (t .rate) ∷ leb (t .rate) 255 ∷ moves (t .direction) ∷ [])
 
 -- a task in form; "the Stop task itself" is out of it
 unfoldable pub taskForm : Task → Bool
@@ -88,17 +88,17 @@ withinBounds bounds mireds = leb (bounds .min) mireds && leb mireds (bounds .max
 unfoldable pub runningForm : Running → Bounds → ℕ → Bool
 runningForm Running.Idle bounds clock = true
 runningForm (Running.HueSaturationMoveTo run) bounds clock =
-    all (moveToForm (run .task) ∷ ltb 0 (run .task .ms) ∷ leb (run .saturation) saturationLimit ∷ leb (run .start) clock ∷ [])
-runningForm (Running.HueMove run) bounds clock = all (hueMoveForm (run .task) ∷ leb (run .start) clock ∷ [])
+    allTrue (moveToForm (run .task) ∷ ltb 0 (run .task .ms) ∷ leb (run .saturation) saturationLimit ∷ leb (run .start) clock ∷ [])
+runningForm (Running.HueMove run) bounds clock = allTrue (hueMoveForm (run .task) ∷ leb (run .start) clock ∷ [])
 runningForm (Running.SaturationMove run) bounds clock =
-    all (saturationMoveForm (run .task) ∷ leb (run .saturation) saturationLimit ∷ leb (run .start) clock ∷ [])
+    allTrue (saturationMoveForm (run .task) ∷ leb (run .saturation) saturationLimit ∷ leb (run .start) clock ∷ [])
 runningForm (Running.ColorTemperatureMoveTo run) bounds clock =
-    all
+    allTrue
     (timeForm (run .task .ms) ∷ ltb 0 (run .task .ms) ∷ withinBounds bounds (run .mireds) ∷ withinBounds bounds (run .task .target)
     ∷ leb (run .start) clock
     ∷ [])
 runningForm (Running.ColorTemperatureMove run) bounds clock =
-    all
+    allTrue
     (rateForm (run .rate) ∷ withinBounds bounds (run .mireds) ∷ ltb (run .lo) (run .hi) ∷ withinBounds bounds (run .lo) ∷ withinBounds bounds (run .hi)
     ∷ leb (run .start) clock
     ∷ [])

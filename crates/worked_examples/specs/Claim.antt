@@ -3,7 +3,7 @@
 use mathlib.Core.Bool.{true}
 use mathlib.Core.List.{map}
 use mathlib.Core.Path.{_≡_, refl}
-use Rattle.matter.specs.All.{all}
+use Rattle.matter.specs.All.{allTrue}
 use Rattle.matter.specs.Flags.{hasFlag}
 use Rattle.matter.specs.Rules.{defaultColorMode}
 use Rattle.notices.specs.Notices.{filled}
@@ -21,6 +21,6 @@ use Rattle.commands.specs.Commands.{commandEffect}
 use Rattle.commands.specs.Answers.{commandCause, commandAnswer}
 use Rattle.worked_examples.specs.Cases.{cases, holds}
 
-worked-examples : all (map holds cases) ≡ true
-unfolding all hasFlag defaultColorMode distance pathDelta movedHue permilleOf snapped loopTurn clamp told filled miredsSet miredsTold colorForm taskForm runningForm lampForm formOrClock temperaturePass temperatureStart started stepped startAnswer stepAnswer commandEffect commandCause commandAnswer
+worked-examples : allTrue (map holds cases) ≡ true
+unfolding allTrue hasFlag defaultColorMode distance pathDelta movedHue permilleOf snapped loopTurn clamp told filled miredsSet miredsTold colorForm taskForm runningForm lampForm formOrClock temperaturePass temperatureStart started stepped startAnswer stepAnswer commandEffect commandCause commandAnswer
 worked-examples = refl

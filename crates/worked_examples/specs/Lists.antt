@@ -12,7 +12,7 @@ use Rattle.matter.specs.declared.ColorLoopDirectionEnum.{ColorLoopDirectionEnum
 use Rattle.matter.specs.declared.Command.{Command}
 use Rattle.matter.specs.declared.DirectionEnum.{DirectionEnum}
 use Rattle.matter.specs.declared.OnOff.{OnOff}
-use Rattle.matter.specs.All.{all}
+use Rattle.matter.specs.All.{allTrue}
 use Rattle.matter.specs.Flags.{hasFlag}
 use Rattle.matter.specs.Rules.{defaultColorMode}
 use Rattle.notices.specs.Notices.{filled}
@@ -60,21 +60,21 @@ abbrev third : Answer
 third = stepAnswer (second .lamp) 5200
 
 fade-command : given (Command.MoveToHue 128 DirectionEnum.Shortest 2 (record { mask = 0; over = 0 })) .task ≡ GivenTask.Given (Task.HueSaturationMoveTo (record { delta = HueDelta.By (pos 32768); saturation = TargetSaturation.Keep; ms = 200; enhanced = false }))
-unfolding hasFlag defaultColorMode all colorForm runningForm lampForm formOrClock clamp distance pathDelta commandEffect commandCause commandAnswer
+unfolding hasFlag defaultColorMode allTrue colorForm runningForm lampForm formOrClock clamp distance pathDelta commandEffect commandCause commandAnswer
 fade-command = refl
 
 fade-told : map listed (first ∷ second ∷ third ∷ []) ≡ ((15 ∷ []) ∷ (13 ∷ 2 ∷ 6 ∷ 7 ∷ 14 ∷ 15 ∷ []) ∷ (13 ∷ 2 ∷ 6 ∷ 7 ∷ 14 ∷ 15 ∷ 1 ∷ []) ∷ [])
-unfolding hasFlag defaultColorMode all colorForm moveToForm taskForm runningForm lampForm formOrClock clamp movedHue permilleOf told filled hueSet hueTold hueSaturationPass hueSaturationStart started stepped startAnswer stepAnswer
+unfolding hasFlag defaultColorMode allTrue colorForm moveToForm taskForm runningForm lampForm formOrClock clamp movedHue permilleOf told filled hueSet hueTold hueSaturationPass hueSaturationStart started stepped startAnswer stepAnswer
 fade-told = refl
 
 fade-waits : map (λ (a : Answer). a .wait) (first ∷ second ∷ third ∷ []) ≡ (100 ∷ 100 ∷ 0 ∷ [])
-unfolding hasFlag defaultColorMode all colorForm moveToForm taskForm runningForm lampForm formOrClock clamp movedHue permilleOf told filled hueSet hueTold hueSaturationPass hueSaturationStart started stepped startAnswer stepAnswer
+unfolding hasFlag defaultColorMode allTrue colorForm moveToForm taskForm runningForm lampForm formOrClock clamp movedHue permilleOf told filled hueSet hueTold hueSaturationPass hueSaturationStart started stepped startAnswer stepAnswer
 fade-waits = refl
 
 -- ---- the full time first: way 1 in 1100 ms; and the longest list, no way and saturation 0, enhanced
 
 start-told : map listed (begun (HueDelta.By (pos 1)) TargetSaturation.Keep 1100 false ∷ begun (HueDelta.By (pos 0)) (TargetSaturation.To 0) 1100 true ∷ []) ≡ ((1 ∷ 15 ∷ []) ∷ (1 ∷ 13 ∷ 2 ∷ 3 ∷ 6 ∷ 7 ∷ 14 ∷ 13 ∷ 4 ∷ 6 ∷ 7 ∷ 14 ∷ 15 ∷ 1 ∷ []) ∷ [])
-unfolding hasFlag defaultColorMode all colorForm moveToForm taskForm runningForm lampForm formOrClock clamp movedHue permilleOf told filled hueSet hueTold saturationSet saturationTold hueSaturationPass hueSaturationStart started stepped startAnswer stepAnswer
+unfolding hasFlag defaultColorMode allTrue colorForm moveToForm taskForm runningForm lampForm formOrClock clamp movedHue permilleOf told filled hueSet hueTold saturationSet saturationTold hueSaturationPass hueSaturationStart started stepped startAnswer stepAnswer
 start-told = refl
 
 -- ---- time 0 with remaining 5: way 1 in 500 ms was started before
@@ -83,7 +83,7 @@ abbrev fiveLeft : Lamp
 fiveLeft = begun (HueDelta.By (pos 1)) TargetSaturation.Keep 500 false .lamp
 
 at-once-told : (fiveLeft .remaining .tenths ≡ 5) × (listed (begunOn fiveLeft (HueDelta.By (pos 1)) TargetSaturation.Keep 0 false) ≡ (1 ∷ 13 ∷ 2 ∷ 6 ∷ 7 ∷ 14 ∷ 15 ∷ []))
-unfolding hasFlag defaultColorMode all colorForm moveToForm taskForm runningForm lampForm formOrClock clamp movedHue permilleOf told filled hueSet hueTold hueSaturationPass hueSaturationStart started stepped startAnswer stepAnswer
+unfolding hasFlag defaultColorMode allTrue colorForm moveToForm taskForm runningForm lampForm formOrClock clamp movedHue permilleOf told filled hueSet hueTold hueSaturationPass hueSaturationStart started stepped startAnswer stepAnswer
 at-once-told = (refl, refl)
 
 -- ---- the colour loop: on with all flags, on again, off, off again; and with no flag
@@ -102,11 +102,11 @@ abbrev off : Answer
 off = looped ColorLoopActionEnum.Deactivate (on .lamp)
 
 loop-told : map listed (on ∷ looped ColorLoopActionEnum.ActivateFromEnhancedCurrentHue (on .lamp) ∷ off ∷ looped ColorLoopActionEnum.Deactivate (off .lamp) ∷ []) ≡ ((9 ∷ 10 ∷ 11 ∷ 13 ∷ 12 ∷ 8 ∷ 2 ∷ 3 ∷ 6 ∷ 7 ∷ 14 ∷ 15 ∷ 17 ∷ []) ∷ (9 ∷ 10 ∷ 11 ∷ 13 ∷ 2 ∷ 3 ∷ 6 ∷ 7 ∷ 14 ∷ 15 ∷ 17 ∷ []) ∷ (9 ∷ 10 ∷ 11 ∷ 13 ∷ 17 ∷ 8 ∷ 13 ∷ 2 ∷ 3 ∷ 6 ∷ 7 ∷ 14 ∷ 15 ∷ []) ∷ (9 ∷ 10 ∷ 11 ∷ 13 ∷ []) ∷ [])
-unfolding hasFlag defaultColorMode all colorForm runningForm lampForm formOrClock clamp filled hueSet hueTold deactivated activated loopSet commandEffect commandCause commandAnswer
+unfolding hasFlag defaultColorMode allTrue colorForm runningForm lampForm formOrClock clamp filled hueSet hueTold deactivated activated loopSet commandEffect commandCause commandAnswer
 loop-told = refl
 
 no-flag-told : listed (loopFlags 0 ColorLoopActionEnum.ActivateFromEnhancedCurrentHue lamp) ≡ (13 ∷ [])
-unfolding hasFlag defaultColorMode all colorForm runningForm lampForm formOrClock clamp filled loopSet commandEffect commandCause commandAnswer
+unfolding hasFlag defaultColorMode allTrue colorForm runningForm lampForm formOrClock clamp filled loopSet commandEffect commandCause commandAnswer
 no-flag-told = refl
 
 -- ---- the snap at its numbers: a turn's part of 65,152 and more goes up, one of 384 and less goes down, but in the first turn

@@ -1,6 +1,6 @@
 -- The tests of the code are the tests of the definition, in the same order.
 -- Assumes nothing.
-use Rattle.matter.specs.All.{all}
+use Rattle.matter.specs.All.{allTrue}
 use Rattle.color.specs.Form.{colorForm}
 use borrow.Author.Needs.{needs}
 use Rattle.color.proofs.Color.in_form.Statement.{statement}
@@ -10,7 +10,7 @@ modes-agree-requires : tie.Need-modes-agree-requires
 modes-agree-requires c κs = search needs
 
 returns : tie.Need-returns
-unfolding colorForm all
+unfolding colorForm allTrue
 returns c =
     let at-modes-agree = c .before .before .before .before .before .before .before .before .before in
     simp (at-modes-agree .modes-agree .ensures)

@@ -1,6 +1,6 @@
 -- The tests of the clock, the colour and the running record, in the order of the definition.
 -- Assumes nothing.
-use Rattle.matter.specs.All.{all}
+use Rattle.matter.specs.All.{allTrue}
 use Rattle.lamp.specs.Form.{lampForm}
 use borrow.Author.Needs.{needs}
 use Rattle.lamp.proofs.Lamp.in_form.Statement.{statement}
@@ -15,7 +15,7 @@ in-form-requires-2 : tie.Need-in-form-requires-2
 in-form-requires-2 c κs = search needs
 
 returns : tie.Need-returns
-unfolding lampForm all
+unfolding lampForm allTrue
 returns c = simp (c .in-form2 .ensures, c .before .in-form .ensures)
 
 pub in-form-spec : {M : Type 1} → statement M

@@ -1,6 +1,6 @@
 -- Each test is what the function called for it ensures.
 -- Assumes nothing.
-use Rattle.matter.specs.All.{all}
+use Rattle.matter.specs.All.{allTrue}
 use Rattle.tasks.specs.Form.{moveToForm}
 use borrow.Author.Needs.{needs}
 use Rattle.tasks.proofs.HueSaturationMoveTo.in_form.Statement.{statement}
@@ -26,7 +26,7 @@ given-requires-2 : tie.Need-given-requires-2
 given-requires-2 c κs = search needs
 
 returns : tie.Need-returns
-unfolding moveToForm all
+unfolding moveToForm allTrue
 returns c =
     let at-in-form2 = c .before .before in
     let at-in-form = at-in-form2 .before in

@@ -3,7 +3,7 @@
 use mir.Syntax.{w64}
 use mir.Val.{toZ, ofZ}
 use mathlib.Core.Path.{_≡_}
-use Rattle.matter.specs.All.{all}
+use Rattle.matter.specs.All.{allTrue}
 use Rattle.tasks.specs.Form.{runningForm}
 use borrow.Author.Needs.{needs}
 use Rattle.tasks.proofs.Running.in_form.Statement.{statement}
@@ -64,26 +64,26 @@ enum-known-self-6 : tie.Need-enum-known-self-6
 enum-known-self-6 c = search needs
 
 returns : tie.Need-returns
-unfolding runningForm all
+unfolding runningForm allTrue
 returns c = simp (c .enum-told .given .1)
 
 returns-2 : tie.Need-returns-2
-unfolding runningForm all
+unfolding runningForm allTrue
 returns-2 c =
     let at-in-form = c .before .before .before in
     let at-self = at-in-form .before .before .before in
     simp (at-in-form .in-form .ensures, at-self .self .given .1)
 
 returns-3 : tie.Need-returns-3
-unfolding runningForm all
+unfolding runningForm allTrue
 returns-3 c = simp (c .before .in-form2 .ensures, c .before .before .before .before .self2 .given .1)
 
 returns-4 : tie.Need-returns-4
-unfolding runningForm all
+unfolding runningForm allTrue
 returns-4 c = simp (c .before .before .in-form3 .ensures, c .before .before .before .before .before .self3 .given .1)
 
 returns-5 : tie.Need-returns-5
-unfolding runningForm all
+unfolding runningForm allTrue
 returns-5 c =
     let at-within-bounds = c .before .before in
     let at-time-in-form = at-within-bounds .before .before in
@@ -91,7 +91,7 @@ returns-5 c =
     simp (c .before .within-bounds2 .ensures, at-within-bounds .within-bounds .ensures, at-time-in-form .time-in-form .ensures, at-self4 .self4 .given .1)
 
 returns-6 : tie.Need-returns-6
-unfolding runningForm all
+unfolding runningForm allTrue
 returns-6 c =
     let at-within-bounds4 = c .before .before in
     let at-within-bounds3 = at-within-bounds4 .before .before in
@@ -101,7 +101,7 @@ returns-6 c =
     simp (e, c .before .within-bounds5 .ensures, at-within-bounds4 .within-bounds4 .ensures, at-within-bounds3 .within-bounds3 .ensures, at-rate-in-form .rate-in-form .ensures, at-self5 .self5 .given .1)
 
 returns-7 : tie.Need-returns-7
-unfolding runningForm all
+unfolding runningForm allTrue
 returns-7 c = simp (c .before .before .self6 .given .1)
 
 pub in-form-spec : {M : Type 1} → statement M
