@@ -3,12 +3,13 @@
 -- Assumes nothing.
 use mathlib.Core.Path.{_≡_, refl}
 use mathlib.Core.Bool.{Bool, true, false, cond}
-use Prim.Native.Nat.{ℕ, zero, suc, _+_, _-_, _*_, _/_, _%_, _^_, _≤_, _<_}
+use Prim.Native.Nat.{ℕ, zero, suc, _+_, _-_, _*_, _/_, _%_, _^_, _≤_, _<_, max}
 use native.Mathlib.Nat.{le-refl, lt-of-le-of-lt, lt-of-lt-of-le, div-le-self}
 use native.Mathlib.Omega.{arith}
 use lib.Dec.{ltb, lit≤}
-use lib.IntN.{ℤ, pos, negsuc, negℤ, natAbs, _+ℤ_, _*ℤ_}
+use lib.IntN.{ℤ, pos, negsuc, negℤ, natAbs, _+ℤ_, _-ℤ_, _*ℤ_}
 use lib.Signed.{mag, quotZ, remZ, natAbs-le}
+use borrow.Author.Tests.{ltb-true}
 use mir.Syntax.{Width, w32, w64}
 use mir.Val.{SFits, hbits, toZ, ofZ}
 use mir.ValLaws.{toZ-ofZ, sfits-le}
@@ -40,6 +41,15 @@ abs-add (pos m) (pos n) = le-refl (m + n)
 abs-add (pos m) (negsuc n) = diff-size m n (ltb m (suc n))
 abs-add (negsuc m) (pos n) = omega (arith, diff-size n m (ltb n (suc m)))
 abs-add (negsuc m) (negsuc n) = omega arith
+
+-- a difference of naturals is no larger than the larger
+difference-by : (a b : ℕ) (t : Bool) → ltb a (suc b) ≡ t → natAbs (cond t (negsuc (suc b - suc a)) (pos (a - suc b))) ≤ max a (suc b)
+difference-by a b true e = omega (arith, ltb-true a (suc b) e)
+difference-by a b false e = omega arith
+
+pub abs-difference : (a b : ℕ) → natAbs (pos a -ℤ pos b) ≤ max a b
+abs-difference a zero = omega arith
+abs-difference a (suc b) = difference-by a b (ltb a (suc b)) refl
 
 -- ---- fitting a width
 

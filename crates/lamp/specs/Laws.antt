@@ -1,8 +1,9 @@
 -- Making and refusals: each number in its cause and in no other, and a lamp that is made is in form.
 -- Assumes nothing.
 use Prim.Native.Nat.{ℕ, _≤_, _<_}
+use mathlib.Core.Option.{some, none}
 use mathlib.Core.Bool.{Bool, true, false, cond}
-use mathlib.Core.Path.{_≡_, refl, sym}
+use mathlib.Core.Path.{_≡_, refl, sym, ap}
 use native.Mathlib.Omega.{arith}
 use lib.Dec.{eqb}
 use lib.IntN.{pos}
@@ -21,7 +22,7 @@ use Rattle.lamp.specs.declared.Lamp.{Lamp}
 use Rattle.lamp.specs.declared.Made.{Made}
 use Rattle.lamp.specs.Answers.{badClock, formOrClock}
 use Rattle.lamp.specs.Form.{lampForm}
-use Rattle.lamp.specs.Making.{freshLamp, makingCause, making, madeNumber}
+use Rattle.lamp.specs.Making.{freshLamp, makingCause, making, madeValues, makingValues}
 
 -- ---- making: 4 exactly above the limit, whatever the bounds; 5 exactly at a good clock with crossed bounds
 
@@ -35,15 +36,17 @@ module _ (bounds : Bounds) (clock : ℕ) where
   pub making-accepted : clock ≤ clockLimit → bounds .min ≤ bounds .max → makingCause bounds clock ≡ 0
   making-accepted h k = simp (le-ltb _ _ h, le-ltb _ _ k)
 
--- the number of the answer is the cause
-number-by : (n : ℕ) (l : Lamp) (t : Bool) → eqb n 0 ≡ t → madeNumber (cond t (Made.Lamp l) (Made.Refused n)) ≡ n
-number-by n l true e = sym (eqb-true n 0 e)
-number-by n l false e = refl
+-- the answer's number is the cause, and its lamp the fresh one exactly where there is none
+values-by : (n : ℕ) (l : Lamp) (t : Bool) → eqb n 0 ≡ t →
+    madeValues (cond t (Made.Lamp l) (Made.Refused n)) ≡ record { number = n; lamp = cond t (some l) none }
+values-by n l true e = ap (λ m. record { number = m; lamp = some l }) (sym (eqb-true n 0 e))
+values-by n l false e = refl
 
-pub made-number : (bounds : Bounds) (features options clock : ℕ) → madeNumber (making bounds features options clock) ≡ makingCause bounds clock
-unfolding making
-made-number bounds features options clock =
-    number-by (makingCause bounds clock) (freshLamp bounds features options clock) (eqb (makingCause bounds clock) 0) refl
+pub made-values : (bounds : Bounds) (features options clock : ℕ) →
+    madeValues (making bounds features options clock) ≡ makingValues bounds features options clock
+unfolding making makingValues
+made-values bounds features options clock =
+    values-by (makingCause bounds clock) (freshLamp bounds features options clock) (eqb (makingCause bounds clock) 0) refl
 
 -- ---- a lamp that is made is in form
 

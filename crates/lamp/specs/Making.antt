@@ -2,6 +2,7 @@
 -- Assumes nothing.
 use Prim.Native.Nat.{ℕ}
 use mathlib.Core.Bool.{false, cond}
+use mathlib.Core.Option.{Option, some, none}
 use lib.Dec.{ltb, eqb}
 use Rattle.matter.specs.declared.Bounds.{Bounds}
 use Rattle.matter.specs.declared.ColorLoopDirectionEnum.{ColorLoopDirectionEnum}
@@ -34,7 +35,17 @@ unfoldable pub making : Bounds → ℕ → ℕ → ℕ → Made
 making bounds features options clock =
     cond (eqb (makingCause bounds clock) accepted) (Made.Lamp (freshLamp bounds features options clock)) (Made.Refused (makingCause bounds clock))
 
--- the number of an answer to a making
-abbrev pub madeNumber : Made → ℕ
-madeNumber (Made.Lamp l) = accepted
-madeNumber (Made.Refused number) = number
+-- document 01's number and lamp for each case of the answer: the number 0 and the lamp, or the refusal's number and no lamp
+pub record MadeValues : Type 0 where
+  pub number : ℕ
+  pub lamp : Option Lamp
+
+abbrev pub madeValues : Made → MadeValues
+madeValues (Made.Lamp l) = record { number = accepted; lamp = some l }
+madeValues (Made.Refused number) = record { number = number; lamp = none }
+
+-- and those that a making must have
+unfoldable pub makingValues : Bounds → ℕ → ℕ → ℕ → MadeValues
+makingValues bounds features options clock =
+    let cause : ℕ = makingCause bounds clock in
+    record { number = cause; lamp = cond (eqb cause accepted) (some (freshLamp bounds features options clock)) none }

@@ -14,7 +14,7 @@ use tasks::GivenTask;
 use tasks::Running;
 ghost use mathlib.Core.Path.{_≡_};
 ghost use Rattle.lamp.specs.Form.{lampForm};
-ghost use Rattle.lamp.specs.Making.{freshLamp, makingCause, making, madeNumber};
+ghost use Rattle.lamp.specs.Making.{freshLamp, making, madeValues, makingValues};
 ghost use Rattle.lamp.specs.Answers.{atClock, formOrClock, refusal};
 
 // The causes of a refusal that a lamp as such can give, by document 01's numbers.
@@ -87,7 +87,7 @@ impl Lamp {
     // A fresh lamp, unless the clock is above the limit or the bounds are crossed.
     pub fn new(bounds: Bounds, feature_map: u32, options: u8, clock: u64) -> Made
         ensures { λ r. ⌜ r ≡ making bounds «feature_map» options clock ⌝ }
-        ensures { λ r. ⌜ madeNumber r ≡ makingCause bounds clock ⌝ }
+        ensures { λ r. ⌜ madeValues r ≡ makingValues bounds «feature_map» options clock ⌝ }
     {
         if CLOCK_LIMIT < clock {
             return Made::Refused(CLOCK_REFUSED);

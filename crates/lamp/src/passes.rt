@@ -47,20 +47,20 @@ pub struct Passed {
 }
 
 // The way from one number to another, with its sign.
-fn way_between(start: u16, target: u16) -> i32
+fn way_between(start: u16, target: u16) -> i64
     ensures { λ r. ⌜ r ≡ pos target -ℤ pos start ⌝ }
 {
-    (target as i32) - (start as i32)
+    (target as i64) - (start as i64)
 }
 
 // A rate with the sign of its direction.
-fn signed_rate(direction: MoveModeEnum, rate: u16) -> i32
+fn signed_rate(direction: MoveModeEnum, rate: u32) -> i64
     ensures { λ r. ⌜ r ≡ signed direction rate ⌝ }
 {
     match direction {
         MoveModeEnum::Stop => 0,
-        MoveModeEnum::Up => rate as i32,
-        MoveModeEnum::Down => -(rate as i32),
+        MoveModeEnum::Up => rate as i64,
+        MoveModeEnum::Down => -(rate as i64),
     }
 }
 
@@ -104,7 +104,7 @@ fn move_hue(
             notices: list,
         },
         HueDelta::By(way) => {
-            let now = moved_hue(start, part(way as i32, permille));
+            let now = moved_hue(start, part(way, permille));
             color.set_hue(list, now, 1000 <= permille, is_enhanced, clock, loop_active)
         }
     }
@@ -271,7 +271,7 @@ impl Lamp {
     {
         let task = run.task;
         let direction = task.direction;
-        let rate = signed_rate(direction, task.rate as u16);
+        let rate = signed_rate(direction, task.rate);
         let now = moved_hue(run.hue, way_at_rate(rate, elapsed(run.start, self.clock)));
         let old = self.color;
         let set = old.set_hue(
@@ -301,7 +301,7 @@ impl Lamp {
     {
         let task = run.task;
         let direction = task.direction;
-        let rate = signed_rate(direction, task.rate as u16);
+        let rate = signed_rate(direction, task.rate);
         let now = moved_saturation(
             run.saturation,
             way_at_rate(rate, elapsed(run.start, self.clock)),
@@ -330,7 +330,7 @@ impl Lamp {
         requires { ⌜ rateForm (run .rate) ≡ true ⌝ }
         ensures { λ r. ⌜ r ≡ passedOf list (temperaturePass self run) ⌝ }
     {
-        let way = way_at_rate(run.rate as i32, elapsed(run.start, self.clock));
+        let way = way_at_rate(run.rate, elapsed(run.start, self.clock));
         let now = brought_within(run.lo, run.hi, run.mireds, way);
         let is_end = mireds_done(run.rate, run.lo, run.hi, now);
         let old = self.color;

@@ -16,7 +16,7 @@ use Rattle.integers.proofs.Sizes.{abs-mul, abs-quot}
 use Rattle.integers.proofs.Signs.{neg-mul, neg-quot}
 use Rattle.matter.specs.declared.ColorLoopDirectionEnum.{ColorLoopDirectionEnum}
 use Rattle.matter.specs.Limits.{clockLimit}
-use Rattle.progress.specs.Progress.{permilleOf, partOf, wayAtRate, loopMs, snapped, loopTurn, loopWay, tenthsOf, clamp}
+use Rattle.progress.specs.Progress.{permilleOf, limited, partOf, wayAtRate, loopMs, snapped, loopTurn, loopWay, tenthsOf, clamp}
 
 -- ---- sums of the document
 
@@ -112,6 +112,25 @@ part-within way p h = omega (arith, part-size way p, mul-le-mul-left (natAbs way
 -- and growing with permille
 pub part-grows : (way : ℤ) (p q : ℕ) → p ≤ q → natAbs (partOf way p) ≤ natAbs (partOf way q)
 part-grows way p q h = omega (arith, part-size way p, part-size way q, mul-le-mul-left (natAbs way) h)
+
+-- ---- ways and rates within ±65,535
+
+limited-by : (z : ℤ) (above below : Bool) → ltZ (pos 65535) z ≡ above → ltZ z (negℤ (pos 65535)) ≡ below →
+    natAbs (cond above (pos 65535) (cond below (negℤ (pos 65535)) z)) ≤ 65535
+limited-by z true below e f = omega arith
+limited-by z false true e f = omega arith
+limited-by (pos n) false false e f = ltb-false 65535 n e
+limited-by (negsuc n) false false e f = omega (arith, ltb-false 65534 n f)
+
+pub limited-size : (z : ℤ) → natAbs (limited z) ≤ 65535
+unfolding limited
+limited-size z = limited-by z (ltZ (pos 65535) z) (ltZ z (negℤ (pos 65535))) refl refl
+
+-- one within them is itself
+pub limited-same : (z : ℤ) → natAbs z ≤ 65535 → limited z ≡ z
+unfolding limited
+limited-same (pos n) h = rw (le-ltb 65535 n h)
+limited-same (negsuc n) h = rw (le-ltb 65534 n (omega arith))
 
 -- ---- tenths
 

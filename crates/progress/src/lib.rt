@@ -6,7 +6,7 @@ use matter::ColorLoopDirectionEnum;
 ghost use mathlib.Core.Path.{_≡_};
 ghost use Prim.Native.Nat.{_-_, min};
 ghost use Rattle.matter.specs.Limits.{clockLimit};
-ghost use Rattle.progress.specs.Progress.{permilleOf, partOf, wayAtRate, loopMs, loopTurn, loopWay, tenthsOf, broughtWithin, endWait, turnWait};
+ghost use Rattle.progress.specs.Progress.{permilleOf, partOf, wayAtRate, limited, loopMs, loopTurn, loopWay, tenthsOf, broughtWithin, endWait, turnWait};
 
 // The wait between two steps where nothing is nearer; a move at a rate always asks for it.
 pub const TICK: u64 = 100;
@@ -22,11 +22,24 @@ pub fn permille(elapsed: u64, time: u32) -> u16
     (elapsed * 1000 / total) as u16
 }
 
-// The part of a signed way at so many thousandths. The fraction is dropped toward zero.
-pub fn part(way: i32, permille: u16) -> i64
-    ensures { λ r. ⌜ r ≡ partOf way permille ⌝ }
+// A way or a rate beyond ±65,535, which no task in form has, is read as that limit.
+fn limited(signed: i64) -> i64
+    ensures { λ r. ⌜ r ≡ limited signed ⌝ }
 {
-    (way as i64) * (permille as i64) / 1000
+    if 65535 < signed {
+        return 65535;
+    }
+    if signed < -65535 {
+        return -65535;
+    }
+    signed
+}
+
+// The part of a signed way at so many thousandths. The fraction is dropped toward zero.
+pub fn part(way: i64, permille: u16) -> i64
+    ensures { λ r. ⌜ r ≡ partOf (limited way) permille ⌝ }
+{
+    limited(way) * (permille as i64) / 1000
 }
 
 // An elapsed time past the limit of clocks is read as the limit.
@@ -40,15 +53,11 @@ fn within_limit(elapsed: u64) -> u64
     }
 }
 
-// The signed way that a move at a rate per second has gone. Whole seconds and the rest apart: the product of a
-// 32-bit rate and the longest time does not fit 64 bits.
-pub fn way_at_rate(rate: i32, elapsed: u64) -> i64
-    ensures { λ r. ⌜ r ≡ wayAtRate rate elapsed ⌝ }
+// The signed way that a move at a rate per second has gone. The fraction is dropped toward zero.
+pub fn way_at_rate(rate: i64, elapsed: u64) -> i64
+    ensures { λ r. ⌜ r ≡ wayAtRate (limited rate) elapsed ⌝ }
 {
-    let e = within_limit(elapsed);
-    let seconds = (e / 1000) as i64;
-    let rest = (e % 1000) as i64;
-    (rate as i64) * seconds + (rate as i64) * rest / 1000
+    limited(rate) * (within_limit(elapsed) as i64) / 1000
 }
 
 // The time of one turn of the colour loop. 0 seconds are read as 25.

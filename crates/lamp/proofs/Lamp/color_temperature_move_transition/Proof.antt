@@ -1,23 +1,26 @@
 -- `Lamp::color_temperature_move_transition`: each call's contract is its part of the definition; a rate in form is within ±65,535, so
--- that it fits 32 bits.
+-- that it is read as it is.
 -- Assumes nothing.
-use mathlib.Core.Path.{_≡_}
-use mir.Syntax.{w32, w64}
+use mathlib.Core.Path.{_≡_, ap, _∙_}
+use mir.Syntax.{w64}
 use mir.Val.{toZ, ofZ}
 use mir.ValLaws.{toZ-ofZ}
 use borrow.Author.Needs.{sfits-of}
+use Rattle.progress.specs.Progress.{limited}
 use Rattle.lamp.specs.Passes.{temperaturePass}
-use Rattle.lamp.proofs.Laws.{rate-fits}
+use Rattle.lamp.proofs.Laws.{rate-same}
 use Rattle.notices.specs.Laws.{pushed-behind}
 use borrow.Author.Needs.{needs}
 use Rattle.lamp.proofs.Lamp.color_temperature_move_transition.Statement.{statement}
 use Rattle.lamp.proofs.Lamp.color_temperature_move_transition.Tie as tie
 
-read : (c : tie.After-struct-told) → toZ w64 (ofZ w64 (c .before .before .args .run .rate)) ≡ c .before .before .args .run .rate
-read c = search needs
+-- the rate that is handed over, as it is read and as `way_at_rate` limits it
+module _ (c : tie.After-struct-told) where
+  read : toZ w64 (ofZ w64 (c .before .before .args .run .rate)) ≡ c .before .before .args .run .rate
+  read = search needs
 
-cast-way-at-rate : tie.Need-cast-way-at-rate
-cast-way-at-rate c = rw (read c) (rate-fits _ (c .before .before .pre))
+  rate : limited (toZ w64 (ofZ w64 (c .before .before .args .run .rate))) ≡ c .before .before .args .run .rate
+  rate = ap limited read ∙ rate-same _ (c .before .before .pre)
 
 elapsed-requires : tie.Need-elapsed-requires
 elapsed-requires c κs = search needs
@@ -54,13 +57,12 @@ returns c =
     let k6 = k5 .before in
     let k7 = k6 .before in
     let k8 = k7 .before in
-    rw (c .wait-unless .ensures, k1 .push .ensures, k2 .running-unless .ensures, k3 .set-color-temperature .ensures, k4 .mireds-done .ensures, k5 .brought-within .ensures, toZ-ofZ w64 (k6 .way-at-rate .result) (sfits-of (k6 .way-at-rate .ok)), k6 .way-at-rate .ensures, k7 .elapsed .ensures, read k8, toZ-ofZ w32 _ (rate-fits (k8 .before .before .args .run .rate) (k8 .before .before .pre)), pushed-behind)
+    rw (c .wait-unless .ensures, k1 .push .ensures, k2 .running-unless .ensures, k3 .set-color-temperature .ensures, k4 .mireds-done .ensures, k5 .brought-within .ensures, toZ-ofZ w64 (k6 .way-at-rate .result) (sfits-of (k6 .way-at-rate .ok)), k6 .way-at-rate .ensures, rate k7, read k7, k8 .elapsed .ensures, pushed-behind)
 
 pub color-temperature-move-transition-spec : {M : Type 1} → statement M
 color-temperature-move-transition-spec =
     tie.close
     (tie.spec
-    cast-way-at-rate
     elapsed-requires
     way-at-rate-requires
     brought-within-requires

@@ -1,21 +1,23 @@
--- `Lamp::hue_move_transition`: each call's contract is its part of the definition; a rate in form fits sixteen bits.
+-- `Lamp::hue_move_transition`: each call's contract is its part of the definition; a rate in form is read as it is.
 -- Assumes nothing.
+use Prim.Native.Nat.{_≤_}
 use native.Mathlib.Omega.{arith}
 use borrow.Author.Tests.{leb-true}
 use Rattle.matter.specs.Laws.{each}
 use Rattle.tasks.specs.Form.{hueMoveForm}
-use mir.Syntax.{w32, w64}
+use mir.Syntax.{w64}
 use mir.ValLaws.{toZ-ofZ}
 use borrow.Author.Needs.{sfits-of}
 use Rattle.lamp.specs.Passes.{huePass}
 use Rattle.notices.specs.Laws.{pushed-behind}
+use Rattle.lamp.proofs.Laws.{signed-same}
 use borrow.Author.Needs.{needs}
 use Rattle.lamp.proofs.Lamp.hue_move_transition.Statement.{statement}
 use Rattle.lamp.proofs.Lamp.hue_move_transition.Tie as tie
 
-cast-signed-rate : tie.Need-cast-signed-rate
+small-rate : (c : tie.Start) → c .args .run .task .rate ≤ 65535
 unfolding hueMoveForm
-cast-signed-rate c = record { fits = omega (arith, leb-true (c .before .before .args .run .task .rate) _ (each _ (c .before .before .pre) .1 .0)) }
+small-rate c = leb-true (c .args .run .task .rate) _ (each _ (c .pre) .1 .0)
 
 signed-rate-requires : tie.Need-signed-rate-requires
 signed-rate-requires c κs = search needs
@@ -43,13 +45,13 @@ returns c =
     let k3 = k2 .before in
     let k4 = k3 .before in
     let k5 = k4 .before in
-    rw (c .push .ensures, k1 .set-hue .ensures, k2 .moved-hue .ensures, toZ-ofZ w64 (k3 .way-at-rate .result) (sfits-of (k3 .way-at-rate .ok)), k3 .way-at-rate .ensures, k4 .elapsed .ensures, toZ-ofZ w32 (k5 .signed-rate .result) (sfits-of (k5 .signed-rate .ok)), k5 .signed-rate .ensures, pushed-behind)
+    let run = k5 .before .before .args .run in
+    rw (c .push .ensures, k1 .set-hue .ensures, k2 .moved-hue .ensures, toZ-ofZ w64 (k3 .way-at-rate .result) (sfits-of (k3 .way-at-rate .ok)), k3 .way-at-rate .ensures, k4 .elapsed .ensures, toZ-ofZ w64 (k5 .signed-rate .result) (sfits-of (k5 .signed-rate .ok)), k5 .signed-rate .ensures, signed-same (run .task .direction) (run .task .rate) (omega (arith, small-rate (k5 .before .before))), pushed-behind)
 
 pub hue-move-transition-spec : {M : Type 1} → statement M
 hue-move-transition-spec =
     tie.close
     (tie.spec
-    cast-signed-rate
     signed-rate-requires
     elapsed-requires
     way-at-rate-requires

@@ -1,21 +1,23 @@
--- `Lamp::saturation_move_transition`: each call's contract is its part of the definition; a rate in form fits sixteen bits.
+-- `Lamp::saturation_move_transition`: each call's contract is its part of the definition; a rate in form is read as it is.
 -- Assumes nothing.
+use Prim.Native.Nat.{_≤_}
 use native.Mathlib.Omega.{arith}
 use borrow.Author.Tests.{leb-true}
 use Rattle.matter.specs.Laws.{each}
 use Rattle.tasks.specs.Form.{saturationMoveForm}
-use mir.Syntax.{w32, w64}
+use mir.Syntax.{w64}
 use mir.ValLaws.{toZ-ofZ}
 use borrow.Author.Needs.{sfits-of}
 use Rattle.lamp.specs.Passes.{saturationPass}
 use Rattle.notices.specs.Laws.{pushed-behind}
+use Rattle.lamp.proofs.Laws.{signed-same}
 use borrow.Author.Needs.{needs}
 use Rattle.lamp.proofs.Lamp.saturation_move_transition.Statement.{statement}
 use Rattle.lamp.proofs.Lamp.saturation_move_transition.Tie as tie
 
-cast-signed-rate : tie.Need-cast-signed-rate
+small-rate : (c : tie.Start) → c .args .run .task .rate ≤ 255
 unfolding saturationMoveForm
-cast-signed-rate c = record { fits = omega (arith, leb-true (c .before .before .args .run .task .rate) _ (each _ (c .before .before .pre) .1 .0)) }
+small-rate c = leb-true (c .args .run .task .rate) _ (each _ (c .pre) .1 .0)
 
 signed-rate-requires : tie.Need-signed-rate-requires
 signed-rate-requires c κs = search needs
@@ -55,13 +57,13 @@ returns c =
     let k6 = k5 .before in
     let k7 = k6 .before in
     let k8 = k7 .before in
-    rw (c .wait-unless .ensures, k1 .push .ensures, k2 .running-unless .ensures, k3 .set-saturation .ensures, k4 .saturation-done .ensures, k5 .moved-saturation .ensures, toZ-ofZ w64 (k6 .way-at-rate .result) (sfits-of (k6 .way-at-rate .ok)), k6 .way-at-rate .ensures, k7 .elapsed .ensures, toZ-ofZ w32 (k8 .signed-rate .result) (sfits-of (k8 .signed-rate .ok)), k8 .signed-rate .ensures, pushed-behind)
+    let run = k8 .before .before .args .run in
+    rw (c .wait-unless .ensures, k1 .push .ensures, k2 .running-unless .ensures, k3 .set-saturation .ensures, k4 .saturation-done .ensures, k5 .moved-saturation .ensures, toZ-ofZ w64 (k6 .way-at-rate .result) (sfits-of (k6 .way-at-rate .ok)), k6 .way-at-rate .ensures, k7 .elapsed .ensures, toZ-ofZ w64 (k8 .signed-rate .result) (sfits-of (k8 .signed-rate .ok)), k8 .signed-rate .ensures, signed-same (run .task .direction) (run .task .rate) (omega (arith, small-rate (k8 .before .before))), pushed-behind)
 
 pub saturation-move-transition-spec : {M : Type 1} → statement M
 saturation-move-transition-spec =
     tie.close
     (tie.spec
-    cast-signed-rate
     signed-rate-requires
     elapsed-requires
     way-at-rate-requires

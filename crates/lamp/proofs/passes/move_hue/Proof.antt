@@ -1,31 +1,28 @@
--- `passes::move_hue`: the definition's case is the one matched; a way in form is within ±65,535, so that it fits 32 bits.
+-- `passes::move_hue`: the definition's case is the one matched; a way in form is within ±65,535, so that it is read as it is.
 -- Assumes nothing.
-use mathlib.Core.Path.{_≡_}
-use mir.Syntax.{w32, w64}
-use mir.Val.{SFits, toZ, ofZ}
+use mathlib.Core.Path.{_≡_, ap, _∙_}
+use mir.Syntax.{w64}
+use mir.Val.{toZ, ofZ}
 use mir.ValLaws.{toZ-ofZ}
 use borrow.Author.Needs.{sfits-of}
+use Rattle.progress.specs.Progress.{limited}
 use Rattle.notices.specs.Notices.{pushedAll}
-use Rattle.lamp.proofs.Laws.{small-fits}
+use Rattle.lamp.proofs.Laws.{small-same}
 use borrow.Author.Needs.{needs}
 use Rattle.lamp.proofs.passes.move_hue.Statement.{statement}
 use Rattle.lamp.proofs.passes.move_hue.Tie as tie
 
-module _ (c : tie.After-known-told) where
-  fits : SFits w32 (c .before .delta .given .0 .0)
-  fits = small-fits _ (rw (c .before .delta .given .1) at (c .before .before .before .pre))
-
-  read : toZ w64 (ofZ w64 (c .before .delta .given .0 .0)) ≡ c .before .delta .given .0 .0
-  read = search needs
+-- the way that is handed over, as the callee reads it
+way : (c : tie.After-known-told) → limited (toZ w64 (ofZ w64 (c .before .delta .given .0 .0))) ≡ c .before .delta .given .0 .0
+way c =
+    let read : toZ w64 (ofZ w64 (c .before .delta .given .0 .0)) ≡ c .before .delta .given .0 .0 = search needs in
+    ap limited read ∙ small-same _ (rw (c .before .delta .given .1) at (c .before .before .before .pre))
 
 enum-told : tie.Need-enum-told
 enum-told c = search needs
 
 enum-known-delta : tie.Need-enum-known-delta
 enum-known-delta c = search needs
-
-cast-part : tie.Need-cast-part
-cast-part c = rw (read c) (fits c)
 
 part-requires : tie.Need-part-requires
 part-requires c κs = search needs
@@ -45,7 +42,7 @@ returns-2 c =
     let k1 = c .before in
     let k2 = k1 .before in
     let k3 = k2 .before in
-    rw (c .set-hue .ensures, k1 .moved-hue .ensures, toZ-ofZ w64 (k2 .part .result) (sfits-of (k2 .part .ok)), k2 .part .ensures, read k3, toZ-ofZ w32 _ (fits k3), k3 .before .delta .given .1)
+    rw (c .set-hue .ensures, k1 .moved-hue .ensures, toZ-ofZ w64 (k2 .part .result) (sfits-of (k2 .part .ok)), k2 .part .ensures, way k3, k3 .before .delta .given .1)
 
 pub move-hue-spec : {M : Type 1} → statement M
 move-hue-spec =
@@ -53,7 +50,6 @@ move-hue-spec =
     (tie.spec
     enum-told
     enum-known-delta
-    cast-part
     part-requires
     moved-hue-requires
     set-hue-requires

@@ -1,8 +1,8 @@
--- `passes::signed_rate`: a rate of sixteen bits and its negation fit 32, so that the machine reads back what it wrote.
+-- `passes::signed_rate`: a rate of 32 bits and its negation fit 64, so that the machine reads back what it wrote.
 -- Assumes nothing.
 use native.Mathlib.Omega.{arith}
 use lib.IntN.{+ℤ-idl}
-use mir.Syntax.{w32}
+use mir.Syntax.{w64}
 use mir.ValLaws.{toZ-ofZ}
 use mir.Facts.{toZ-pos}
 use Rattle.integers.proofs.Sizes.{small, abs-neg}
@@ -26,16 +26,16 @@ cast-result-2 : tie.Need-cast-result-2
 cast-result-2 c = search needs
 
 sub-result : tie.Need-sub-result
-sub-result c = rw (toZ-pos w32 {n = c .before .before .args .rate} (omega arith), +ℤ-idl) (small w32 _ (rw abs-neg (omega arith)))
+sub-result c = rw (toZ-pos w64 {n = c .before .before .args .rate} (omega arith), +ℤ-idl) (small w64 _ (rw abs-neg (omega arith)))
 
 returns : tie.Need-returns
 returns c = simp (c .enum-told .given .1)
 
 returns-2 : tie.Need-returns-2
-returns-2 c = rw (toZ-pos w32 {n = c .before .before .args .rate} (omega arith), c .enum-told2 .given .1)
+returns-2 c = rw (toZ-pos w64 {n = c .before .before .args .rate} (omega arith), c .enum-told2 .given .1)
 
 returns-3 : tie.Need-returns-3
-returns-3 c = rw (toZ-ofZ w32 _ (sub-result c), toZ-pos w32 {n = c .before .before .args .rate} (omega arith), +ℤ-idl, c .enum-told3 .given .1)
+returns-3 c = rw (toZ-ofZ w64 _ (sub-result c), toZ-pos w64 {n = c .before .before .args .rate} (omega arith), +ℤ-idl, c .enum-told3 .given .1)
 
 pub signed-rate-spec : {M : Type 1} → statement M
 signed-rate-spec =

@@ -1,8 +1,8 @@
--- A difference of two sixteen-bit numbers fits 32 bits, so that the machine reads back what it wrote.
+-- A difference of two sixteen-bit numbers fits 64 bits, so that the machine reads back what it wrote.
 -- Assumes nothing.
 use native.Mathlib.Omega.{arith}
 use lib.IntN.{pos, negℤ, _-ℤ_}
-use mir.Syntax.{w32}
+use mir.Syntax.{w64}
 use mir.Val.{SFits}
 use mir.ValLaws.{toZ-ofZ}
 use mir.Facts.{toZ-pos}
@@ -11,9 +11,9 @@ use Rattle.integers.proofs.Sizes.{small, abs-neg, abs-add}
 use Rattle.lamp.proofs.passes.way_between.Statement.{statement}
 use Rattle.lamp.proofs.passes.way_between.Tie as tie
 
-fits : (c : tie.Start) → SFits w32 (pos (c .args .target) -ℤ pos (c .args .start))
+fits : (c : tie.Start) → SFits w64 (pos (c .args .target) -ℤ pos (c .args .start))
 fits c =
-    small w32 _
+    small w64 _
     (omega (arith, abs-add (pos (c .args .target)) (negℤ (pos (c .args .start))), abs-neg (pos (c .args .start))))
 
 cast-result : tie.Need-cast-result
@@ -24,11 +24,11 @@ cast-result-2 c = search needs
 
 sub-result : tie.Need-sub-result
 sub-result c =
-    rw (toZ-pos w32 {n = c .args .target} (omega arith), toZ-pos w32 {n = c .args .start} (omega arith)) (fits c)
+    rw (toZ-pos w64 {n = c .args .target} (omega arith), toZ-pos w64 {n = c .args .start} (omega arith)) (fits c)
 
 returns : tie.Need-returns
 returns c =
-    rw (toZ-pos w32 {n = c .args .target} (omega arith), toZ-pos w32 {n = c .args .start} (omega arith), toZ-ofZ w32 _ (fits c))
+    rw (toZ-pos w64 {n = c .args .target} (omega arith), toZ-pos w64 {n = c .args .start} (omega arith), toZ-ofZ w64 _ (fits c))
 
 pub way-between-spec : {M : Type 1} → statement M
 way-between-spec = tie.close (tie.spec cast-result cast-result-2 sub-result returns)
