@@ -6,12 +6,12 @@ use libc::STDOUT_FILENO;
 ghost use Prim.Native.Nat.{_≤_};
 ghost use lib.ListN.{length};
 
-// The line, as far as it has come. Nothing says that the input ends, so its blocks are counted, down from a number that
-// no run uses up.
+// The line, as far as it is needed: what comes after it is settled is not read. Nothing says that the input ends, so its
+// blocks are counted, down from a number that no run uses up.
 fn read_line(block: &mut [u8]) -> Reader {
     let mut reader = Reader::new();
     let mut turns = u64::MAX;
-    while turns > 0 && !reader.over {
+    while turns > 0 && !reader.is_settled() {
         let got = libc::read(STDIN_FILENO, block);
         if got <= 0 {
             return reader;

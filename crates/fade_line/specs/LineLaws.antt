@@ -11,7 +11,14 @@ use borrow.Author.Tests.{ltb-false, le-ltb, ne-eqb}
 use Rattle.fade_line.specs.declared.reader.Asked.{Asked}
 use Rattle.fade_line.specs.declared.reader.Reader.{Reader}
 use Rattle.fade_line.specs.Line.{line, longer, words, isDigit, notEmpty, digitsAlone, valueFrom, value, isNumber, allNumbers, wanted, askedByWords, askedBy}
-use Rattle.fade_line.specs.Reading.{fresh, spoilt, ended, nextWord, nextDigit, readByte, readAll, lineRead}
+use Rattle.fade_line.specs.Reading.{fresh, spoilt, ended, nextWord, nextDigit, settled, readByte, readAll, lineRead}
+
+-- ---- a settled line: nothing that follows changes what has been read, nor what it asks for
+
+pub settled-final : (r : Reader) (s : List ℕ) → settled r ≡ true → readAll r s ≡ r
+unfolding readAll readByte
+settled-final r [] e = refl
+settled-final r (b ∷ s) e = rw e (settled-final r s e)
 
 -- ---- parts: to read two parts is to read them joined
 
@@ -236,3 +243,8 @@ pub reads : (input : List ℕ) → lineRead (readAll fresh input) ≡ askedBy in
 reads input =
     goes input 0 [] [] [] [] (omega arith) refl refl refl
     ∙ ap askedByWords (glue-none (line input))
+
+-- what a settled beginning asks for is what the whole input asks for, whatever follows
+pub settled-asks : (begun rest : List ℕ) → settled (readAll fresh begun) ≡ true → lineRead (readAll fresh begun) ≡ askedBy (begun ++ rest)
+settled-asks begun rest e =
+    sym (ap lineRead (sym (parts fresh begun rest) ∙ settled-final (readAll fresh begun) rest e)) ∙ reads (begun ++ rest)

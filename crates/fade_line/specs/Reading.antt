@@ -33,10 +33,13 @@ nextDigit r d =
     (record { bad = r .bad; over = r .over; begun = true; blanks = r .blanks; first = r .first; second = r .second; third = r .third; last = r .last * 10 + d })
     (spoilt r)
 
--- a byte: after the newline, or after what spoils the line, none counts
+-- the newline has come, or something spoils the line: no further byte counts
+abbrev pub settled : Reader → Bool
+settled r = r .bad || r .over
+
 unfoldable pub readByte : Reader → ℕ → Reader
 readByte r b =
-    cond (r .bad || r .over) r
+    cond (settled r) r
     (cond (eqb b 10) (ended r)
     (cond (eqb b 32) (nextWord r)
     (cond (isDigit b) (nextDigit r (b - 48))

@@ -5,7 +5,7 @@ use matter::DirectionFound;
 ghost use mathlib.Core.Path.{_≡_};
 ghost use Prim.Native.Nat.{_≤_};
 ghost use Rattle.fade_line.specs.Line.{wanted, withDirection, askedBy};
-ghost use Rattle.fade_line.specs.Reading.{fresh, spoilt, ended, nextWord, nextDigit, readByte, readAll, lineRead};
+ghost use Rattle.fade_line.specs.Reading.{fresh, spoilt, ended, nextWord, nextDigit, settled, readByte, readAll, lineRead};
 
 const LARGEST: u64 = 18446744073709551615;
 
@@ -139,7 +139,7 @@ impl Reader {
     fn read_byte(self, byte: u8) -> Reader
         ensures { λ r. ⌜ r ≡ readByte self byte ⌝ }
     {
-        if self.bad | self.over {
+        if self.is_settled() {
             return self;
         }
         if byte == b'\n' {
@@ -168,6 +168,13 @@ impl Reader {
             at += 1;
         }
         reader
+    }
+
+    // Whether the line is settled: its newline has come, or something spoils it. No further byte changes what it asks for.
+    pub fn is_settled(self) -> bool
+        ensures { λ r. ⌜ r ≡ settled self ⌝ }
+    {
+        self.bad | self.over
     }
 
     // What the line asks for, once the input has come to its end.

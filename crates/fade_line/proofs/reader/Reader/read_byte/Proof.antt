@@ -6,37 +6,40 @@ use borrow.Author.Needs.{needs}
 use Rattle.fade_line.proofs.reader.Reader.read_byte.Statement.{statement}
 use Rattle.fade_line.proofs.reader.Reader.read_byte.Tie as tie
 
+is-settled-requires : tie.Need-is-settled-requires
+is-settled-requires c κs = search needs
+
 returns : tie.Need-returns
 unfolding readByte
-returns c = simp (c .if1 .taken)
+returns c = simp (rw (c .before .is-settled .ensures) at (c .if1 .taken))
 
 end-requires : tie.Need-end-requires
 end-requires c κs = search needs
 
 returns-2 : tie.Need-returns-2
 unfolding readByte
-returns-2 c = simp (c .before .before .if1 .left, eq-eqb _ _ (c .before .if2 .taken), c .end .ensures)
+returns-2 c = simp (rw (c .before .before .before .is-settled .ensures) at (c .before .before .if1 .left), eq-eqb _ _ (c .before .if2 .taken), c .end .ensures)
 
 next-word-requires : tie.Need-next-word-requires
 next-word-requires c κs = search needs
 
 returns-3 : tie.Need-returns-3
 unfolding readByte
-returns-3 c = simp (c .before .before .before .if1 .left, ne-eqb _ _ (c .before .before .if2 .left), eq-eqb _ _ (c .before .if3 .taken), c .next-word .ensures)
+returns-3 c = simp (rw (c .before .before .before .before .is-settled .ensures) at (c .before .before .before .if1 .left), ne-eqb _ _ (c .before .before .if2 .left), eq-eqb _ _ (c .before .if3 .taken), c .next-word .ensures)
 
 spoil-requires : tie.Need-spoil-requires
 spoil-requires c κs = search needs
 
 returns-4 : tie.Need-returns-4
 unfolding readByte
-returns-4 c = simp (c .before .before .before .before .if1 .left, ne-eqb _ _ (c .before .before .before .if2 .left), ne-eqb _ _ (c .before .before .if3 .left), lt-leb _ _ (c .before .if4 .taken), c .spoil .ensures)
+returns-4 c = simp (rw (c .before .before .before .before .before .is-settled .ensures) at (c .before .before .before .before .if1 .left), ne-eqb _ _ (c .before .before .before .if2 .left), ne-eqb _ _ (c .before .before .if3 .left), lt-leb _ _ (c .before .if4 .taken), c .spoil .ensures)
 
 spoil-requires-2 : tie.Need-spoil-requires-2
 spoil-requires-2 c κs = search needs
 
 returns-5 : tie.Need-returns-5
 unfolding readByte
-returns-5 c = simp (c .before .before .before .before .before .if1 .left, ne-eqb _ _ (c .before .before .before .before .if2 .left), ne-eqb _ _ (c .before .before .before .if3 .left), le-leb _ _ (c .before .before .if4 .left), lt-leb _ _ (c .before .if5 .taken), c .spoil2 .ensures)
+returns-5 c = simp (rw (c .before .before .before .before .before .before .is-settled .ensures) at (c .before .before .before .before .before .if1 .left), ne-eqb _ _ (c .before .before .before .before .if2 .left), ne-eqb _ _ (c .before .before .before .if3 .left), le-leb _ _ (c .before .before .if4 .left), lt-leb _ _ (c .before .if5 .taken), c .spoil2 .ensures)
 
 cast-next-digit : tie.Need-cast-next-digit
 cast-next-digit c = search needs
@@ -46,12 +49,13 @@ next-digit-requires c κs = search needs
 
 returns-6 : tie.Need-returns-6
 unfolding readByte
-returns-6 c = simp (c .before .before .before .before .before .if1 .left, ne-eqb _ _ (c .before .before .before .before .if2 .left), ne-eqb _ _ (c .before .before .before .if3 .left), le-leb _ _ (c .before .before .if4 .left), le-leb _ _ (c .before .if5 .left), c .next-digit .ensures)
+returns-6 c = simp (rw (c .before .before .before .before .before .before .is-settled .ensures) at (c .before .before .before .before .before .if1 .left), ne-eqb _ _ (c .before .before .before .before .if2 .left), ne-eqb _ _ (c .before .before .before .if3 .left), le-leb _ _ (c .before .before .if4 .left), le-leb _ _ (c .before .if5 .left), c .next-digit .ensures)
 
 pub read-byte-spec : {M : Type 1} → statement M
 read-byte-spec =
     tie.close
     (tie.spec
+    is-settled-requires
     returns
     end-requires
     returns-2
