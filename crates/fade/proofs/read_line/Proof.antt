@@ -1,7 +1,5 @@
 -- The measure is the count of turns.
--- Assumes nothing.
-use mathlib.Core.Path.{_≡_, refl}
-use native.Mathlib.Omega.{arith}
+use mathlib.Core.Path.{_≡_}
 use lib.ListN.{length}
 use borrow.Author.Needs.{needs}
 use Rattle.fade.proofs.read_line.Statement.{statement}
@@ -18,6 +16,9 @@ new-requires c κs = search needs
 
 loop-holds : tie.Need-loop-holds Inv-loop μ-loop
 loop-holds c = search needs
+
+is-settled-requires : tie.Need-is-settled-requires Inv-loop μ-loop
+is-settled-requires c κs = search needs
 
 read-requires : tie.Need-read-requires Inv-loop μ-loop
 read-requires c κs = search needs
@@ -69,6 +70,7 @@ read-line-spec =
     μ-loop
     new-requires
     loop-holds
+    is-settled-requires
     read-requires
     same-length
     returns
