@@ -1,19 +1,23 @@
--- The cases marked K in document 01: what a case says, and the list of all of them.
+-- The cases marked K in document 01: what a case says, and the list of all of them. A case of a transition goes through
+-- the command, its start and its steps.
 -- Assumes nothing.
-use Prim.Native.Nat.{ℕ, _+_}
-use mathlib.Core.Bool.{Bool, true, false, not, cond, _&&_, _||_}
-use mathlib.Core.List.{List, [], _∷_}
+use Prim.Native.Nat.{ℕ, _+_, _<_}
+use mathlib.Core.Bool.{Bool, true, false, not, cond}
+use mathlib.Core.List.{List, [], _∷_, map}
+use mathlib.Core.Path.{_≡_}
 use lib.Dec.{eqb}
 use lib.IntN.{ℤ, pos, negℤ}
-use lib.Signed.{leZ}
+use lib.ListN.{take, replicate}
+use Rattle.matter.specs.declared.ColorLoopActionEnum.{ColorLoopActionEnum}
+use Rattle.matter.specs.declared.ColorLoopDirectionEnum.{ColorLoopDirectionEnum}
 use Rattle.matter.specs.declared.Command.{Command}
+use Rattle.matter.specs.declared.CommandOptions.{CommandOptions}
 use Rattle.matter.specs.declared.DirectionEnum.{DirectionEnum}
 use Rattle.matter.specs.declared.MoveModeEnum.{MoveModeEnum}
 use Rattle.matter.specs.declared.OnOff.{OnOff}
-use Rattle.matter.specs.Numbers.{colorModeNumber, enhancedColorModeNumber}
-use Rattle.matter.specs.declared.ColorLoopDirectionEnum.{ColorLoopDirectionEnum}
-use Rattle.hue.specs.Hue.{pathDelta, movedHue}
-use Rattle.progress.specs.Progress.{permilleOf, partOf, broughtWithin, tenthsOf, loopWay}
+use Rattle.matter.specs.Causes.{accepted, taskOutOfForm}
+use Rattle.hue.specs.Hue.{pathDelta}
+use Rattle.progress.specs.Progress.{permilleOf, partOf, tenthsOf}
 use Rattle.remaining_time.specs.RemainingTime.{told}
 use Rattle.tasks.specs.declared.GivenTask.{GivenTask}
 use Rattle.tasks.specs.Runs.{runs}
@@ -24,126 +28,193 @@ use Rattle.lamp.specs.Making.{freshLamp}
 use Rattle.lamp.specs.Calls.{startAnswer, stepAnswer}
 use Rattle.commands.specs.Answers.{commandAnswer}
 
-pub data Case : Type 0 where
-  -- from one hue to another, in a direction: the way
-  way : ℕ → ℕ → DirectionEnum → ℤ → Case
-  -- a way, its time and the time elapsed: permille and part
-  progress : ℤ → ℕ → ℕ → ℕ → ℤ → Case
-  -- the mireds at the start, and the same: the mireds, between 153 and 500
-  mireds : ℕ → ℤ → ℕ → ℕ → ℕ → Case
-  -- the old tenths and the new, and whether a transition starts: whether it is told
-  remaining : ℕ → ℕ → Bool → Bool → Case
-  -- milliseconds: tenths
-  tenths : ℕ → ℕ → Case
-  -- a loop of so many seconds from hue 0, and the time elapsed: the hue that is shown
-  loop : ColorLoopDirectionEnum → ℕ → ℕ → ℕ → Case
-  -- a plain move to a hue: the number of the answer
-  moveToHue : ℕ → ℕ → Case
-  -- mireds up at 100 a second between two limits, started, and stepped at an elapsed time above 0: the mireds, and whether it
-  -- is done
-  miredMove : ℕ → ℕ → ℕ → ℕ → Bool → Case
-  -- the same, started: nothing changes
-  miredsStay : ℕ → ℕ → Case
+-- ---- the lamp and its calls
 
-abbrev sameZ : ℤ → ℤ → Bool
-sameZ a b = leZ a b && leZ b a
-
-abbrev sameBool : Bool → Bool → Bool
-sameBool a b = (a && b) || (not a && not b)
-
--- the lamp of the cases: "bounds 153 and 500, clock 5000, hue 0, mireds 250, on, XY mode"
+-- "bounds 153 and 500, clock 5000, hue 0, mireds 250, on, XY mode"
 abbrev pub lamp : Lamp
 lamp = freshLamp (record { min = 153; max = 500 }) 31 0 5000
 
-abbrev pub given : Command → Answer
-given c = commandAnswer lamp c OnOff.On 5000
+abbrev pub noOptions : CommandOptions
+noOptions = record { mask = 0; over = 0 }
 
+-- a command to a lamp that is on, at the lamp's clock
+abbrev pub given : Lamp → Command → Answer
+given l c = commandAnswer l c OnOff.On (l .clock)
+
+-- a call behind another: where that one was refused, its refusal stays, so that number 0 at the end says that all were
+-- accepted
+unfoldable pub next : Answer → (Lamp → Answer) → Answer
+next a call = cond (eqb (a .number) accepted) (call (a .lamp)) a
+
+-- a start of the task that was given; where none was, no start is accepted
 abbrev startOf : GivenTask → Lamp → Answer
-startOf GivenTask.Nothing l = refusal l 0
-startOf (GivenTask.Given task) l = startAnswer l task 5000
+startOf GivenTask.Nothing l = refusal l taskOutOfForm
+startOf (GivenTask.Given task) l = startAnswer l task (l .clock)
 
--- a command's task, started on the lamp that the command left
-abbrev started : Answer → Answer
-started a = startOf (a .task) (a .lamp)
+-- a command to a lamp, and its task started
+abbrev pub startedOn : Lamp → Command → Answer
+startedOn l c = next (given l c) (startOf (given l c .task))
 
-abbrev move : ℕ → ℕ → Command
-move min max = Command.MoveColorTemperature MoveModeEnum.Up 100 min max (record { mask = 0; over = 0 })
+abbrev pub started : Command → Answer
+started c = startedOn lamp c
 
-abbrev at : ℕ → Answer → Answer
-at elapsed a = cond (eqb elapsed 0) a (stepAnswer (a .lamp) (5000 + elapsed))
+-- behind a start, a step at each of these times after 5000, in turn
+unfoldable pub stepsAt : Answer → List ℕ → List Answer
+stepsAt a [] = []
+stepsAt a (elapsed ∷ later) =
+    let stepped : Answer = next a (λ (l : Lamp). stepAnswer l (5000 + elapsed)) in
+    stepped ∷ stepsAt stepped later
 
-abbrev idle : Answer → Bool
+-- the answers to the start and to the steps
+abbrev pub answers : Command → List ℕ → List Answer
+answers c times = started c ∷ stepsAt (started c) times
+
+-- moves to hue 128 in so many tenths, one behind the other: the answer to the last start
+unfoldable pub fades : Answer → List ℕ → Answer
+fades a [] = a
+fades a (tenths ∷ later) =
+    fades (next a (λ (l : Lamp). startedOn l (Command.MoveToHue 128 DirectionEnum.Shortest tenths noOptions))) later
+
+-- ---- what is seen of an answer
+
+-- the notices, without the unused places
+abbrev pub listed : Answer → List ℕ
+listed a = take (a .notices .len) (a .notices .places)
+
+abbrev pub idle : Answer → Bool
 idle a = not (runs (a .lamp .running))
 
--- accepted and done, told nothing, given no wait, with the colour, its stamps, the remaining time and the clock of the lamp
-abbrev unchanged : Answer → Bool
-unchanged a =
-    eqb (a .number) 0 && idle a && eqb (a .notices .len) 0 && eqb (a .lamp .color .hue) (lamp .color .hue)
-    && eqb (a .lamp .color .saturation) (lamp .color .saturation)
-    && eqb (a .lamp .color .mireds) (lamp .color .mireds)
-    && eqb (enhancedColorModeNumber (a .lamp .color .emode)) (enhancedColorModeNumber (lamp .color .emode))
-    && eqb (colorModeNumber (a .lamp .color .mode)) (colorModeNumber (lamp .color .mode))
-    && eqb (a .lamp .color .stamps .hue) (lamp .color .stamps .hue)
-    && eqb (a .lamp .color .stamps .saturation) (lamp .color .stamps .saturation)
-    && eqb (a .lamp .color .stamps .mireds) (lamp .color .stamps .mireds)
-    && eqb (a .lamp .remaining .tenths) (lamp .remaining .tenths)
-    && eqb (a .lamp .clock) (lamp .clock)
-    && eqb (a .wait) 0
+-- its number, and a number of the lamp or the notices
+abbrev hueSeen : Answer → ℕ × ℕ
+hueSeen a = (a .number, a .lamp .color .hue)
 
--- whether the definitions say the same
-abbrev pub holds : Case → Bool
-holds (way from to direction answer) = sameZ (pathDelta from to direction) answer
-holds (progress w time elapsed permille part) = eqb (permilleOf elapsed time) permille && sameZ (partOf w (permilleOf elapsed time)) part
-holds (mireds start w time elapsed answer) = eqb (broughtWithin 153 500 start (partOf w (permilleOf elapsed time))) answer
-holds (remaining old new start answer) = sameBool (told old new start) answer
-holds (tenths ms answer) = eqb (tenthsOf ms) answer
-holds (loop direction seconds elapsed answer) = eqb (movedHue 0 (loopWay direction elapsed seconds)) answer
-holds (moveToHue hue answer) = eqb (given (Command.MoveToHue hue DirectionEnum.Shortest 10 (record { mask = 0; over = 0 })) .number) answer
-holds (miredMove min max elapsed answer done) =
-    eqb (at elapsed (started (given (move min max))) .lamp .color .mireds) answer && sameBool (idle (at elapsed (started (given (move min max))))) done
-holds (miredsStay min max) = unchanged (started (given (move min max)))
+abbrev tenthsSeen : Answer → ℕ × ℕ
+tenthsSeen a = (a .number, a .lamp .remaining .tenths)
+
+abbrev listSeen : Answer → ℕ × List ℕ
+listSeen a = (a .number, listed a)
+
+-- and whether the lamp is idle
+abbrev miredsSeen : Answer → ℕ × ℕ × Bool
+miredsSeen a = (a .number, a .lamp .color .mireds, idle a)
+
+-- accepted with no notice, task or wait, and all of the lamp as it was
+abbrev nothing : Lamp → Answer
+nothing l =
+    record {
+      number = 0;
+      lamp = l;
+      notices = record { places = replicate 16 0; len = 0 };
+      task = GivenTask.Nothing;
+      wait = 0;
+    }
+
+-- ---- the cases
+
+-- a number at an elapsed time; with it, whether the transition is done
+abbrev Point : Type 0
+Point = ℕ × ℕ
+
+abbrev EndPoint : Type 0
+EndPoint = ℕ × ℕ × Bool
+
+pub data Case : Type 0 where
+  -- from one hue to another, in a direction: the way
+  way : ℕ → ℕ → DirectionEnum → ℤ → Case
+  -- "equal hues, any direction: 0"
+  equalHues : Case
+  -- a plain move to a hue: the number of the answer
+  moveToHue : ℕ → ℕ → Case
+  -- a way, its time and the time elapsed: permille and part
+  progress : ℤ → ℕ → ℕ → ℕ → ℤ → Case
+  -- a command: the hue at its start, and at the times of steps
+  hues : Command → ℕ → List Point → Case
+  -- a command: the mireds at its start and whether it is done, and at the times of steps
+  mireds : Command → ℕ × Bool → List EndPoint → Case
+  -- a command: the remaining tenths at its start, and at the times of steps
+  left : Command → ℕ → List Point → Case
+  -- the old tenths and the new, and whether a transition starts: whether it is told
+  remaining : ℕ → ℕ → Bool → Bool → Case
+  -- fades of so many tenths, started one behind the other: the notices of the last start
+  startTells : List ℕ → List ℕ → Case
+  -- milliseconds: tenths
+  tenths : ℕ → ℕ → Case
+  -- a command, started: nothing changes
+  stays : Command → Case
+
+-- permille and part of a way, by the sums alone
+abbrev progressOf : ℤ → ℕ → ℕ → ℕ × ℤ
+progressOf w time elapsed = (permilleOf elapsed time, partOf w (permilleOf elapsed time))
+
+-- what a case says of the definitions
+abbrev pub Holds : Case → Type 0
+Holds (way from to direction answer) = pathDelta from to direction ≡ answer
+Holds equalHues = (hue : ℕ) (direction : DirectionEnum) → hue < 65536 → pathDelta hue hue direction ≡ pos 0
+Holds (moveToHue hue number) = given lamp (Command.MoveToHue hue DirectionEnum.Shortest 10 noOptions) .number ≡ number
+Holds (progress w time elapsed permille part) = progressOf w time elapsed ≡ (permille, part)
+Holds (hues c start points) =
+    map hueSeen (answers c (map (λ (p : Point). p .0) points)) ≡ ((0, start) ∷ map (λ (p : Point). (0, p .1)) points)
+Holds (mireds c start points) =
+    map miredsSeen (answers c (map (λ (p : EndPoint). p .0) points))
+    ≡ ((0, start .0, start .1) ∷ map (λ (p : EndPoint). (0, p .1, p .2)) points)
+Holds (left c start points) =
+    map tenthsSeen (answers c (map (λ (p : Point). p .0) points)) ≡ ((0, start) ∷ map (λ (p : Point). (0, p .1)) points)
+Holds (remaining old new start answer) = told old new start ≡ answer
+Holds (startTells times list) = listSeen (fades (nothing lamp) times) ≡ (0, list)
+Holds (tenths ms answer) = tenthsOf ms ≡ answer
+Holds (stays c) = started c ≡ nothing lamp
+
+-- every case of a list holds
+abbrev pub Each : List Case → Type 0
+Each [] = Unit
+Each (c ∷ cs) = Holds c × Each cs
+
+-- the colour loop from the hue that is shown, at a second a turn: flags for action, direction and time
+abbrev pub loop : ColorLoopDirectionEnum → Command
+loop direction = Command.ColorLoopSet 7 ColorLoopActionEnum.ActivateFromEnhancedCurrentHue direction 1 0 noOptions
+
+-- mireds up at 100 a second between two limits
+abbrev pub upBetween : ℕ → ℕ → Command
+upBetween min max = Command.MoveColorTemperature MoveModeEnum.Up 100 min max noOptions
 
 abbrev pub cases : List Case
 cases =
     -- K1 and K2
     way 0 32768 DirectionEnum.Shortest (pos 32768)
     ∷ way 0 32768 DirectionEnum.Longest (negℤ (pos 32768))
-    -- K3: equal hues, any direction
-    ∷ way 0 0 DirectionEnum.Shortest (pos 0)
-    ∷ way 0 0 DirectionEnum.Longest (pos 0)
-    ∷ way 0 0 DirectionEnum.Up (pos 0)
-    ∷ way 0 0 DirectionEnum.Down (pos 0)
-    ∷ way 65535 65535 DirectionEnum.Shortest (pos 0)
-    ∷ way 65535 65535 DirectionEnum.Longest (pos 0)
-    ∷ way 65535 65535 DirectionEnum.Up (pos 0)
-    ∷ way 65535 65535 DirectionEnum.Down (pos 0)
+    -- K3
+    ∷ equalHues
     -- K4
     ∷ moveToHue 254 0
     ∷ moveToHue 255 1
-    -- K5
+    -- K5: in 70 tenths from 0 up to 65,280
     ∷ progress (pos 65280) 7000 3000 428 (pos 27939)
-    -- K6
+    ∷ hues (Command.EnhancedMoveToHue 65280 DirectionEnum.Up 70 noOptions) 0 ((3000, 27939) ∷ [])
+    -- K6: in 10 tenths from 250 to 153
     ∷ progress (negℤ (pos 97)) 1000 500 500 (negℤ (pos 48))
-    ∷ mireds 250 (negℤ (pos 97)) 1000 500 202
-    -- K7
+    ∷ mireds (Command.MoveToColorTemperature 153 10 noOptions) (250, false) ((500, 202, false) ∷ [])
+    -- K7: the first two at a start or not
     ∷ remaining 0 10 false false
+    ∷ remaining 0 10 true false
+    ∷ startTells (10 ∷ []) (15 ∷ [])
     ∷ remaining 0 11 false true
+    ∷ remaining 0 11 true true
+    ∷ startTells (11 ∷ []) (1 ∷ 15 ∷ [])
     ∷ remaining 50 60 true false
+    ∷ startTells (50 ∷ 60 ∷ []) (15 ∷ [])
     ∷ remaining 50 61 true true
-    -- K8
+    ∷ startTells (50 ∷ 61 ∷ []) (1 ∷ 15 ∷ [])
+    -- K8: of 40 tenths, after 1 ms
     ∷ tenths 3999 40
+    ∷ left (Command.MoveToHue 128 DirectionEnum.Shortest 40 noOptions) 40 ((1, 40) ∷ [])
     -- K9
-    ∷ loop ColorLoopDirectionEnum.Increment 1 994 65142
-    ∷ loop ColorLoopDirectionEnum.Increment 1 995 0
-    ∷ loop ColorLoopDirectionEnum.Increment 1 1005 0
-    ∷ loop ColorLoopDirectionEnum.Increment 1 1006 393
-    ∷ loop ColorLoopDirectionEnum.Increment 1 5 327
+    ∷ hues (loop ColorLoopDirectionEnum.Increment) 0 ((994, 65142) ∷ (995, 0) ∷ (1005, 0) ∷ (1006, 393) ∷ [])
+    ∷ hues (loop ColorLoopDirectionEnum.Increment) 0 ((5, 327) ∷ [])
     -- K10
-    ∷ loop ColorLoopDirectionEnum.Decrement 1 1 65471
+    ∷ hues (loop ColorLoopDirectionEnum.Decrement) 0 ((1, 65471) ∷ [])
     -- K11
-    ∷ miredMove 0 200 0 200 true
-    ∷ miredsStay 500 0
+    ∷ mireds (upBetween 0 200) (200, true) []
+    ∷ stays (upBetween 500 0)
     -- K12
-    ∷ miredMove 0 0 100 260 false
-    ∷ miredMove 0 0 2500 500 true
+    ∷ mireds (upBetween 0 0) (250, false) ((100, 260, false) ∷ (2500, 500, true) ∷ [])
     ∷ []

@@ -1,44 +1,41 @@
 -- Notice lists in their order, by computation: the three lines that document 01 gives for `fade`, and the lists that
--- docs/DECISIONS.md fixes (points 1 and 5); and the numbers of the loop's snap.
+-- docs/DECISIONS.md fixes (points 1 and 5); those of each transition at its start, on its way, within a second of a
+-- notice and at its end; and the numbers of the loop's snap.
 -- Assumes nothing.
 use Prim.Native.Nat.{ℕ}
 use mathlib.Core.Bool.{Bool, true, false}
 use mathlib.Core.List.{List, [], _∷_, map}
 use mathlib.Core.Path.{_≡_, refl}
 use lib.IntN.{pos}
-use lib.ListN.{take}
 use Rattle.matter.specs.declared.ColorLoopActionEnum.{ColorLoopActionEnum}
 use Rattle.matter.specs.declared.ColorLoopDirectionEnum.{ColorLoopDirectionEnum}
 use Rattle.matter.specs.declared.Command.{Command}
 use Rattle.matter.specs.declared.DirectionEnum.{DirectionEnum}
+use Rattle.matter.specs.declared.MoveModeEnum.{MoveModeEnum}
 use Rattle.matter.specs.declared.OnOff.{OnOff}
 use Rattle.matter.specs.All.{allTrue}
 use Rattle.matter.specs.Flags.{hasFlag}
 use Rattle.matter.specs.Rules.{defaultColorMode}
 use Rattle.notices.specs.Notices.{filled}
 use Rattle.hue.specs.Hue.{distance, pathDelta, movedHue}
-use Rattle.progress.specs.Progress.{permilleOf, clamp, snapped}
+use Rattle.progress.specs.Progress.{permilleOf, clamp, snapped, loopTurn}
 use Rattle.remaining_time.specs.RemainingTime.{told}
-use Rattle.color.specs.Setters.{hueSet, hueTold, saturationSet, saturationTold}
+use Rattle.color.specs.Setters.{hueSet, hueTold, saturationSet, saturationTold, miredsSet, miredsTold}
 use Rattle.color.specs.Form.{colorForm}
 use Rattle.tasks.specs.declared.GivenTask.{GivenTask}
 use Rattle.tasks.specs.declared.HueDelta.{HueDelta}
 use Rattle.tasks.specs.declared.TargetSaturation.{TargetSaturation}
 use Rattle.tasks.specs.declared.Task.{Task}
-use Rattle.tasks.specs.Form.{moveToForm, taskForm, runningForm}
+use Rattle.tasks.specs.Form.{moveToForm, hueMoveForm, saturationMoveForm, taskForm, runningForm}
 use Rattle.lamp.specs.declared.Lamp.{Lamp}
 use Rattle.lamp.specs.declared.Answer.{Answer}
 use Rattle.lamp.specs.Answers.{formOrClock}
 use Rattle.lamp.specs.Form.{lampForm}
-use Rattle.lamp.specs.Passes.{hueSaturationPass}
-use Rattle.lamp.specs.Calls.{hueSaturationStart, started, stepped, startAnswer, stepAnswer}
+use Rattle.lamp.specs.Passes.{hueSaturationPass, huePass, saturationPass, temperatureToPass, temperaturePass, loopPass}
+use Rattle.lamp.specs.Calls.{hueSaturationStart, temperatureToStart, temperatureStart, started, stepped, startAnswer, stepAnswer}
 use Rattle.commands.specs.Commands.{deactivated, activated, loopSet, commandEffect}
 use Rattle.commands.specs.Answers.{commandCause, commandAnswer}
-use Rattle.worked_examples.specs.Cases.{lamp, given}
-
--- the notices of an answer, without the unused places
-abbrev listed : Answer → List ℕ
-listed a = take (a .notices .len) (a .notices .places)
+use Rattle.worked_examples.specs.Cases.{lamp, noOptions, given, next, stepsAt, answers, listed, loop, upBetween}
 
 -- a move-to of a way, with a saturation or without, started on a lamp at clock 5000; and on the lamp of the cases
 abbrev begunOn : Lamp → HueDelta → TargetSaturation → ℕ → Bool → Answer
@@ -50,30 +47,31 @@ begun delta saturation ms enhanced = begunOn lamp delta saturation ms enhanced
 
 -- ---- `fade` on `128 0 2 5000`: "15", "13 2 6 7 14 15", "13 2 6 7 14 15 1"
 
-abbrev first : Answer
-first = begun (HueDelta.By (pos 32768)) TargetSaturation.Keep 200 false
+abbrev fade : Command
+fade = Command.MoveToHue 128 DirectionEnum.Shortest 2 noOptions
 
-abbrev second : Answer
-second = stepAnswer (first .lamp) 5100
-
-abbrev third : Answer
-third = stepAnswer (second .lamp) 5200
-
-fade-command : given (Command.MoveToHue 128 DirectionEnum.Shortest 2 (record { mask = 0; over = 0 })) .task ≡ GivenTask.Given (Task.HueSaturationMoveTo (record { delta = HueDelta.By (pos 32768); saturation = TargetSaturation.Keep; ms = 200; enhanced = false }))
+fade-command : given lamp fade .task
+    ≡ GivenTask.Given (Task.HueSaturationMoveTo
+    (record { delta = HueDelta.By (pos 32768); saturation = TargetSaturation.Keep; ms = 200; enhanced = false }))
 unfolding hasFlag defaultColorMode allTrue colorForm runningForm lampForm formOrClock clamp distance pathDelta commandEffect commandCause commandAnswer
 fade-command = refl
 
-fade-told : map listed (first ∷ second ∷ third ∷ []) ≡ ((15 ∷ []) ∷ (13 ∷ 2 ∷ 6 ∷ 7 ∷ 14 ∷ 15 ∷ []) ∷ (13 ∷ 2 ∷ 6 ∷ 7 ∷ 14 ∷ 15 ∷ 1 ∷ []) ∷ [])
-unfolding hasFlag defaultColorMode allTrue colorForm moveToForm taskForm runningForm lampForm formOrClock clamp movedHue permilleOf told filled hueSet hueTold hueSaturationPass hueSaturationStart started stepped startAnswer stepAnswer
+fade-told : map listed (answers fade (100 ∷ 200 ∷ []))
+    ≡ ((15 ∷ []) ∷ (13 ∷ 2 ∷ 6 ∷ 7 ∷ 14 ∷ 15 ∷ []) ∷ (13 ∷ 2 ∷ 6 ∷ 7 ∷ 14 ∷ 15 ∷ 1 ∷ []) ∷ [])
+unfolding hasFlag defaultColorMode allTrue colorForm moveToForm taskForm runningForm lampForm formOrClock clamp distance pathDelta movedHue permilleOf told filled hueSet hueTold hueSaturationPass hueSaturationStart started stepped startAnswer stepAnswer commandEffect commandCause commandAnswer next stepsAt
 fade-told = refl
 
-fade-waits : map (λ (a : Answer). a .wait) (first ∷ second ∷ third ∷ []) ≡ (100 ∷ 100 ∷ 0 ∷ [])
-unfolding hasFlag defaultColorMode allTrue colorForm moveToForm taskForm runningForm lampForm formOrClock clamp movedHue permilleOf told filled hueSet hueTold hueSaturationPass hueSaturationStart started stepped startAnswer stepAnswer
+fade-waits : map (λ (a : Answer). a .wait) (answers fade (100 ∷ 200 ∷ [])) ≡ (100 ∷ 100 ∷ 0 ∷ [])
+unfolding hasFlag defaultColorMode allTrue colorForm moveToForm taskForm runningForm lampForm formOrClock clamp distance pathDelta movedHue permilleOf told filled hueSet hueTold hueSaturationPass hueSaturationStart started stepped startAnswer stepAnswer commandEffect commandCause commandAnswer next stepsAt
 fade-waits = refl
 
 -- ---- the full time first: way 1 in 1100 ms; and the longest list, no way and saturation 0, enhanced
 
-start-told : map listed (begun (HueDelta.By (pos 1)) TargetSaturation.Keep 1100 false ∷ begun (HueDelta.By (pos 0)) (TargetSaturation.To 0) 1100 true ∷ []) ≡ ((1 ∷ 15 ∷ []) ∷ (1 ∷ 13 ∷ 2 ∷ 3 ∷ 6 ∷ 7 ∷ 14 ∷ 13 ∷ 4 ∷ 6 ∷ 7 ∷ 14 ∷ 15 ∷ 1 ∷ []) ∷ [])
+start-told : map listed
+    (begun (HueDelta.By (pos 1)) TargetSaturation.Keep 1100 false
+    ∷ begun (HueDelta.By (pos 0)) (TargetSaturation.To 0) 1100 true
+    ∷ [])
+    ≡ ((1 ∷ 15 ∷ []) ∷ (1 ∷ 13 ∷ 2 ∷ 3 ∷ 6 ∷ 7 ∷ 14 ∷ 13 ∷ 4 ∷ 6 ∷ 7 ∷ 14 ∷ 15 ∷ 1 ∷ []) ∷ [])
 unfolding hasFlag defaultColorMode allTrue colorForm moveToForm taskForm runningForm lampForm formOrClock clamp movedHue permilleOf told filled hueSet hueTold saturationSet saturationTold hueSaturationPass hueSaturationStart started stepped startAnswer stepAnswer
 start-told = refl
 
@@ -82,7 +80,9 @@ start-told = refl
 abbrev fiveLeft : Lamp
 fiveLeft = begun (HueDelta.By (pos 1)) TargetSaturation.Keep 500 false .lamp
 
-at-once-told : (fiveLeft .remaining .tenths ≡ 5) × (listed (begunOn fiveLeft (HueDelta.By (pos 1)) TargetSaturation.Keep 0 false) ≡ (1 ∷ 13 ∷ 2 ∷ 6 ∷ 7 ∷ 14 ∷ 15 ∷ []))
+at-once-told : (fiveLeft .remaining .tenths ≡ 5)
+    × (listed (begunOn fiveLeft (HueDelta.By (pos 1)) TargetSaturation.Keep 0 false)
+    ≡ (1 ∷ 13 ∷ 2 ∷ 6 ∷ 7 ∷ 14 ∷ 15 ∷ []))
 unfolding hasFlag defaultColorMode allTrue colorForm moveToForm taskForm runningForm lampForm formOrClock clamp movedHue permilleOf told filled hueSet hueTold hueSaturationPass hueSaturationStart started stepped startAnswer stepAnswer
 at-once-told = (refl, refl)
 
@@ -90,7 +90,7 @@ at-once-told = (refl, refl)
 
 abbrev loopFlags : ℕ → ColorLoopActionEnum → Lamp → Answer
 loopFlags flags action l =
-    commandAnswer l (Command.ColorLoopSet flags action ColorLoopDirectionEnum.Increment 30 100 (record { mask = 0; over = 0 })) OnOff.On 5000
+    commandAnswer l (Command.ColorLoopSet flags action ColorLoopDirectionEnum.Increment 30 100 noOptions) OnOff.On 5000
 
 abbrev looped : ColorLoopActionEnum → Lamp → Answer
 looped action l = loopFlags 15 action l
@@ -101,13 +101,123 @@ on = looped ColorLoopActionEnum.ActivateFromColorLoopStartEnhancedHue lamp
 abbrev off : Answer
 off = looped ColorLoopActionEnum.Deactivate (on .lamp)
 
-loop-told : map listed (on ∷ looped ColorLoopActionEnum.ActivateFromEnhancedCurrentHue (on .lamp) ∷ off ∷ looped ColorLoopActionEnum.Deactivate (off .lamp) ∷ []) ≡ ((9 ∷ 10 ∷ 11 ∷ 13 ∷ 12 ∷ 8 ∷ 2 ∷ 3 ∷ 6 ∷ 7 ∷ 14 ∷ 15 ∷ 17 ∷ []) ∷ (9 ∷ 10 ∷ 11 ∷ 13 ∷ 2 ∷ 3 ∷ 6 ∷ 7 ∷ 14 ∷ 15 ∷ 17 ∷ []) ∷ (9 ∷ 10 ∷ 11 ∷ 13 ∷ 17 ∷ 8 ∷ 13 ∷ 2 ∷ 3 ∷ 6 ∷ 7 ∷ 14 ∷ 15 ∷ []) ∷ (9 ∷ 10 ∷ 11 ∷ 13 ∷ []) ∷ [])
+loop-told : map listed
+    (on ∷ looped ColorLoopActionEnum.ActivateFromEnhancedCurrentHue (on .lamp) ∷ off
+    ∷ looped ColorLoopActionEnum.Deactivate (off .lamp)
+    ∷ [])
+    ≡ ((9 ∷ 10 ∷ 11 ∷ 13 ∷ 12 ∷ 8 ∷ 2 ∷ 3 ∷ 6 ∷ 7 ∷ 14 ∷ 15 ∷ 17 ∷ [])
+    ∷ (9 ∷ 10 ∷ 11 ∷ 13 ∷ 2 ∷ 3 ∷ 6 ∷ 7 ∷ 14 ∷ 15 ∷ 17 ∷ [])
+    ∷ (9 ∷ 10 ∷ 11 ∷ 13 ∷ 17 ∷ 8 ∷ 13 ∷ 2 ∷ 3 ∷ 6 ∷ 7 ∷ 14 ∷ 15 ∷ [])
+    ∷ (9 ∷ 10 ∷ 11 ∷ 13 ∷ [])
+    ∷ [])
 unfolding hasFlag defaultColorMode allTrue colorForm runningForm lampForm formOrClock clamp filled hueSet hueTold deactivated activated loopSet commandEffect commandCause commandAnswer
 loop-told = refl
 
 no-flag-told : listed (loopFlags 0 ColorLoopActionEnum.ActivateFromEnhancedCurrentHue lamp) ≡ (13 ∷ [])
 unfolding hasFlag defaultColorMode allTrue colorForm runningForm lampForm formOrClock clamp filled loopSet commandEffect commandCause commandAnswer
 no-flag-told = refl
+
+-- ---- each transition: its start, where nothing has moved; on its way; within a second of a notice; later; at its end,
+-- which tells within a second too
+
+-- what is heard of an answer: its number, its notices and its wait
+abbrev Heard : Type 0
+Heard = ℕ × List ℕ × ℕ
+
+abbrev heard : Answer → Heard
+heard a = (a .number, listed a, a .wait)
+
+-- a command to the lamp of the cases, the times of the steps after its start, and what is heard of the start and of each
+-- step
+pub record Run : Type 0 where
+  pub command : Command
+  pub times : List ℕ
+  pub hears : List Heard
+
+-- a pass that tells of the mireds, and one that tells of the saturation; the others are written out
+abbrev ofMireds : List ℕ
+ofMireds = 13 ∷ 5 ∷ 6 ∷ 7 ∷ 14 ∷ 16 ∷ []
+
+abbrev ofSaturation : List ℕ
+ofSaturation = 13 ∷ 4 ∷ 6 ∷ 7 ∷ 14 ∷ 15 ∷ []
+
+abbrev transitions : List Run
+transitions =
+    -- mireds from 250 to 153 in 10 tenths; in 11 tenths; and from 250 to 250, with no way
+    record {
+      command = Command.MoveToColorTemperature 153 10 noOptions;
+      times = 500 ∷ 600 ∷ 1000 ∷ [];
+      hears =
+          (0, 16 ∷ [], 100) ∷ (0, ofMireds, 100) ∷ (0, 13 ∷ 14 ∷ 16 ∷ [], 100)
+          ∷ (0, 13 ∷ 5 ∷ 6 ∷ 7 ∷ 14 ∷ 16 ∷ 1 ∷ [], 0)
+          ∷ [];
+    }
+    ∷ record {
+      command = Command.MoveToColorTemperature 153 11 noOptions;
+      times = [];
+      hears = (0, 1 ∷ 16 ∷ [], 100) ∷ [];
+    }
+    ∷ record {
+      command = Command.MoveToColorTemperature 250 11 noOptions;
+      times = [];
+      hears = (0, 1 ∷ 13 ∷ 5 ∷ 6 ∷ 7 ∷ 14 ∷ 16 ∷ 1 ∷ [], 0) ∷ [];
+    }
+    -- mireds up at 100 a second from 250 to 500
+    ∷ record {
+      command = upBetween 0 0;
+      times = 100 ∷ 200 ∷ 2000 ∷ 2500 ∷ [];
+      hears =
+          (0, 16 ∷ [], 100) ∷ (0, ofMireds, 100) ∷ (0, 13 ∷ 14 ∷ 16 ∷ [], 100) ∷ (0, ofMireds, 100) ∷ (0, ofMireds, 0)
+          ∷ [];
+    }
+    -- saturation up at 100 a second from 0 to 254
+    ∷ record {
+      command = Command.MoveSaturation MoveModeEnum.Up 100 noOptions;
+      times = 100 ∷ 200 ∷ 2000 ∷ 2540 ∷ [];
+      hears =
+          (0, 15 ∷ [], 100) ∷ (0, ofSaturation, 100) ∷ (0, 13 ∷ 14 ∷ 15 ∷ [], 100) ∷ (0, ofSaturation, 100)
+          ∷ (0, ofSaturation, 0)
+          ∷ [];
+    }
+    -- hue and saturation to 128 and 100 in 10 tenths
+    ∷ record {
+      command = Command.MoveToHueAndSaturation 128 100 10 false 0 noOptions;
+      times = 500 ∷ 600 ∷ 1000 ∷ [];
+      hears =
+          (0, 15 ∷ [], 100) ∷ (0, 13 ∷ 2 ∷ 6 ∷ 7 ∷ 14 ∷ 13 ∷ 4 ∷ 6 ∷ 7 ∷ 14 ∷ 15 ∷ [], 100)
+          ∷ (0, 13 ∷ 14 ∷ 13 ∷ 14 ∷ 15 ∷ [], 100)
+          ∷ (0, 13 ∷ 2 ∷ 6 ∷ 7 ∷ 14 ∷ 13 ∷ 4 ∷ 6 ∷ 7 ∷ 14 ∷ 15 ∷ 1 ∷ [], 0)
+          ∷ [];
+    }
+    -- hue up at 10 plain numbers a second, and down at 1000 enhanced ones
+    ∷ record {
+      command = Command.MoveHue MoveModeEnum.Up 10 false noOptions;
+      times = 100 ∷ 200 ∷ 1100 ∷ [];
+      hears =
+          (0, 15 ∷ [], 100) ∷ (0, 13 ∷ 2 ∷ 6 ∷ 7 ∷ 14 ∷ 15 ∷ [], 100) ∷ (0, 13 ∷ 14 ∷ 15 ∷ [], 100)
+          ∷ (0, 13 ∷ 2 ∷ 6 ∷ 7 ∷ 14 ∷ 15 ∷ [], 100)
+          ∷ [];
+    }
+    ∷ record {
+      command = Command.EnhancedMoveHue MoveModeEnum.Down 1000 noOptions;
+      times = 100 ∷ 200 ∷ [];
+      hears = (0, 15 ∷ [], 100) ∷ (0, 13 ∷ 2 ∷ 3 ∷ 6 ∷ 7 ∷ 14 ∷ 15 ∷ [], 100) ∷ (0, 13 ∷ 14 ∷ 15 ∷ [], 100) ∷ [];
+    }
+    -- the colour loop up, a second a turn, which tells at its command
+    ∷ record {
+      command = loop ColorLoopDirectionEnum.Increment;
+      times = 5 ∷ 995 ∷ 1005 ∷ 1006 ∷ [];
+      hears =
+          (0, 15 ∷ [], 100) ∷ (0, 14 ∷ 15 ∷ [], 100) ∷ (0, 14 ∷ 15 ∷ [], 5) ∷ (0, 15 ∷ [], 100)
+          ∷ (0, 2 ∷ 3 ∷ 6 ∷ 7 ∷ 14 ∷ 15 ∷ [], 100)
+          ∷ [];
+    }
+    ∷ []
+
+transitions-told : map (λ (r : Run). map heard (answers (r .command) (r .times))) transitions
+    ≡ map (λ (r : Run). r .hears) transitions
+unfolding hasFlag defaultColorMode allTrue colorForm moveToForm hueMoveForm saturationMoveForm taskForm runningForm lampForm formOrClock clamp distance pathDelta movedHue permilleOf snapped loopTurn told filled hueSet hueTold saturationSet saturationTold miredsSet miredsTold hueSaturationPass huePass saturationPass temperatureToPass temperaturePass loopPass hueSaturationStart temperatureToStart temperatureStart started stepped startAnswer stepAnswer activated loopSet commandEffect commandCause commandAnswer next stepsAt
+transitions-told = refl
 
 -- ---- the snap at its numbers: a turn's part of 65,152 and more goes up, one of 384 and less goes down, but in the first turn
 
