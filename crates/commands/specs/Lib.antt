@@ -3,3 +3,4 @@ pub mod Answers
 pub mod Shared
 pub mod Kept
 pub mod Table
+pub mod TaskForm

@@ -189,6 +189,14 @@ transitions =
           ∷ (0, 13 ∷ 2 ∷ 6 ∷ 7 ∷ 14 ∷ 13 ∷ 4 ∷ 6 ∷ 7 ∷ 14 ∷ 15 ∷ 1 ∷ [], 0)
           ∷ [];
     }
+    -- hue to 128 in the longest time, 65,535 tenths
+    ∷ record {
+      command = Command.MoveToHue 128 DirectionEnum.Shortest 65535 noOptions;
+      times = 6_553_499 ∷ 6_553_500 ∷ [];
+      hears =
+          (0, 1 ∷ 15 ∷ [], 100) ∷ (0, 13 ∷ 2 ∷ 6 ∷ 7 ∷ 14 ∷ 15 ∷ [], 1) ∷ (0, 13 ∷ 2 ∷ 6 ∷ 7 ∷ 14 ∷ 15 ∷ 1 ∷ [], 0)
+          ∷ [];
+    }
     -- hue up at 10 plain numbers a second, and down at 1000 enhanced ones
     ∷ record {
       command = Command.MoveHue MoveModeEnum.Up 10 false noOptions;
