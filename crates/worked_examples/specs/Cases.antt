@@ -20,6 +20,7 @@ use Rattle.hue.specs.Hue.{pathDelta}
 use Rattle.progress.specs.Progress.{permilleOf, partOf, tenthsOf}
 use Rattle.remaining_time.specs.RemainingTime.{told}
 use Rattle.tasks.specs.declared.GivenTask.{GivenTask}
+use Rattle.tasks.specs.declared.Running.{Running}
 use Rattle.tasks.specs.Runs.{runs}
 use Rattle.lamp.specs.declared.Lamp.{Lamp}
 use Rattle.lamp.specs.declared.Answer.{Answer}
@@ -98,7 +99,20 @@ listSeen a = (a .number, listed a)
 abbrev miredsSeen : Answer → ℕ × ℕ × Bool
 miredsSeen a = (a .number, a .lamp .color .mireds, idle a)
 
--- accepted with no notice, task or wait, and all of the lamp as it was
+-- the lamp idle, all else as it was
+abbrev idled : Lamp → Lamp
+idled l =
+    record {
+      clock = l .clock;
+      bounds = l .bounds;
+      color = l .color;
+      looping = l .looping;
+      remaining = l .remaining;
+      options = l .options;
+      running = Running.Idle;
+    }
+
+-- accepted with no notice, task or wait: this lamp
 abbrev nothing : Lamp → Answer
 nothing l =
     record {
@@ -139,8 +153,8 @@ pub data Case : Type 0 where
   startTells : List ℕ → List ℕ → Case
   -- milliseconds: tenths
   tenths : ℕ → ℕ → Case
-  -- a command, started: nothing changes
-  stays : Command → Case
+  -- a command to a lamp, started: nothing changes, and the lamp is idle
+  stays : Lamp → Command → Case
 
 -- permille and part of a way, by the sums alone
 abbrev progressOf : ℤ → ℕ → ℕ → ℕ × ℤ
@@ -162,7 +176,7 @@ Holds (left c start points) =
 Holds (remaining old new start answer) = told old new start ≡ answer
 Holds (startTells times list) = listSeen (fades (nothing lamp) times) ≡ (0, list)
 Holds (tenths ms answer) = tenthsOf ms ≡ answer
-Holds (stays c) = started c ≡ nothing lamp
+Holds (stays l c) = startedOn l c ≡ nothing (idled l)
 
 -- every case of a list holds
 abbrev pub Each : List Case → Type 0
@@ -176,6 +190,14 @@ loop direction = Command.ColorLoopSet 7 ColorLoopActionEnum.ActivateFromEnhanced
 -- mireds up at 100 a second between two limits
 abbrev pub upBetween : ℕ → ℕ → Command
 upBetween min max = Command.MoveColorTemperature MoveModeEnum.Up 100 min max noOptions
+
+-- a lamp whose loop is active, halfway through a move of hue and saturation (`busy-runs` in Lists)
+abbrev pub busy : Lamp
+busy =
+    next
+    (startedOn (given lamp (loop ColorLoopDirectionEnum.Decrement) .lamp)
+    (Command.MoveToHueAndSaturation 128 100 11 false 0 noOptions))
+    (λ (l : Lamp). stepAnswer l 5550) .lamp
 
 abbrev pub cases : List Case
 cases =
@@ -214,7 +236,8 @@ cases =
     ∷ hues (loop ColorLoopDirectionEnum.Decrement) 0 ((1, 65471) ∷ [])
     -- K11
     ∷ mireds (upBetween 0 200) (200, true) []
-    ∷ stays (upBetween 500 0)
+    ∷ stays lamp (upBetween 500 0)
+    ∷ stays busy (upBetween 500 0)
     -- K12
     ∷ mireds (upBetween 0 0) (250, false) ((100, 260, false) ∷ (2500, 500, true) ∷ [])
     ∷ []

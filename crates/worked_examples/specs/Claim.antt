@@ -9,7 +9,7 @@ use Rattle.hue.specs.Hue.{distance, pathDelta, movedHue}
 use Rattle.hue.specs.Laws.{equal-no-way}
 use Rattle.progress.specs.Progress.{permilleOf, snapped, loopTurn, clamp}
 use Rattle.remaining_time.specs.RemainingTime.{told}
-use Rattle.color.specs.Setters.{hueSet, hueTold, miredsSet, miredsTold}
+use Rattle.color.specs.Setters.{hueSet, hueTold, saturationSet, saturationTold, miredsSet, miredsTold}
 use Rattle.color.specs.Form.{colorForm}
 use Rattle.tasks.specs.Form.{moveToForm, taskForm, runningForm}
 use Rattle.lamp.specs.Form.{lampForm}
@@ -21,6 +21,6 @@ use Rattle.commands.specs.Answers.{commandCause, commandAnswer}
 use Rattle.worked_examples.specs.Cases.{next, stepsAt, fades, Each, cases}
 
 worked-examples : Each cases
-unfolding allTrue hasFlag defaultColorMode distance pathDelta movedHue permilleOf snapped loopTurn clamp told filled hueSet hueTold miredsSet miredsTold colorForm moveToForm taskForm runningForm lampForm formOrClock hueSaturationPass temperatureToPass temperaturePass loopPass hueSaturationStart temperatureToStart temperatureStart started stepped startAnswer stepAnswer activated loopSet commandEffect commandCause commandAnswer next stepsAt fades
+unfolding allTrue hasFlag defaultColorMode distance pathDelta movedHue permilleOf snapped loopTurn clamp told filled hueSet hueTold saturationSet saturationTold miredsSet miredsTold colorForm moveToForm taskForm runningForm lampForm formOrClock hueSaturationPass temperatureToPass temperaturePass loopPass hueSaturationStart temperatureToStart temperatureStart started stepped startAnswer stepAnswer activated loopSet commandEffect commandCause commandAnswer next stepsAt fades
 worked-examples =
-    (refl, (refl, (equal-no-way, (refl, (refl, (refl, (refl, (refl, (refl, (refl, (refl, (refl, (refl, (refl, (refl, (refl, (refl, (refl, (refl, (refl, (refl, (refl, (refl, (refl, (refl, (refl, (refl, tt)))))))))))))))))))))))))))
+    (refl, (refl, (equal-no-way, (refl, (refl, (refl, (refl, (refl, (refl, (refl, (refl, (refl, (refl, (refl, (refl, (refl, (refl, (refl, (refl, (refl, (refl, (refl, (refl, (refl, (refl, (refl, (refl, (refl, tt))))))))))))))))))))))))))))

@@ -26,6 +26,7 @@ use Rattle.tasks.specs.declared.GivenTask.{GivenTask}
 use Rattle.tasks.specs.declared.HueDelta.{HueDelta}
 use Rattle.tasks.specs.declared.TargetSaturation.{TargetSaturation}
 use Rattle.tasks.specs.declared.Task.{Task}
+use Rattle.tasks.specs.Runs.{runs}
 use Rattle.tasks.specs.Form.{moveToForm, hueMoveForm, saturationMoveForm, taskForm, runningForm}
 use Rattle.lamp.specs.declared.Lamp.{Lamp}
 use Rattle.lamp.specs.declared.Answer.{Answer}
@@ -35,7 +36,7 @@ use Rattle.lamp.specs.Passes.{hueSaturationPass, huePass, saturationPass, tempe
 use Rattle.lamp.specs.Calls.{hueSaturationStart, temperatureToStart, temperatureStart, started, stepped, startAnswer, stepAnswer}
 use Rattle.commands.specs.Commands.{deactivated, activated, loopSet, commandEffect}
 use Rattle.commands.specs.Answers.{commandCause, commandAnswer}
-use Rattle.worked_examples.specs.Cases.{lamp, noOptions, given, next, stepsAt, answers, listed, loop, upBetween}
+use Rattle.worked_examples.specs.Cases.{lamp, noOptions, given, next, stepsAt, answers, listed, loop, upBetween, busy}
 
 -- a move-to of a way, with a saturation or without, started on a lamp at clock 5000; and on the lamp of the cases
 abbrev begunOn : Lamp → HueDelta → TargetSaturation → ℕ → Bool → Answer
@@ -226,6 +227,15 @@ transitions-told : map (λ (r : Run). map heard (answers (r .command) (r .times)
     ≡ map (λ (r : Run). r .hears) transitions
 unfolding hasFlag defaultColorMode allTrue colorForm moveToForm hueMoveForm saturationMoveForm taskForm runningForm lampForm formOrClock clamp distance pathDelta movedHue permilleOf snapped loopTurn told filled hueSet hueTold saturationSet saturationTold miredsSet miredsTold hueSaturationPass huePass saturationPass temperatureToPass temperaturePass loopPass hueSaturationStart temperatureToStart temperatureStart started stepped startAnswer stepAnswer activated loopSet commandEffect commandCause commandAnswer next stepsAt
 transitions-told = refl
+
+-- ---- K11's busy lamp: its hue, saturation and remaining tenths, and that it runs
+
+abbrev shown : Lamp → ℕ × ℕ × ℕ × Bool
+shown l = (l .color .hue, l .color .saturation, l .remaining .tenths, runs (l .running))
+
+busy-runs : shown busy ≡ (16384, 50, 6, true)
+unfolding hasFlag defaultColorMode allTrue colorForm moveToForm taskForm runningForm lampForm formOrClock clamp distance pathDelta movedHue permilleOf told filled hueSet hueTold saturationSet saturationTold hueSaturationPass hueSaturationStart started stepped startAnswer stepAnswer activated loopSet commandEffect commandCause commandAnswer next
+busy-runs = refl
 
 -- ---- the snap at its numbers: a turn's part of 65,152 and more goes up, one of 384 and less goes down, but in the first turn
 
