@@ -21,6 +21,7 @@ pub mod TransitionAgrees
 pub mod MoveToAgrees
 pub mod StepsAgree
 pub mod LimitsAgree
+pub mod ShownAgrees
 pub mod TargetsAgree
 pub mod HuesAgree
 pub mod ModesAgree

@@ -67,3 +67,20 @@ closest-by least most n false false e f h =
 pub closest-agrees : (least most n : ℕ) → least ≤ most → Closest least most n (clamp least most (pos n))
 unfolding clamp
 closest-agrees least most n h = closest-by least most n (ltb n least) (ltb most n) refl refl h
+
+-- and there is no other
+only-by : (least most n a b : ℕ) (s t : Bool) → ltb n least ≡ s → ltb most n ≡ t →
+    Closest least most n a → Closest least most n b → a ≡ b
+only-by least most n a b true t e f c d =
+    let below : n < least = ltb-true n least e in
+    omega (arith, c .low, c .high, d .low, d .high, c .near least (omega arith) (omega (arith, c .low, c .high)), d .near least (omega arith) (omega (arith, c .low, c .high)))
+only-by least most n a b false true e f c d =
+    let above : most < n = ltb-true most n f in
+    omega (arith, c .low, c .high, d .low, d .high, c .near most (omega (arith, c .low, c .high)) (omega arith), d .near most (omega (arith, c .low, c .high)) (omega arith))
+only-by least most n a b false false e f c d =
+    let low : least ≤ n = ltb-false n least e in
+    let high : n ≤ most = ltb-false most n f in
+    omega (arith, c .near n low high, d .near n low high)
+
+pub closest-only : (least most n a b : ℕ) → Closest least most n a → Closest least most n b → a ≡ b
+closest-only least most n a b = only-by least most n a b (ltb n least) (ltb most n) refl refl

@@ -9,14 +9,13 @@ use native.Mathlib.Omega.{arith}
 use lib.Dec.{leb, ltb}
 use lib.IntN.{ℤ, pos, negsuc, negℤ, natAbs, _-ℤ_}
 use borrow.Author.Tests.{ltb-true, ltb-false, leb-true, leb-false, le-leb, lt-leb}
-use Rattle.matter.specs.declared.Bounds.{Bounds}
 use Rattle.matter.specs.Laws.{cond-both}
 use Rattle.integers.proofs.Sizes.{abs-neg}
 use Rattle.progress.specs.Progress.{permilleOf, partOf, broughtWithin}
 use Rattle.progress.specs.Laws.{permille-is, permille-full, permille-short, permille-most, part-down, part-size, part-within, part-whole}
-use Rattle.lamp.specs.Passes.{saturationNow, miredsNow}
+use Rattle.conformance.specs.Limits.{away}
 use Rattle.conformance.specs.StepsAgree.{within-up, within-down}
-use Rattle.conformance.specs.Transition.{travelled}
+use Rattle.conformance.specs.Transition.{travelled, onLine, lineAt}
 
 -- the size of the port's part, so long after the start
 abbrev pub gone : ℤ → ℕ → ℕ → ℕ
@@ -181,29 +180,53 @@ module _ (start target p : ℕ) (few : p ≤ 1000) where
       let q : p ≡ 1000 = omega (arith, leb-true 1000 p e) in
       sym (ap (λ (n : ℕ). start - natAbs (partOf (pos target -ℤ pos start) n)) q ∙ ap (λ (z : ℤ). start - natAbs z) (part-whole (pos target -ℤ pos start) ∙ way-down start target h) ∙ ap (λ (n : ℕ). start - n) (abs-neg (pos (start - target))) ∙ omega arith)
 
-module _ (start target elapsed time : ℕ) where
-  -- the saturation that a pass sets: the start, and up or down from it what `gone` says
-  pub saturation-up : start ≤ target → target ≤ 254 → saturationNow start target (permilleOf elapsed time) ≡ start + gone (pos target -ℤ pos start) elapsed time
-  saturation-up h k =
-      cond-both (λ (n : ℕ). n ≡ start + gone (pos target -ℤ pos start) elapsed time) (leb 1000 (permilleOf elapsed time)) target _
-      (whole-up start target (permilleOf elapsed time) (permille-most elapsed time) h)
-      (λ e. line-up 0 254 start target (permilleOf elapsed time) (permille-most elapsed time) (omega arith) h k)
+-- what a pass sets at so many thousandths: the number on its line, as many units on as the part is large
+module _ (lo hi start target p : ℕ) (few : p ≤ 1000)
+    (low : lo ≤ start) (high : start ≤ hi) (above : lo ≤ target) (below : target ≤ hi) where
+  line-by : (b : Bool) → leb start target ≡ b →
+      cond (leb 1000 p) target (broughtWithin lo hi start (partOf (pos target -ℤ pos start) p))
+      ≡ cond b (start + natAbs (partOf (pos target -ℤ pos start) p)) (start - natAbs (partOf (pos target -ℤ pos start) p))
+  line-by true e =
+      let h : start ≤ target = leb-true start target e in
+      cond-both (λ (n : ℕ). n ≡ start + natAbs (partOf (pos target -ℤ pos start) p)) (leb 1000 p) target _
+      (whole-up start target p few h)
+      (λ e. line-up lo hi start target p few low h below)
+  line-by false e =
+      let h : target < start = leb-false start target e in
+      cond-both (λ (n : ℕ). n ≡ start - natAbs (partOf (pos target -ℤ pos start) p)) (leb 1000 p) target _
+      (whole-down start target p few h)
+      (λ e. line-down lo hi start target p few above h high)
 
-  pub saturation-down : target < start → start ≤ 254 → saturationNow start target (permilleOf elapsed time) ≡ start - gone (pos target -ℤ pos start) elapsed time
-  saturation-down h k =
-      cond-both (λ (n : ℕ). n ≡ start - gone (pos target -ℤ pos start) elapsed time) (leb 1000 (permilleOf elapsed time)) target _
-      (whole-down start target (permilleOf elapsed time) (permille-most elapsed time) h)
-      (λ e. line-down 0 254 start target (permilleOf elapsed time) (permille-most elapsed time) (omega arith) h k)
+  pub line-is : cond (leb 1000 p) target (broughtWithin lo hi start (partOf (pos target -ℤ pos start) p))
+      ≡ onLine start target (natAbs (partOf (pos target -ℤ pos start) p))
+  line-is = line-by (leb start target) refl
 
-  -- and the mireds, between the bounds
-  pub mireds-up : (bounds : Bounds) → bounds .min ≤ start → start ≤ target → target ≤ bounds .max → miredsNow bounds start target (permilleOf elapsed time) ≡ start + gone (pos target -ℤ pos start) elapsed time
-  mireds-up bounds low h high =
-      cond-both (λ (n : ℕ). n ≡ start + gone (pos target -ℤ pos start) elapsed time) (leb 1000 (permilleOf elapsed time)) target _
-      (whole-up start target (permilleOf elapsed time) (permille-most elapsed time) h)
-      (λ e. line-up (bounds .min) (bounds .max) start target (permilleOf elapsed time) (permille-most elapsed time) low h high)
+-- the size of the way on a line
+module _ (from to : ℕ) where
+  size-by : (b : Bool) → leb from to ≡ b → natAbs (pos to -ℤ pos from) ≡ away from to
+  size-by true e = let h : from ≤ to = leb-true from to e in ap natAbs (way-up from to h) ∙ omega arith
+  size-by false e =
+      let h : to < from = leb-false from to e in
+      ap natAbs (way-down from to h) ∙ abs-neg (pos (from - to)) ∙ omega arith
 
-  pub mireds-down : (bounds : Bounds) → bounds .min ≤ target → target < start → start ≤ bounds .max → miredsNow bounds start target (permilleOf elapsed time) ≡ start - gone (pos target -ℤ pos start) elapsed time
-  mireds-down bounds low h high =
-      cond-both (λ (n : ℕ). n ≡ start - gone (pos target -ℤ pos start) elapsed time) (leb 1000 (permilleOf elapsed time)) target _
-      (whole-down start target (permilleOf elapsed time) (permille-most elapsed time) h)
-      (λ e. line-down (bounds .min) (bounds .max) start target (permilleOf elapsed time) (permille-most elapsed time) low h high)
+  way-size : natAbs (pos to -ℤ pos from) ≡ away from to
+  way-size = size-by (leb from to) refl
+
+  -- no way from a number to itself
+  pub no-way : from ≡ to → pos to -ℤ pos from ≡ pos 0
+  no-way e = way-up from to (omega arith) ∙ ap pos (omega arith)
+
+  there-by : (b : Bool) → leb from to ≡ b → cond b (from + away from to) (from - away from to) ≡ to
+  there-by true e = omega (arith, leb-true from to e)
+  there-by false e = omega (arith, leb-false from to e)
+
+  module _ (elapsed time : ℕ) where
+    -- wherever the port's part is the text's (above), the number is
+    pub line-agrees : gone (pos to -ℤ pos from) elapsed time ≡ travelled (natAbs (pos to -ℤ pos from)) elapsed time →
+        onLine from to (gone (pos to -ℤ pos from) elapsed time) ≡ lineAt from to elapsed time
+    line-agrees e = ap (onLine from to) (e ∙ ap (λ (n : ℕ). travelled n elapsed time) way-size)
+
+    -- and at the time and after it the text's is the number moved to
+    pub line-arrives : time ≤ elapsed → lineAt from to elapsed time ≡ to
+    unfolding travelled
+    line-arrives h = rw (le-leb time elapsed h) (there-by (leb from to) refl)
