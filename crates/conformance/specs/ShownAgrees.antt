@@ -2,7 +2,7 @@
 -- steps. The hue is that of the start and the part of its way (`gone`, the part's size, is compared with the text's in
 -- TransitionAgrees); the saturation and the mireds are the numbers on their lines; the remaining time is the text's.
 -- Assumes nothing.
-use Prim.Native.Nat.{ℕ, zero, suc, _-_, _≤_, _<_, min}
+use Prim.Native.Nat.{ℕ, zero, suc, _-_, _%_, _≤_, _<_, min}
 use mathlib.Core.Bool.{Bool, true, false, cond, _&&_, or-true}
 use mathlib.Core.List.{List, [], _∷_}
 use mathlib.Core.Logic.{_⊎_, inl, inr, ⊎-elim}
@@ -126,3 +126,113 @@ module _ (m : Lamp) (run : ColorTemperatureToRun) (p elapsed : ℕ) (few : p ≤
         hueStays = rest .0;
         saturationStays = rest .1;
       }
+
+-- ---- the remaining time, and what runs on
+
+over : (e t : ℕ) (b : Bool) → leb t e ≡ b → leb 1000 (permilleOf e t) ≡ true → t ≤ e
+over e t true f h = leb-true t e f
+over e t false f h = absurd (omega (arith, permille-short e t (leb-false t e f), leb-true 1000 (permilleOf e t) h))
+
+left-by : (e t : ℕ) (b : Bool) → leb 1000 (permilleOf e t) ≡ b → t ≤ 6553500 → RemainingTimeIs (t - e) (newTenths (cond b 0 (t - e)))
+left-by e t true f h = let k : t ≤ e = over e t (leb t e) refl f in record { enough = omega arith; fewest = λ n m. omega arith }
+left-by e t false f h = record { enough = omega arith; fewest = λ n m. omega arith }
+
+-- a time in form is at most 6,553,500
+time-form : (ms : ℕ) → timeForm ms ≡ true → ms ≤ 6553500
+time-form ms e = leb-true ms 6553500 (and-right (eqb (ms % 100) 0) (leb ms 6553500) e)
+
+-- mireds within the bounds
+within : (b : Bounds) (n : ℕ) → withinBounds b n ≡ true → (b .min ≤ n) × (n ≤ b .max)
+within b n e = (leb-true _ _ (and-left (leb (b .min) n) _ e), leb-true _ _ (and-right (leb (b .min) n) _ e))
+
+module _ (elapsed time : ℕ) (r : Running) where
+  ends : time ≤ elapsed → unless (atEnd (permilleOf elapsed time)) r ≡ Running.Idle
+  ends h = rw (permille-full elapsed time h)
+
+  goes-on : elapsed < time → unless (atEnd (permilleOf elapsed time)) r ≡ r
+  goes-on h = rw (lt-leb 1000 (permilleOf elapsed time) (permille-short elapsed time h))
+
+-- ---- an accepted call does what is granted
+
+granted-is : (l : Lamp) (x : Call) → cause l x ≡ 0 → answer l x ≡ granted l x
+granted-is l x z = answer-both l (λ (a : Answer). a ≡ granted l x) x (λ e. refl) (λ n. absurd (n z))
+
+-- ---- an accepted step
+
+module _ (l : Lamp) (clock : ℕ) (accepted : cause l (step clock) ≡ 0) where
+  step-lamp : (r : Running) → l .running ≡ r → answer l (step clock) .lamp ≡ stepped (atClock l clock) r .lamp
+  step-lamp r e =
+      ap (λ (a : Answer). a .lamp) (granted-is l (step clock) accepted) ∙ ap (λ (x : Running). stepped (atClock l clock) x .lamp) e
+
+  step-formed : (r : Running) → l .running ≡ r → runningForm r (l .bounds) clock ≡ true
+  step-formed r e =
+      subst (λ (x : Running). runningForm x (l .bounds) clock ≡ true) e (form-running (atClock l clock) (granted-ready l (step clock) accepted))
+
+  -- of a move to a hue, a saturation or both
+  module _ (run : HueSaturationRun) (running : l .running ≡ Running.HueSaturationMoveTo run) where
+    step-is : answer l (step clock) .lamp ≡ hueSaturationPass (atClock l clock) run (permilleOf (clock - run .start) (run .task .ms)) .lamp
+    unfolding stepped
+    step-is = step-lamp (Running.HueSaturationMoveTo run) running
+
+    -- the numbers of the record, at the time elapsed
+    pub step-shows : ShowsMoveTo (run .task) (run .hue) (run .saturation) (clock - run .start) (l .color) (answer l (step clock) .lamp .color)
+    unfolding runningForm moveToForm
+    step-shows =
+        let form = each _ (step-formed (Running.HueSaturationMoveTo run) running) in
+        let elapsed : ℕ = clock - run .start in
+        subst (λ (m : Lamp). ShowsMoveTo (run .task) (run .hue) (run .saturation) elapsed (l .color) (m .color)) (sym step-is)
+        (pass-shows (atClock l clock) run (permilleOf elapsed (run .task .ms)) elapsed (permille-most elapsed (run .task .ms))
+        (leb-true _ _ (form .1 .1 .0))
+        (each _ (form .0) .1 .1 .0)
+        (λ way e. refl)
+        (λ target e. refl))
+
+    pub step-remaining : RemainingTimeIs (run .task .ms - (clock - run .start)) (answer l (step clock) .lamp .remaining .tenths)
+    unfolding runningForm moveToForm hueSaturationPass
+    step-remaining =
+        let form = each _ (step-formed (Running.HueSaturationMoveTo run) running) in
+        let elapsed : ℕ = clock - run .start in
+        subst (λ (m : Lamp). RemainingTimeIs (run .task .ms - elapsed) (m .remaining .tenths)) (sym step-is)
+        (left-by elapsed (run .task .ms) (leb 1000 (permilleOf elapsed (run .task .ms))) refl (time-form (run .task .ms) (each _ (form .0) .0)))
+
+    -- it runs on until its time is over
+    pub step-ends : run .task .ms ≤ clock - run .start → answer l (step clock) .lamp .running ≡ Running.Idle
+    unfolding hueSaturationPass
+    step-ends h = ap (λ (m : Lamp). m .running) step-is ∙ ends (clock - run .start) (run .task .ms) (Running.HueSaturationMoveTo run) h
+
+    pub step-goes-on : clock - run .start < run .task .ms → answer l (step clock) .lamp .running ≡ Running.HueSaturationMoveTo run
+    unfolding hueSaturationPass
+    step-goes-on h = ap (λ (m : Lamp). m .running) step-is ∙ goes-on (clock - run .start) (run .task .ms) (Running.HueSaturationMoveTo run) h
+
+  -- of a move to mireds
+  module _ (run : ColorTemperatureToRun) (running : l .running ≡ Running.ColorTemperatureMoveTo run) where
+    mireds-step-is : answer l (step clock) .lamp ≡ temperatureToPass (atClock l clock) run (permilleOf (clock - run .start) (run .task .ms)) .lamp
+    unfolding stepped
+    mireds-step-is = step-lamp (Running.ColorTemperatureMoveTo run) running
+
+    pub mireds-step-shows : ShowsMiredsTo (run .mireds) (run .task .target) (clock - run .start) (run .task .ms) (l .color) (answer l (step clock) .lamp .color)
+    unfolding runningForm
+    mireds-step-shows =
+        let form = each _ (step-formed (Running.ColorTemperatureMoveTo run) running) in
+        let elapsed : ℕ = clock - run .start in
+        subst (λ (m : Lamp). ShowsMiredsTo (run .mireds) (run .task .target) elapsed (run .task .ms) (l .color) (m .color)) (sym mireds-step-is)
+        (pass-shows-mireds (atClock l clock) run (permilleOf elapsed (run .task .ms)) elapsed (permille-most elapsed (run .task .ms))
+        (within (l .bounds) (run .mireds) (form .1 .1 .0))
+        (within (l .bounds) (run .task .target) (form .1 .1 .1 .0))
+        refl)
+
+    pub mireds-step-remaining : RemainingTimeIs (run .task .ms - (clock - run .start)) (answer l (step clock) .lamp .remaining .tenths)
+    unfolding runningForm temperatureToPass
+    mireds-step-remaining =
+        let form = each _ (step-formed (Running.ColorTemperatureMoveTo run) running) in
+        let elapsed : ℕ = clock - run .start in
+        subst (λ (m : Lamp). RemainingTimeIs (run .task .ms - elapsed) (m .remaining .tenths)) (sym mireds-step-is)
+        (left-by elapsed (run .task .ms) (leb 1000 (permilleOf elapsed (run .task .ms))) refl (time-form (run .task .ms) (form .0)))
+
+    pub mireds-step-ends : run .task .ms ≤ clock - run .start → answer l (step clock) .lamp .running ≡ Running.Idle
+    unfolding temperatureToPass
+    mireds-step-ends h = ap (λ (m : Lamp). m .running) mireds-step-is ∙ ends (clock - run .start) (run .task .ms) (Running.ColorTemperatureMoveTo run) h
+
+    pub mireds-step-goes-on : clock - run .start < run .task .ms → answer l (step clock) .lamp .running ≡ Running.ColorTemperatureMoveTo run
+    unfolding temperatureToPass
+    mireds-step-goes-on h = ap (λ (m : Lamp). m .running) mireds-step-is ∙ goes-on (clock - run .start) (run .task .ms) (Running.ColorTemperatureMoveTo run) h
