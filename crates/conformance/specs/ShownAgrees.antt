@@ -3,7 +3,7 @@
 -- TransitionAgrees); the saturation and the mireds are the numbers on their lines; the remaining time is the text's.
 -- Assumes nothing.
 use Prim.Native.Nat.{ℕ, zero, suc, _-_, _%_, _≤_, _<_, min}
-use mathlib.Core.Bool.{Bool, true, false, cond, _&&_, or-true}
+use mathlib.Core.Bool.{Bool, true, false, cond, _&&_, _||_, or-true}
 use mathlib.Core.List.{List, [], _∷_}
 use mathlib.Core.Logic.{_⊎_, inl, inr, ⊎-elim}
 use mathlib.Core.Path.{_≡_, refl, sym, ap, subst, _∙_}
@@ -28,6 +28,7 @@ use Rattle.tasks.specs.declared.HueSaturationRun.{HueSaturationRun}
 use Rattle.tasks.specs.declared.Running.{Running}
 use Rattle.tasks.specs.declared.TargetSaturation.{TargetSaturation}
 use Rattle.tasks.specs.declared.Task.{Task}
+use Rattle.tasks.specs.Runs.{runs}
 use Rattle.tasks.specs.Form.{moveToForm, runningForm, saturationForm, taskForm, timeForm, withinBounds}
 use Rattle.lamp.specs.declared.Answer.{Answer}
 use Rattle.lamp.specs.declared.Lamp.{Lamp}
@@ -236,3 +237,337 @@ module _ (l : Lamp) (clock : ℕ) (accepted : cause l (step clock) ≡ 0) where
     pub mireds-step-goes-on : clock - run .start < run .task .ms → answer l (step clock) .lamp .running ≡ Running.ColorTemperatureMoveTo run
     unfolding temperatureToPass
     mireds-step-goes-on h = ap (λ (m : Lamp). m .running) mireds-step-is ∙ goes-on (clock - run .start) (run .task .ms) (Running.ColorTemperatureMoveTo run) h
+
+-- ---- an accepted start: elapsed 0, from the numbers that the lamp had
+
+-- nowhere to go: neither the hue nor the saturation has a way
+pub record Nowhere (task : HueSaturationMoveTo) (saturation : ℕ) : Type 0 where
+  pub noHue : (way : ℤ) → task .delta ≡ HueDelta.By way → way ≡ pos 0
+  pub noSaturation : (target : ℕ) → task .saturation ≡ TargetSaturation.To target → target ≡ saturation
+
+no-size : (z : ℤ) → natAbs z ≡ 0 → z ≡ pos 0
+no-size (pos n) e = ap pos e
+no-size (negsuc n) e = absurd (omega arith)
+
+no-hue : (d : HueDelta) → ((way : ℤ) → d ≡ HueDelta.By way → way ≡ pos 0) → noHueWay d ≡ true
+no-hue HueDelta.Keep h = refl
+no-hue (HueDelta.By way) h = eq-eqb (natAbs way) 0 (ap natAbs (h way refl))
+
+no-saturation : (t : TargetSaturation) (first : ℕ) → ((target : ℕ) → t ≡ TargetSaturation.To target → target ≡ first) →
+    noSaturationWay t first ≡ true
+no-saturation TargetSaturation.Keep first h = refl
+no-saturation (TargetSaturation.To target) first h = eq-eqb target first (h target refl)
+
+module _ (task : HueSaturationMoveTo) (first : ℕ) where
+  abbrev still : Bool
+  still = noHueWay (task .delta) && noSaturationWay (task .saturation) first
+
+  still-hue : still ≡ true → (way : ℤ) → task .delta ≡ HueDelta.By way → way ≡ pos 0
+  still-hue e way f = no-size way (eqb-true (natAbs way) 0 (rw f at (and-left (noHueWay (task .delta)) _ e)))
+
+  still-saturation : still ≡ true → (target : ℕ) → task .saturation ≡ TargetSaturation.To target → target ≡ first
+  still-saturation e target f =
+      eqb-true target first (rw f at (and-right (noHueWay (task .delta)) (noSaturationWay (task .saturation) first) e))
+
+  nowhere-still : Nowhere task first → still ≡ true
+  nowhere-still n = rw (no-hue (task .delta) (n .noHue), no-saturation (task .saturation) first (n .noSaturation))
+
+  going-by : (b : Bool) → still ≡ b → (Nowhere task first → ⊥) → still ≡ false
+  going-by true e n = absurd (n (record { noHue = still-hue e; noSaturation = still-saturation e }))
+  going-by false e n = e
+
+on-its-way : (ms : ℕ) → 0 < ms → startPermille ms false ≡ 0
+on-its-way ms h = rw (ne-eqb ms 0 (λ e. omega arith))
+
+-- the part at a start is that at elapsed 0
+start-part : (way : ℤ) (ms : ℕ) (noWay : Bool) → (noWay ≡ true → way ≡ pos 0) → partOf way (startPermille ms noWay) ≡ partOf way (permilleOf 0 ms)
+unfolding permilleOf
+start-part way zero noWay h = refl
+start-part way (suc n) true h =
+    ap (λ (z : ℤ). partOf z (startPermille (suc n) true)) (h refl) ∙ none (startPermille (suc n) true) ∙ sym (none (permilleOf 0 (suc n)))
+    ∙ sym (ap (λ (z : ℤ). partOf z (permilleOf 0 (suc n))) (h refl))
+  where
+    none : (p : ℕ) → partOf (pos 0) p ≡ pos 0
+    none p = part-up 0 p ∙ ap pos (omega arith)
+start-part way (suc n) false h =
+    ap (partOf way) (on-its-way (suc n) (omega arith)) ∙ ap (partOf way) (sym (permille-is 0 (suc n) (omega arith) ∙ ap (min 1000) (zero-div (suc n))))
+
+start-few : (ms : ℕ) (noWay : Bool) → startPermille ms noWay ≤ 1000
+start-few ms noWay = cond-both (λ (n : ℕ). n ≤ 1000) (eqb ms 0 || noWay) 1000 0 (λ e. omega arith) (λ e. omega arith)
+
+start-left : (ms clock : ℕ) → ms ≤ 6553500 → RemainingTimeIs ms (newTenths (cond (atEnd (startPermille ms false)) 0 (ms - (clock - clock))))
+start-left zero clock h = record { enough = omega arith; fewest = λ n m. omega arith }
+start-left (suc n) clock h =
+    rw (on-its-way (suc n) (omega arith)) (record { enough = omega arith; fewest = λ n m. omega arith })
+
+start-over : (ms : ℕ) → atEnd (startPermille ms true) ≡ true
+start-over ms = rw (or-true (eqb ms 0))
+
+-- what a start leaves: all of the time and the record, or, where there is nowhere to go or no time, nothing
+pub record Begins (time : ℕ) (run : Running) (Done : Type 0) (after : Lamp) : Type 0 where
+  pub remaining : (Done → ⊥) → RemainingTimeIs time (after .remaining .tenths)
+  pub noneLeft : Done → after .remaining .tenths ≡ 0
+  pub runs : 0 < time → (Done → ⊥) → after .running ≡ run
+  pub noTime : time ≡ 0 → after .running ≡ Running.Idle
+  pub nowhere : Done → after .running ≡ Running.Idle
+  pub runsOrNot : (after .running ≡ run) ⊎ (after .running ≡ Running.Idle)
+
+module _ (ms clock : ℕ) (r : Running) (Done : Type 0) (b : Bool) (m : Lamp) (short : ms ≤ 6553500)
+    (yes : Done → b ≡ true) (no : (Done → ⊥) → b ≡ false)
+    (left : m .remaining .tenths ≡ newTenths (cond (atEnd (startPermille ms b)) 0 (ms - (clock - clock))))
+    (runs : m .running ≡ unless (atEnd (startPermille ms b)) r) where
+  left-at : (t : Bool) → b ≡ t → m .remaining .tenths ≡ newTenths (cond (atEnd (startPermille ms t)) 0 (ms - (clock - clock)))
+  left-at t e = left ∙ ap (λ (x : Bool). newTenths (cond (atEnd (startPermille ms x)) 0 (ms - (clock - clock)))) e
+
+  runs-at : (t : Bool) → b ≡ t → m .running ≡ unless (atEnd (startPermille ms t)) r
+  runs-at t e = runs ∙ ap (λ (x : Bool). unless (atEnd (startPermille ms x)) r) e
+
+  begins : Begins ms r Done m
+  begins =
+      record {
+        remaining = λ n. subst (RemainingTimeIs ms) (sym (left-at false (no n))) (start-left ms clock short);
+        noneLeft = λ d. left-at true (yes d) ∙ rw (start-over ms);
+        runs = λ h n. runs-at false (no n) ∙ rw (on-its-way ms h);
+        noTime = λ e. runs ∙ ap (λ (n : ℕ). unless (atEnd (startPermille n b)) r) e;
+        nowhere = λ d. runs-at true (yes d) ∙ rw (start-over ms);
+        runsOrNot =
+            subst (λ (x : Running). (x ≡ r) ⊎ (x ≡ Running.Idle)) (sym runs)
+            (cond-both (λ (x : Running). (x ≡ r) ⊎ (x ≡ Running.Idle)) (atEnd (startPermille ms b)) Running.Idle r (λ e. inr refl) (λ e. inl refl));
+      }
+
+-- the records that starts leave
+abbrev pub runFrom : Lamp → HueSaturationMoveTo → ℕ → HueSaturationRun
+runFrom l task clock = record { start = clock; hue = l .color .hue; saturation = l .color .saturation; task = task }
+
+abbrev pub miredsRunFrom : Lamp → ℕ → ℕ → ℕ → ColorTemperatureToRun
+miredsRunFrom l target ms clock = record { start = clock; mireds = l .color .mireds; task = record { target = target; ms = ms } }
+
+module _ (l : Lamp) (clock : ℕ) where
+  start-lamp : (task : Task) → cause l (start task clock) ≡ 0 → answer l (start task clock) .lamp ≡ started (atClock l clock) task .lamp
+  start-lamp task accepted = ap (λ (a : Answer). a .lamp) (granted-is l (start task clock) accepted)
+
+  start-formed : (task : Task) → cause l (start task clock) ≡ 0 → (lampForm (atClock l clock) ≡ true) × (taskForm task ≡ true)
+  unfolding cause
+  start-formed task accepted = start-ready l clock task accepted
+
+  -- of a move to a hue, a saturation or both
+  module _ (task : HueSaturationMoveTo) (accepted : cause l (start (Task.HueSaturationMoveTo task) clock) ≡ 0) where
+    start-is : answer l (start (Task.HueSaturationMoveTo task) clock) .lamp
+        ≡ hueSaturationPass (remainingSet (atClock l clock) (fullWritten l (task .ms))) (runFrom l task clock)
+          (startPermille (task .ms) (still task (l .color .saturation))) .lamp
+    unfolding started hueSaturationStart
+    start-is = start-lamp (Task.HueSaturationMoveTo task) accepted
+
+    start-form : (lampForm (atClock l clock) ≡ true) × (moveToForm task ≡ true)
+    unfolding taskForm
+    start-form = start-formed (Task.HueSaturationMoveTo task) accepted
+
+    -- the numbers at elapsed 0: at time 0 the targets
+    pub start-shows : ShowsMoveTo task (l .color .hue) (l .color .saturation) 0 (l .color) (answer l (start (Task.HueSaturationMoveTo task) clock) .lamp .color)
+    unfolding moveToForm
+    start-shows =
+        let first : ℕ = l .color .saturation in
+        let at-once : Bool = still task first in
+        subst (λ (m : Lamp). ShowsMoveTo task (l .color .hue) first 0 (l .color) (m .color)) (sym start-is)
+        (pass-shows (remainingSet (atClock l clock) (fullWritten l (task .ms))) (runFrom l task clock) (startPermille (task .ms) at-once) 0 (start-few (task .ms) at-once)
+        (form-saturation (l .color) (l .bounds) clock (form-color (atClock l clock) (start-form .0)))
+        (each _ (start-form .1) .1 .1 .0)
+        (λ way e. start-part way (task .ms) at-once (λ s. still-hue task first s way e))
+        (λ target e. ap natAbs (start-part (pos target -ℤ pos first) (task .ms) at-once (λ s. no-way first target (sym (still-saturation task first s target e))))))
+
+    pub start-begins : Begins (task .ms) (Running.HueSaturationMoveTo (runFrom l task clock)) (Nowhere task (l .color .saturation))
+        (answer l (start (Task.HueSaturationMoveTo task) clock) .lamp)
+    unfolding moveToForm hueSaturationPass
+    start-begins =
+        let first : ℕ = l .color .saturation in
+        begins (task .ms) clock (Running.HueSaturationMoveTo (runFrom l task clock)) (Nowhere task first) (still task first) _
+        (time-form (task .ms) (each _ (start-form .1) .0))
+        (nowhere-still task first) (going-by task first (still task first) refl)
+        (ap (λ (m : Lamp). m .remaining .tenths) start-is) (ap (λ (m : Lamp). m .running) start-is)
+
+  -- of a move to mireds, to the closest that the bounds allow
+  module _ (task : ColorTemperatureMoveTo) (accepted : cause l (start (Task.ColorTemperatureMoveTo task) clock) ≡ 0)
+      (to : ℕ) (closest : Closest (l .bounds .min) (l .bounds .max) (task .target) to) where
+    found : (l .bounds .min ≤ l .color .mireds) × (l .color .mireds ≤ l .bounds .max)
+    found =
+        let c = form-color (atClock l clock) (start-formed (Task.ColorTemperatureMoveTo task) accepted .0) in
+        (form-above (l .color) (l .bounds) clock c, form-below (l .color) (l .bounds) clock c)
+
+    to-is : clamp (l .bounds .min) (l .bounds .max) (pos (task .target)) ≡ to
+    to-is =
+        closest-only (l .bounds .min) (l .bounds .max) (task .target) _ to
+        (closest-agrees (l .bounds .min) (l .bounds .max) (task .target) (omega (arith, found))) closest
+
+    mireds-start-is : answer l (start (Task.ColorTemperatureMoveTo task) clock) .lamp
+        ≡ temperatureToPass (remainingSet (atClock l clock) (fullWritten l (task .ms))) (miredsRunFrom l to (task .ms) clock)
+          (startPermille (task .ms) (eqb to (l .color .mireds))) .lamp
+    unfolding started temperatureToStart
+    mireds-start-is =
+        start-lamp (Task.ColorTemperatureMoveTo task) accepted
+        ∙ ap (λ (t : ℕ). temperatureToPass (remainingSet (atClock l clock) (fullWritten l (task .ms))) (miredsRunFrom l t (task .ms) clock)
+          (startPermille (task .ms) (eqb t (l .color .mireds))) .lamp) to-is
+
+    pub mireds-start-shows : ShowsMiredsTo (l .color .mireds) to 0 (task .ms) (l .color) (answer l (start (Task.ColorTemperatureMoveTo task) clock) .lamp .color)
+    mireds-start-shows =
+        let first : ℕ = l .color .mireds in
+        subst (λ (m : Lamp). ShowsMiredsTo first to 0 (task .ms) (l .color) (m .color)) (sym mireds-start-is)
+        (pass-shows-mireds (remainingSet (atClock l clock) (fullWritten l (task .ms))) (miredsRunFrom l to (task .ms) clock) (startPermille (task .ms) (eqb to first)) 0 (start-few (task .ms) (eqb to first))
+        found (closest .low, closest .high)
+        (ap natAbs (start-part (pos to -ℤ pos first) (task .ms) (eqb to first) (λ s. no-way first to (sym (eqb-true to first s))))))
+
+    pub mireds-start-begins : Begins (task .ms) (Running.ColorTemperatureMoveTo (miredsRunFrom l to (task .ms) clock)) (to ≡ l .color .mireds)
+        (answer l (start (Task.ColorTemperatureMoveTo task) clock) .lamp)
+    unfolding taskForm temperatureToPass
+    mireds-start-begins =
+        let first : ℕ = l .color .mireds in
+        begins (task .ms) clock (Running.ColorTemperatureMoveTo (miredsRunFrom l to (task .ms) clock)) (to ≡ first) (eqb to first) _
+        (time-form (task .ms) (start-formed (Task.ColorTemperatureMoveTo task) accepted .1))
+        (eq-eqb to first) (ne-eqb to first)
+        (ap (λ (m : Lamp). m .remaining .tenths) mireds-start-is) (ap (λ (m : Lamp). m .running) mireds-start-is)
+
+-- ---- a start and any steps, refused ones too: an accepted step shows the numbers of its clock
+
+-- the lamp after steps at these clocks
+abbrev pub afterSteps : Lamp → List ℕ → Lamp
+afterSteps l [] = l
+afterSteps l (clock ∷ clocks) = afterSteps (answer l (step clock) .lamp) clocks
+
+-- a step while nothing runs is refused
+idle-refused : (m : Lamp) (clock : ℕ) (b : Bool) → lampForm m ≡ b → m .running ≡ Running.Idle → cause m (step clock) ≡ 0 → ⊥
+idle-refused m clock true f e z = let seven : cause m (step clock) ≡ 7 = step-7 m clock f (ap runs e) in omega arith
+idle-refused m clock false f e z = let eight : cause m (step clock) ≡ 8 = step-8 m clock f in omega arith
+
+-- what every accepted step of a record keeps, while it leaves the record or nothing, holds after any steps
+module _ (r : Running) (P : Lamp → Type 0)
+    (lasts : (m : Lamp) (clock : ℕ) → m .running ≡ r → cause m (step clock) ≡ 0 →
+    (answer m (step clock) .lamp .running ≡ r) ⊎ (answer m (step clock) .lamp .running ≡ Running.Idle))
+    (keeps : (m : Lamp) (clock : ℕ) → m .running ≡ r → cause m (step clock) ≡ 0 → P m → P (answer m (step clock) .lamp)) where
+  abbrev Kept : Lamp → Type 0
+  Kept m = ((m .running ≡ r) ⊎ (m .running ≡ Running.Idle)) × P m
+
+  running-still : (m : Lamp) (clock : ℕ) → Kept m → cause m (step clock) ≡ 0 → m .running ≡ r
+  running-still m clock k z = ⊎-elim (λ e. e) (λ e. absurd (idle-refused m clock (lampForm m) refl e z)) (k .0)
+
+  step-keeps : (m : Lamp) (clock : ℕ) → Kept m → Kept (answer m (step clock) .lamp)
+  step-keeps m clock k =
+      answer-both m (λ (a : Answer). a ≡ answer m (step clock) → Kept (a .lamp)) (step clock)
+      (λ z e. let on : m .running ≡ r = running-still m clock k z in
+      subst (λ (a : Answer). Kept (a .lamp)) (sym e) (lasts m clock on z, keeps m clock on z (k .1)))
+      (λ n e. k) refl
+
+  steps-keep : (clocks : List ℕ) (m : Lamp) → Kept m → Kept (afterSteps m clocks)
+  steps-keep [] m k = k
+  steps-keep (clock ∷ clocks) m k = steps-keep clocks (answer m (step clock) .lamp) (step-keeps m clock k)
+
+-- a move-to leaves its record or nothing
+lasts-by : (A B : Type 0) (t e : ℕ) (b : Bool) → leb t e ≡ b → (e < t → A) → (t ≤ e → B) → A ⊎ B
+lasts-by A B t e true f h k = inr (k (leb-true t e f))
+lasts-by A B t e false f h k = inl (h (leb-false t e f))
+
+-- the lamp after a start and steps at these clocks
+abbrev pub begunAndStepped : Lamp → Task → ℕ → List ℕ → Lamp
+begunAndStepped l task first clocks = afterSteps (answer l (start task first) .lamp) clocks
+
+-- what a move to a hue, a saturation or both leaves as it was, and what a move to mireds does
+abbrev Stay : HueSaturationMoveTo → Color → Color → Type 0
+Stay task before after =
+    (task .delta ≡ HueDelta.Keep → after .hue ≡ before .hue)
+    × (task .saturation ≡ TargetSaturation.Keep → after .saturation ≡ before .saturation)
+    × (after .mireds ≡ before .mireds)
+
+abbrev StayMireds : Color → Color → Type 0
+StayMireds before after = (after .hue ≡ before .hue) × (after .saturation ≡ before .saturation)
+
+module _ (l : Lamp) (first : ℕ) (clocks : List ℕ) (clock : ℕ) where
+  module _ (task : HueSaturationMoveTo) (begun : cause l (start (Task.HueSaturationMoveTo task) first) ≡ 0) where
+    abbrev r : Running
+    r = Running.HueSaturationMoveTo (runFrom l task first)
+
+    abbrev m : Lamp
+    m = begunAndStepped l (Task.HueSaturationMoveTo task) first clocks
+
+    abbrev P : Lamp → Type 0
+    P n = Stay task (l .color) (n .color)
+
+    lasts : (n : Lamp) (now : ℕ) → n .running ≡ r → cause n (step now) ≡ 0 →
+        (answer n (step now) .lamp .running ≡ r) ⊎ (answer n (step now) .lamp .running ≡ Running.Idle)
+    lasts n now e z =
+        lasts-by _ _ (task .ms) (now - first) (leb (task .ms) (now - first)) refl
+        (step-goes-on n now z (runFrom l task first) e) (step-ends n now z (runFrom l task first) e)
+
+    stays : (n : Lamp) (now : ℕ) → n .running ≡ r → cause n (step now) ≡ 0 → P n → P (answer n (step now) .lamp)
+    stays n now e z k =
+        let s = step-shows n now z (runFrom l task first) e in
+        (λ d. s .hueStays d ∙ k .0 d, λ d. s .saturationStays d ∙ k .1 d, s .miredsStay ∙ k .2)
+
+    kept : Kept r P lasts stays m
+    kept =
+        let s = start-shows l first task begun in
+        steps-keep r P lasts stays clocks _ (start-begins l first task begun .runsOrNot, (s .hueStays, s .saturationStays, s .miredsStay))
+
+    module _ (accepted : cause (begunAndStepped l (Task.HueSaturationMoveTo task) first clocks) (step clock) ≡ 0) where
+      still-runs : m .running ≡ r
+      still-runs = running-still r P lasts stays m clock kept accepted
+
+      pub steps-show : ShowsMoveTo task (l .color .hue) (l .color .saturation) (clock - first) (l .color)
+          (answer (begunAndStepped l (Task.HueSaturationMoveTo task) first clocks) (step clock) .lamp .color)
+      steps-show =
+          let s = step-shows m clock accepted (runFrom l task first) still-runs in
+          let k = stays m clock still-runs accepted (kept .1) in
+          record {
+            hueMoves = s .hueMoves;
+            hueStays = k .0;
+            saturationMoves = s .saturationMoves;
+            saturationStays = k .1;
+            miredsStay = k .2;
+          }
+
+      pub steps-remaining : RemainingTimeIs (task .ms - (clock - first))
+          (answer (begunAndStepped l (Task.HueSaturationMoveTo task) first clocks) (step clock) .lamp .remaining .tenths)
+      steps-remaining = step-remaining m clock accepted (runFrom l task first) still-runs
+
+  module _ (task : ColorTemperatureMoveTo) (begun : cause l (start (Task.ColorTemperatureMoveTo task) first) ≡ 0)
+      (to : ℕ) (closest : Closest (l .bounds .min) (l .bounds .max) (task .target) to) where
+    abbrev mireds-run : ColorTemperatureToRun
+    mireds-run = miredsRunFrom l to (task .ms) first
+
+    abbrev mireds-r : Running
+    mireds-r = Running.ColorTemperatureMoveTo mireds-run
+
+    abbrev mireds-m : Lamp
+    mireds-m = begunAndStepped l (Task.ColorTemperatureMoveTo task) first clocks
+
+    abbrev mireds-P : Lamp → Type 0
+    mireds-P n = StayMireds (l .color) (n .color)
+
+    mireds-lasts : (n : Lamp) (now : ℕ) → n .running ≡ mireds-r → cause n (step now) ≡ 0 →
+        (answer n (step now) .lamp .running ≡ mireds-r) ⊎ (answer n (step now) .lamp .running ≡ Running.Idle)
+    mireds-lasts n now e z =
+        lasts-by _ _ (task .ms) (now - first) (leb (task .ms) (now - first)) refl
+        (mireds-step-goes-on n now z mireds-run e) (mireds-step-ends n now z mireds-run e)
+
+    mireds-stays : (n : Lamp) (now : ℕ) → n .running ≡ mireds-r → cause n (step now) ≡ 0 → mireds-P n → mireds-P (answer n (step now) .lamp)
+    mireds-stays n now e z k =
+        let s = mireds-step-shows n now z mireds-run e in
+        (s .hueStays ∙ k .0, s .saturationStays ∙ k .1)
+
+    mireds-kept : Kept mireds-r mireds-P mireds-lasts mireds-stays mireds-m
+    mireds-kept =
+        let s = mireds-start-shows l first task begun to closest in
+        steps-keep mireds-r mireds-P mireds-lasts mireds-stays clocks _
+        (mireds-start-begins l first task begun to closest .runsOrNot, (s .hueStays, s .saturationStays))
+
+    module _ (accepted : cause (begunAndStepped l (Task.ColorTemperatureMoveTo task) first clocks) (step clock) ≡ 0) where
+      mireds-still-run : mireds-m .running ≡ mireds-r
+      mireds-still-run = running-still mireds-r mireds-P mireds-lasts mireds-stays mireds-m clock mireds-kept accepted
+
+      pub mireds-steps-show : ShowsMiredsTo (l .color .mireds) to (clock - first) (task .ms) (l .color)
+          (answer (begunAndStepped l (Task.ColorTemperatureMoveTo task) first clocks) (step clock) .lamp .color)
+      mireds-steps-show =
+          let s = mireds-step-shows mireds-m clock accepted mireds-run mireds-still-run in
+          let k = mireds-stays mireds-m clock mireds-still-run accepted (mireds-kept .1) in
+          record { miredsMove = s .miredsMove; hueStays = k .0; saturationStays = k .1 }
+
+      pub mireds-steps-remaining : RemainingTimeIs (task .ms - (clock - first))
+          (answer (begunAndStepped l (Task.ColorTemperatureMoveTo task) first clocks) (step clock) .lamp .remaining .tenths)
+      mireds-steps-remaining = mireds-step-remaining mireds-m clock accepted mireds-run mireds-still-run
