@@ -2,16 +2,16 @@
 -- exactly where the text allows it. Where the port tells more, or less.
 -- Assumes nothing.
 use Prim.Native.Nat.{ℕ, _+_, _<_}
-use mathlib.Core.Bool.{Bool, true, false, not, cond, _&&_, true≢false, _||_, or-true, and-false}
-use mathlib.Core.List.{[], _∷_}
+use mathlib.Core.Bool.{Bool, true, false, not, cond, _&&_, true≢false, _||_, or-true, or-assoc, and-false}
+use mathlib.Core.List.{List, [], _∷_, _++_}
 use mathlib.Core.Path.{_≡_, refl, sym, ap, _∙_}
 use native.Mathlib.Omega.{arith}
 use lib.Dec.{ltb, eqb}
 use borrow.Author.Tests.{leb-true, le-leb, lt-leb, ltb-true, ltb-false, lt-ltb, le-ltb, eqb-true, eqb-false, ne-eqb, not-true}
 use Rattle.matter.specs.declared.ColorModeEnum.{ColorModeEnum}
-use Rattle.matter.specs.Laws.{and-left, and-right}
+use Rattle.matter.specs.Laws.{and-left, and-right, or-left, or-right}
 use Rattle.notices.specs.Notices.{only}
-use Rattle.notices.specs.Names.{CurrentHue, EnhancedCurrentHue, CurrentSaturation, ColorTemperatureMireds, ColorMode}
+use Rattle.notices.specs.Names.{CurrentHue, EnhancedCurrentHue, CurrentSaturation, ColorTemperatureMireds, ColorMode, EnhancedColorMode, markedDirty, scenesTold}
 use Rattle.color.specs.declared.Color.{Color}
 use Rattle.color.specs.Setters.{due, same, changeNotices, hueSet, hueTold, saturationSet, saturationTold, miredsSet, miredsTold}
 use Rattle.progress.specs.Progress.{tenthsOf}
@@ -91,27 +91,38 @@ by-due : {stamp clock : ℕ} {end : Bool} → MayReport stamp clock end → due 
 by-due (onceASecond stamp clock end h) = rw (le-leb (stamp + 1000) clock h) (or-true end)
 by-due (atTheEnd stamp clock) = refl
 
--- which notices of a change are told
-hue-by : (s a d e : Bool) → tells CurrentHue (cond s [] (changeNotices a d (CurrentHue ∷ only e EnhancedCurrentHue))) ≡ not s && d
-hue-by true a d e = refl
-hue-by false true true e = refl
-hue-by false true false e = refl
-hue-by false false true e = refl
-hue-by false false false e = refl
+-- whether a list has a notice, of two lists
+tells-both : (n : ℕ) (xs ys : List ℕ) → tells n (xs ++ ys) ≡ (tells n xs || tells n ys)
+tells-both n [] ys = refl
+tells-both n (x ∷ xs) ys = ap (λ (b : Bool). eqb n x || b) (tells-both n xs ys) ∙ sym (or-assoc (eqb n x) (tells n xs) (tells n ys))
+
+-- of a change, an attribute's notice is told exactly where the change is due
+module _ (n : ℕ) (attributes : List ℕ) (has : tells n attributes ≡ true) (other : tells n (markedDirty ∷ scenesTold ∷ []) ≡ false) where
+  last-by : (d : Bool) → tells n (cond d (attributes ++ (ColorMode ∷ EnhancedColorMode ∷ [])) [] ++ (scenesTold ∷ [])) ≡ d
+  last-by true =
+      tells-both n (attributes ++ (ColorMode ∷ EnhancedColorMode ∷ [])) (scenesTold ∷ [])
+      ∙ rw (tells-both n attributes (ColorMode ∷ EnhancedColorMode ∷ []), has)
+  last-by false = or-right (eqb n markedDirty) (tells n (scenesTold ∷ [])) other
+
+  change-by : (s a d : Bool) → tells n (cond s [] (changeNotices a d attributes)) ≡ not s && d
+  change-by true a d = refl
+  change-by false true d = last-by d
+  change-by false false d = rw (or-left (eqb n markedDirty) (tells n (scenesTold ∷ [])) other) (last-by d)
+
+-- of a hue, CurrentHue is told, and with it EnhancedCurrentHue where the move is an enhanced one
+abbrev IsHues : ℕ → Bool → Type 0
+IsHues n enhanced =
+    (tells n (CurrentHue ∷ only enhanced EnhancedCurrentHue) ≡ true) × (tells n (markedDirty ∷ scenesTold ∷ []) ≡ false)
+
+hue-by : (n : ℕ) (enhanced : Bool) → IsHues n enhanced → (s a d : Bool) →
+    tells n (cond s [] (changeNotices a d (CurrentHue ∷ only enhanced EnhancedCurrentHue))) ≡ not s && d
+hue-by n enhanced is = change-by n (CurrentHue ∷ only enhanced EnhancedCurrentHue) (is .0) (is .1)
 
 saturation-by : (s a d : Bool) → tells CurrentSaturation (cond s [] (changeNotices a d (CurrentSaturation ∷ []))) ≡ not s && d
-saturation-by true a d = refl
-saturation-by false true true = refl
-saturation-by false true false = refl
-saturation-by false false true = refl
-saturation-by false false false = refl
+saturation-by = change-by CurrentSaturation (CurrentSaturation ∷ []) refl refl
 
 mireds-by : (s a d : Bool) → tells ColorTemperatureMireds (cond s [] (changeNotices a d (ColorTemperatureMireds ∷ []))) ≡ not s && d
-mireds-by true a d = refl
-mireds-by false true true = refl
-mireds-by false true false = refl
-mireds-by false false true = refl
-mireds-by false false false = refl
+mireds-by = change-by ColorTemperatureMireds (ColorTemperatureMireds ∷ []) refl refl
 
 module _ (c : Color) (new : ℕ) (end : Bool) (clock : ℕ) (active : Bool) where
   -- a notice of a change is one that may be reported, and of a change each that may be is told
@@ -121,13 +132,33 @@ module _ (c : Color) (new : ℕ) (end : Bool) (clock : ℕ) (active : Bool) wher
   may-told : (old stamp : ℕ) (t : Bool) → t ≡ not (same old new end) && due end stamp clock → (old ≡ new → ⊥) → MayReport stamp clock end → t ≡ true
   may-told old stamp t e h m = e ∙ rw (ne-eqb old new h, by-due m)
 
-  pub hue-reported : (enhanced : Bool) → tells CurrentHue (hueTold c new end enhanced clock active) ≡ true → MayReport (c .stamps .hue) clock end
+  hue-may : (n : ℕ) (enhanced : Bool) → IsHues n enhanced →
+      tells n (hueTold c new end enhanced clock active) ≡ true → MayReport (c .stamps .hue) clock end
   unfolding hueTold
-  hue-reported enhanced = told-may (c .hue) (c .stamps .hue) _ (hue-by (same (c .hue) new end) active (due end (c .stamps .hue) clock) enhanced)
+  hue-may n enhanced is =
+      told-may (c .hue) (c .stamps .hue) _ (hue-by n enhanced is (same (c .hue) new end) active (due end (c .stamps .hue) clock))
 
-  pub hue-change-told : (enhanced : Bool) → (c .hue ≡ new → ⊥) → MayReport (c .stamps .hue) clock end → tells CurrentHue (hueTold c new end enhanced clock active) ≡ true
+  hue-must : (n : ℕ) (enhanced : Bool) → IsHues n enhanced →
+      (c .hue ≡ new → ⊥) → MayReport (c .stamps .hue) clock end → tells n (hueTold c new end enhanced clock active) ≡ true
   unfolding hueTold
-  hue-change-told enhanced = may-told (c .hue) (c .stamps .hue) _ (hue-by (same (c .hue) new end) active (due end (c .stamps .hue) clock) enhanced)
+  hue-must n enhanced is =
+      may-told (c .hue) (c .stamps .hue) _ (hue-by n enhanced is (same (c .hue) new end) active (due end (c .stamps .hue) clock))
+
+  pub hue-reported : (enhanced : Bool) →
+      tells CurrentHue (hueTold c new end enhanced clock active) ≡ true → MayReport (c .stamps .hue) clock end
+  hue-reported enhanced = hue-may CurrentHue enhanced (refl, refl)
+
+  pub hue-change-told : (enhanced : Bool) →
+      (c .hue ≡ new → ⊥) → MayReport (c .stamps .hue) clock end → tells CurrentHue (hueTold c new end enhanced clock active) ≡ true
+  hue-change-told enhanced = hue-must CurrentHue enhanced (refl, refl)
+
+  -- in an enhanced move
+  pub enhanced-reported : tells EnhancedCurrentHue (hueTold c new end true clock active) ≡ true → MayReport (c .stamps .hue) clock end
+  enhanced-reported = hue-may EnhancedCurrentHue true (refl, refl)
+
+  pub enhanced-change-told :
+      (c .hue ≡ new → ⊥) → MayReport (c .stamps .hue) clock end → tells EnhancedCurrentHue (hueTold c new end true clock active) ≡ true
+  enhanced-change-told = hue-must EnhancedCurrentHue true (refl, refl)
 
   pub saturation-reported : tells CurrentSaturation (saturationTold c new end clock active) ≡ true → MayReport (c .stamps .saturation) clock end
   unfolding saturationTold
@@ -158,13 +189,24 @@ module _ (c : Color) (clock later : ℕ) (soon : later < clock + 1000) (end : Bo
   unfolding hueSet
   hue-stamp enhanced e d = rw (e, d)
 
-  pub hue-once : (enhanced enhancedNext : Bool) → tells CurrentHue (hueTold c new end enhanced clock active) ≡ true → tells CurrentHue (hueTold (hueSet c new end enhanced clock) next false enhancedNext later active) ≡ false
+  once : (n : ℕ) (enhanced enhancedNext : Bool) → IsHues n enhanced → IsHues n enhancedNext →
+      tells n (hueTold c new end enhanced clock active) ≡ true →
+      tells n (hueTold (hueSet c new end enhanced clock) next false enhancedNext later active) ≡ false
   unfolding hueTold
-  hue-once enhanced enhancedNext e =
+  once n enhanced enhancedNext is isNext e =
       let after : Color = hueSet c new end enhanced clock in
-      hue-by (same (after .hue) next false) active (due false (after .stamps .hue) later) enhancedNext
-      ∙ ap (λ (d : Bool). not (same (after .hue) next false) && d) (not-due (c .hue) (c .stamps .hue) _ (after .stamps .hue) (hue-by (same (c .hue) new end) active (due end (c .stamps .hue) clock) enhanced) e (hue-stamp enhanced))
+      hue-by n enhancedNext isNext (same (after .hue) next false) active (due false (after .stamps .hue) later)
+      ∙ ap (λ (d : Bool). not (same (after .hue) next false) && d)
+        (not-due (c .hue) (c .stamps .hue) _ (after .stamps .hue) (hue-by n enhanced is (same (c .hue) new end) active (due end (c .stamps .hue) clock)) e (hue-stamp enhanced))
       ∙ and-false (not (same (after .hue) next false))
+
+  pub hue-once : (enhanced enhancedNext : Bool) → tells CurrentHue (hueTold c new end enhanced clock active) ≡ true →
+      tells CurrentHue (hueTold (hueSet c new end enhanced clock) next false enhancedNext later active) ≡ false
+  hue-once enhanced enhancedNext = once CurrentHue enhanced enhancedNext (refl, refl) (refl, refl)
+
+  pub enhanced-once : tells EnhancedCurrentHue (hueTold c new end true clock active) ≡ true →
+      tells EnhancedCurrentHue (hueTold (hueSet c new end true clock) next false true later active) ≡ false
+  enhanced-once = once EnhancedCurrentHue true true (refl, refl) (refl, refl)
 
   saturation-stamp : same (c .saturation) new end ≡ false → due end (c .stamps .saturation) clock ≡ true → saturationSet c new end clock .stamps .saturation ≡ clock
   unfolding saturationSet
@@ -213,7 +255,7 @@ module _ (c : Color) (clock : ℕ) (active : Bool) where
   pub unchanged-told : (enhanced : Bool) → tells CurrentHue (hueTold c (c .hue) true enhanced clock active) ≡ true
   unfolding hueTold
   unchanged-told enhanced =
-      hue-by (same (c .hue) (c .hue) true) active true enhanced ∙ rw (and-false (eqb (c .hue) (c .hue)))
+      hue-by CurrentHue enhanced (refl, refl) (same (c .hue) (c .hue) true) active true ∙ rw (and-false (eqb (c .hue) (c .hue)))
 
   module _ (new : ℕ) (moved : c .hue ≡ new → ⊥) where
     -- less: the modes change with the number and are withheld with it, where the text limits no report of ColorMode or

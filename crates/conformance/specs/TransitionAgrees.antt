@@ -9,12 +9,16 @@ use native.Mathlib.Omega.{arith}
 use lib.Dec.{leb, ltb}
 use lib.IntN.{ℤ, pos, negsuc, negℤ, natAbs, _-ℤ_}
 use borrow.Author.Tests.{ltb-true, ltb-false, leb-true, leb-false, le-leb, lt-leb}
+use Rattle.matter.specs.declared.StepModeEnum.{StepModeEnum}
 use Rattle.matter.specs.Laws.{cond-both}
+use Rattle.hue.specs.Hue.{movedHue}
 use Rattle.integers.proofs.Sizes.{abs-neg}
 use Rattle.progress.specs.Progress.{permilleOf, partOf, broughtWithin}
 use Rattle.progress.specs.Laws.{permille-is, permille-full, permille-short, permille-most, part-down, part-size, part-within, part-whole}
+use Rattle.commands.specs.Commands.{stepWay}
 use Rattle.conformance.specs.Limits.{away}
-use Rattle.conformance.specs.StepsAgree.{within-up, within-down}
+use Rattle.conformance.specs.Steps.{enhancedHueMaximum, hueStepTo}
+use Rattle.conformance.specs.StepsAgree.{within-up, within-down, hue-step-agrees}
 use Rattle.conformance.specs.Transition.{travelled, onLine, lineAt}
 
 -- the size of the port's part, so long after the start
@@ -131,6 +135,24 @@ travelled-exact size elapsed time h =
 pub transition-differs : (gone (pos 3) 100 300 ≡ 0) × (travelled 3 100 300 ≡ 1)
 unfolding permilleOf travelled
 transition-differs = (refl, refl)
+
+-- ---- the hue: so many places up or down on the circle, one by one
+
+pub circle-agrees : (mode : StepModeEnum) (size elapsed time hue : ℕ) → hue < 65536 →
+    movedHue hue (partOf (stepWay mode size) (permilleOf elapsed time))
+    ≡ hueStepTo mode enhancedHueMaximum (gone (stepWay mode size) elapsed time) hue
+circle-agrees StepModeEnum.Up size elapsed time hue h =
+    hue-step-agrees StepModeEnum.Up hue (gone (pos size) elapsed time) h
+circle-agrees StepModeEnum.Down size elapsed time hue h =
+    let part : ℕ = size * permilleOf elapsed time / 1000 in
+    let down : partOf (negℤ (pos size)) (permilleOf elapsed time) ≡ negℤ (pos part) = part-down size (permilleOf elapsed time) in
+    ap (movedHue hue) down ∙ hue-step-agrees StepModeEnum.Down hue part h
+    ∙ sym (ap (λ (z : ℤ). hueStepTo StepModeEnum.Down enhancedHueMaximum (natAbs z) hue) down
+    ∙ ap (λ (n : ℕ). hueStepTo StepModeEnum.Down enhancedHueMaximum n hue) (abs-neg (pos part)))
+
+-- at the time and after it, the whole way
+pub way-ends : (way : ℤ) (elapsed time : ℕ) → time ≤ elapsed → partOf way (permilleOf elapsed time) ≡ way
+way-ends way elapsed time h = ap (partOf way) (permille-full elapsed time h) ∙ part-whole way
 
 -- ---- saturation and mireds: numbers on a line, brought within their bounds
 
