@@ -1,25 +1,37 @@
 -- The port's bounds of a move or a step of mireds are the text's, and a target is brought to the closest mireds.
 -- Assumes nothing.
 use Prim.Native.Nat.{ℕ, zero, suc, _≤_, _<_, min, max}
-use mathlib.Core.Bool.{Bool, true, false, cond}
+use mathlib.Core.Bool.{Bool, true, false, cond, true≢false}
 use mathlib.Core.List.{[]}
-use mathlib.Core.Path.{_≡_, refl}
+use mathlib.Core.Path.{_≡_, refl, sym, ap, _∙_}
 use native.Mathlib.Omega.{arith}
 use lib.Dec.{ltb, leb}
 use lib.IntN.{ℤ, pos}
-use borrow.Author.Tests.{ltb-true, ltb-false, ne-eqb}
+use borrow.Author.Tests.{leb-false, le-leb, lt-leb, ltb-true, ltb-false, ne-eqb}
 use Rattle.matter.specs.declared.Bounds.{Bounds}
+use Rattle.matter.specs.declared.Command.{Command}
+use Rattle.matter.specs.declared.CommandOptions.{CommandOptions}
+use Rattle.matter.specs.declared.MoveModeEnum.{MoveModeEnum}
+use Rattle.matter.specs.declared.OnOff.{OnOff}
+use Rattle.matter.specs.Laws.{cond-both}
 use Rattle.progress.specs.Progress.{clamp}
+use Rattle.tasks.specs.declared.ColorTemperatureMove.{ColorTemperatureMove}
+use Rattle.tasks.specs.declared.ColorTemperatureRun.{ColorTemperatureRun}
+use Rattle.tasks.specs.declared.GivenTask.{GivenTask}
 use Rattle.tasks.specs.declared.Running.{Running}
+use Rattle.tasks.specs.declared.Task.{Task}
+use Rattle.tasks.specs.Form.{taskForm}
+use Rattle.lamp.specs.declared.Answer.{Answer}
 use Rattle.lamp.specs.declared.Lamp.{Lamp}
-use Rattle.lamp.specs.Calls.{temperatureStart}
-use Rattle.lamp.specs.Passes.{moved, temperaturePass}
-use Rattle.commands.specs.Commands.{asked, lo, hi}
+use Rattle.lamp.specs.Answers.{atClock}
+use Rattle.lamp.specs.Calls.{done, started, temperatureStart, lower, upper}
+use Rattle.lamp.specs.Kept.{start-ready}
+use Rattle.lamp.specs.Passes.{moved, signed, temperaturePass}
+use Rattle.lamp.specs.Typed.{command, start}
+use Rattle.commands.specs.Answers.{cause, answer, allowed, commandDone}
+use Rattle.commands.specs.Commands.{CommandEffect, asked, lo, hi, stopMode, commandEffect}
+use Rattle.commands.specs.Kept.{answer-both}
 use Rattle.conformance.specs.Limits.{Allowed, Closest}
-
--- the bounds that 0 stands for
-pub zero-is-physical : (physical : ℕ) → asked physical 0 ≡ physical
-zero-is-physical physical = refl
 
 module _ (bounds : Bounds) where
   asked-is : (physical n : ℕ) → (n ≡ 0 → ⊥) → asked physical n ≡ n
@@ -47,11 +59,88 @@ module _ (bounds : Bounds) where
         fieldMaximum = λ z. omega (arith, asked-is (bounds .max) maximum z);
       }
 
--- a move's task carries the fields with only 0 replaced; its start runs between the bounds that the text allows, and is done at once
--- where they cross or meet
-pub move-bounds : (l : Lamp) (rate : ℤ) (minimum maximum : ℕ) → temperatureStart l (record { rate = rate; min = asked (l .bounds .min) minimum; max = asked (l .bounds .max) maximum }) ≡ cond (leb (hi (l .bounds) maximum) (lo (l .bounds) minimum)) (record { lamp = moved l (l .color) Running.Idle; told = []; wait = 0 }) (temperaturePass l (record { start = l .clock; mireds = l .color .mireds; rate = rate; lo = lo (l .bounds) minimum; hi = hi (l .bounds) maximum }))
-unfolding temperatureStart
-move-bounds l rate minimum maximum = refl
+-- ---- MoveColorTemperature: the task that it is answered with, started on a lamp with the same bounds
+
+-- what a start does that runs between the mireds allowed: a pass of a record with these bounds and no others
+pub record RunsWithin (bounds : Bounds) (minimum maximum : ℕ) (rate : ℤ) (before : Lamp) (clock : ℕ) (after : Answer) : Type 0 where
+  pub run : ColorTemperatureRun
+  pub begins : (run .start ≡ clock) × (run .mireds ≡ before .color .mireds) × (run .rate ≡ rate)
+  pub passes : after ≡ done (temperaturePass (atClock before clock) run)
+  pub all : (n : ℕ) → Allowed bounds minimum maximum n → (run .lo ≤ n) × (n ≤ run .hi)
+  pub only : (n : ℕ) → run .lo ≤ n → n ≤ run .hi → Allowed bounds minimum maximum n
+
+module _ (l : Lamp) (mode : MoveModeEnum) (rate minimum maximum : ℕ) (options : CommandOptions) (onOff : OnOff) (first : ℕ)
+    (task : Task) (given : answer l (command (Command.MoveColorTemperature mode rate minimum maximum options) onOff first) .task ≡ GivenTask.Given task)
+    (m : Lamp) (same : m .bounds ≡ l .bounds) (clock : ℕ) (accepted : cause m (start task clock) ≡ 0) where
+  abbrev asks : ColorTemperatureMove
+  asks = record { rate = signed mode rate; min = asked (l .bounds .min) minimum; max = asked (l .bounds .max) maximum }
+
+  -- the task that a command gives is the Stop task or this one, and a Stop is not started
+  stop-refused : task ≡ Task.Stop → ⊥
+  unfolding cause taskForm
+  stop-refused e = true≢false (sym (start-ready m clock task accepted .1) ∙ ap taskForm e)
+
+  abbrev Gives : CommandEffect → Type 0
+  Gives e = e .task ≡ GivenTask.Given task → task ≡ Task.ColorTemperatureMove asks
+
+  gives-by : Gives (commandDone (atClock l first) (Command.MoveColorTemperature mode rate minimum maximum options) onOff)
+  unfolding commandEffect
+  gives-by =
+      let c : Command = Command.MoveColorTemperature mode rate minimum maximum options in
+      cond-both Gives (stopMode c) _ _ (λ s g. absurd (stop-refused (cc)))
+      (λ s. cond-both Gives (allowed l c onOff) _ _ (λ a g. cc) (λ a g. let z : _≡_ {A = ℕ} 0 1 = cc in absurd (omega arith)))
+
+  task-is : task ≡ Task.ColorTemperatureMove asks
+  task-is =
+      answer-both l (λ (a : Answer). a .task ≡ GivenTask.Given task → task ≡ Task.ColorTemperatureMove asks)
+      (command (Command.MoveColorTemperature mode rate minimum maximum options) onOff first)
+      (λ z. gives-by)
+      (λ n g. let z : _≡_ {A = ℕ} 0 1 = cc in absurd (omega arith))
+      given
+
+  start-is : answer m (start task clock) ≡ done (temperatureStart (atClock m clock) asks)
+  unfolding started
+  start-is =
+      answer-both m (λ (a : Answer). a ≡ done (started (atClock m clock) task)) (start task clock) (λ z. refl) (λ n. absurd (n accepted))
+      ∙ ap (λ (t : Task). done (started (atClock m clock) t)) task-is
+
+  low-is : lower (m .bounds) (asks .min) ≡ lo (l .bounds) minimum
+  low-is = ap (λ (b : Bounds). lower b (asks .min)) same
+
+  high-is : upper (m .bounds) (asks .max) ≡ hi (l .bounds) maximum
+  high-is = ap (λ (b : Bounds). upper b (asks .max)) same
+
+  crossed-by : (b : Bool) → leb (hi (l .bounds) maximum) (lo (l .bounds) minimum) ≡ b →
+      ((n k : ℕ) → Allowed (l .bounds) minimum maximum n → Allowed (l .bounds) minimum maximum k → n ≡ k) → b ≡ true
+  crossed-by true e h = refl
+  crossed-by false e h =
+      let apart : lo (l .bounds) minimum < hi (l .bounds) maximum = leb-false (hi (l .bounds) maximum) (lo (l .bounds) minimum) e in
+      absurd (omega (arith, h (lo (l .bounds) minimum) (hi (l .bounds) maximum)
+      (within-allowed (l .bounds) minimum maximum (lo (l .bounds) minimum) (omega arith) (omega arith))
+      (within-allowed (l .bounds) minimum maximum (hi (l .bounds) maximum) (omega arith) (omega arith))))
+
+  -- where no two mireds are allowed, it is done at once: nothing but the clock changes, and nothing is told
+  pub move-at-once : ((n k : ℕ) → Allowed (l .bounds) minimum maximum n → Allowed (l .bounds) minimum maximum k → n ≡ k) →
+      answer m (start task clock) ≡ done (record { lamp = moved (atClock m clock) (m .color) Running.Idle; told = []; wait = 0 })
+  unfolding temperatureStart
+  move-at-once h = start-is ∙ rw (high-is, low-is, crossed-by _ refl h)
+
+  -- where two are, it runs between the mireds that are allowed and no others
+  pub move-runs : (n k : ℕ) → Allowed (l .bounds) minimum maximum n → Allowed (l .bounds) minimum maximum k → n < k →
+      RunsWithin (l .bounds) minimum maximum (signed mode rate) m clock (answer m (start task clock))
+  unfolding temperatureStart
+  move-runs n k a b h =
+      let low : lo (l .bounds) minimum ≤ n = allowed-within (l .bounds) minimum maximum n a .0 in
+      let high : k ≤ hi (l .bounds) maximum = allowed-within (l .bounds) minimum maximum k b .1 in
+      record {
+        run = record { start = clock; mireds = m .color .mireds; rate = signed mode rate; lo = lo (l .bounds) minimum; hi = hi (l .bounds) maximum };
+        begins = (refl, refl, refl);
+        passes = start-is ∙ rw (high-is, low-is, lt-leb (hi (l .bounds) maximum) (lo (l .bounds) minimum) (omega arith));
+        all = allowed-within (l .bounds) minimum maximum;
+        only = within-allowed (l .bounds) minimum maximum;
+      }
+
+-- ---- MoveToColorTemperature: the closest that the device has
 
 closest-by : (least most n : ℕ) (s t : Bool) → ltb n least ≡ s → ltb most n ≡ t → least ≤ most → Closest least most n (cond s least (cond t most n))
 closest-by least most n true t e f h =
