@@ -159,9 +159,6 @@ module _ (l : Lamp) (c : Command) (onOff : OnOff) (clock : ℕ) where
   pub modes-kept : isLoopSet c ≡ false → cause l (command c onOff clock) ≡ 0 → modesOf (answer l (command c onOff clock) .lamp .color) ≡ modesOf (l .color)
   modes-kept h z = ap (λ (m : Lamp). modesOf (m .color)) (quiet-command l c onOff clock h z)
 
-  pub modes-agree : isLoopSet c ≡ false → cause l (command c onOff clock) ≡ 0 → received (modesOf (l .color)) c ≡ modesOf (l .color) → modesOf (answer l (command c onOff clock) .lamp .color) ≡ received (modesOf (l .color)) c
-  modes-agree h z e = modes-kept h z ∙ sym e
-
   pub modes-differ : isLoopSet c ≡ false → cause l (command c onOff clock) ≡ 0 → (received (modesOf (l .color)) c ≡ modesOf (l .color) → ⊥) → modesOf (answer l (command c onOff clock) .lamp .color) ≡ received (modesOf (l .color)) c → ⊥
   modes-differ h z n e = n (sym e ∙ modes-kept h z)
 

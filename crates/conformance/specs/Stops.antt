@@ -2,7 +2,7 @@
 -- StopMoveStep, the Stop mode of the Move commands, and "Generic usage notes". Written from that text as known, what stands in
 -- quotes too: no copy was at hand.
 -- Assumes nothing.
-use mathlib.Core.Bool.{Bool, true, false, not}
+use mathlib.Core.Bool.{Bool, true, false, not, cond}
 use mathlib.Core.Path.{_≡_}
 use Rattle.tasks.specs.declared.Running.{Running}
 use Rattle.tasks.specs.Runs.{runs}
@@ -33,3 +33,7 @@ loopTurns (Running.SaturationMove run) = false
 loopTurns (Running.ColorTemperatureMoveTo run) = false
 loopTurns (Running.ColorTemperatureMove run) = false
 loopTurns (Running.ColorLoop run) = true
+
+-- whether it turns after a stop
+abbrev pub turnsAfterStop : Bool → Bool → Bool
+turnsAfterStop colorLoopActive turns = cond (stopTakesEffect colorLoopActive) false turns

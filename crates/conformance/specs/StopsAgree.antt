@@ -2,8 +2,8 @@
 -- by what is started.
 -- Assumes nothing.
 use Prim.Native.Nat.{ℕ}
-use mathlib.Core.Bool.{Bool, true, false, _&&_}
-use mathlib.Core.Path.{_≡_, refl, ap, _∙_}
+use mathlib.Core.Bool.{Bool, true, false, _&&_, true≢false}
+use mathlib.Core.Path.{_≡_, refl, sym, ap, _∙_}
 use native.Mathlib.Omega.{arith}
 use Rattle.matter.specs.declared.Command.{Command}
 use Rattle.matter.specs.declared.CommandOptions.{CommandOptions}
@@ -13,19 +13,27 @@ use Rattle.tasks.specs.declared.GivenTask.{GivenTask}
 use Rattle.tasks.specs.declared.HueSaturationMoveTo.{HueSaturationMoveTo}
 use Rattle.tasks.specs.declared.Running.{Running}
 use Rattle.tasks.specs.declared.Task.{Task}
+use Rattle.tasks.specs.Runs.{runs}
+use Rattle.lamp.specs.declared.Answer.{Answer}
 use Rattle.lamp.specs.declared.Lamp.{Lamp}
 use Rattle.lamp.specs.Answers.{atClock}
 use Rattle.lamp.specs.Calls.{haltAnswer, started, hueSaturationStart, startPermille, noHueWay, noSaturationWay}
 use Rattle.lamp.specs.Passes.{unless, atEnd, hueSaturationPass}
-use Rattle.lamp.specs.Typed.{halt}
-use Rattle.commands.specs.Answers.{allowed, commandDone, cause, answer}
-use Rattle.commands.specs.Commands.{giving, commandEffect}
-use Rattle.conformance.specs.Stops.{Terminated, NoTimeLeft, stopTakesEffect, loopTurns}
+use Rattle.lamp.specs.Typed.{command, halt}
+use Rattle.commands.specs.Answers.{allowed, cause, answer}
+use Rattle.commands.specs.Commands.{commandEffect}
+use Rattle.commands.specs.Kept.{answer-both}
+use Rattle.conformance.specs.Stops.{Terminated, NoTimeLeft, turnsAfterStop, loopTurns}
 
 -- StopMoveStep with leave to run asks for a stop (every Stop mode does: `options-passed-by` in OptionsAgree)
-pub stop-asked : (l : Lamp) (options : CommandOptions) (onOff : OnOff) → allowed l (Command.StopMoveStep options) onOff ≡ true → commandDone l (Command.StopMoveStep options) onOff ≡ giving l Task.Stop
+pub stop-asked : (l : Lamp) (options : CommandOptions) (onOff : OnOff) (clock : ℕ) →
+    allowed l (Command.StopMoveStep options) onOff ≡ true →
+    cause l (command (Command.StopMoveStep options) onOff clock) ≡ 0 →
+    answer l (command (Command.StopMoveStep options) onOff clock) .task ≡ GivenTask.Given Task.Stop
 unfolding commandEffect
-stop-asked l options onOff e = rw e
+stop-asked l options onOff clock leave accepted =
+    answer-both l (λ (a : Answer). a .task ≡ GivenTask.Given Task.Stop) (command (Command.StopMoveStep options) onOff clock)
+    (λ z. rw leave) (λ n. absurd (n accepted))
 
 -- which is answered by a halt
 module _ (l : Lamp) (clock : ℕ) (accepted : cause l (halt clock) ≡ 0) where
@@ -43,19 +51,52 @@ module _ (l : Lamp) (clock : ℕ) (accepted : cause l (halt clock) ≡ 0) where
   unfolding answer haltAnswer cause
   halt-keeps-time = rw accepted
 
-  pub halt-time-agrees : NoTimeLeft l → NoTimeLeft (answer l (halt clock) .lamp)
-  halt-time-agrees e = ap (λ r. r .tenths) halt-keeps-time ∙ e
+  -- so it is the text's exactly where it was 0
+  pub halt-time-exactly : (NoTimeLeft l → NoTimeLeft (answer l (halt clock) .lamp)) × (NoTimeLeft (answer l (halt clock) .lamp) → NoTimeLeft l)
+  halt-time-exactly =
+      let kept : answer l (halt clock) .lamp .remaining .tenths ≡ l .remaining .tenths = ap (λ r. r .tenths) halt-keeps-time in
+      (λ e. kept ∙ e, λ e. sym kept ∙ e)
 
   -- the smallest: one tenth left
   pub halt-time-differs : l .remaining .tenths ≡ 1 → NoTimeLeft (answer l (halt clock) .lamp) → ⊥
-  halt-time-differs e z = omega (arith, ap (λ r. r .tenths) halt-keeps-time)
+  halt-time-differs e z = omega (arith, halt-time-exactly .1 z)
 
 -- ---- an active colour loop
 
--- while none is active, a stop takes effect in both; on an active one it takes effect in the port alone, whatever else the lamp is
-pub stop-on-loop-differs : (l : Lamp) (options : CommandOptions) → l .looping .active ≡ true → (stopTakesEffect (l .looping .active) ≡ false) × (commandEffect l (Command.StopMoveStep options) .task ≡ GivenTask.Given Task.Stop)
-unfolding commandEffect
-stop-on-loop-differs l options e = (rw e, refl)
+-- what does not run does not turn
+no-turn : (r : Running) → runs r ≡ false → loopTurns r ≡ false
+no-turn Running.Idle e = refl
+no-turn (Running.HueSaturationMoveTo run) e = refl
+no-turn (Running.HueMove run) e = refl
+no-turn (Running.SaturationMove run) e = refl
+no-turn (Running.ColorTemperatureMoveTo run) e = refl
+no-turn (Running.ColorTemperatureMove run) e = refl
+no-turn (Running.ColorLoop run) e = absurd (true≢false e)
+
+-- the lamp after StopMoveStep and the halt that answers it
+abbrev pub afterStop : Lamp → CommandOptions → OnOff → ℕ → ℕ → Lamp
+afterStop l options onOff clock later =
+    answer (answer l (command (Command.StopMoveStep options) onOff clock) .lamp) (halt later) .lamp
+
+module _ (l : Lamp) (options : CommandOptions) (onOff : OnOff) (clock later : ℕ)
+    (leave : allowed l (Command.StopMoveStep options) onOff ≡ true)
+    (accepted : cause l (command (Command.StopMoveStep options) onOff clock) ≡ 0)
+    (halted : cause (answer l (command (Command.StopMoveStep options) onOff clock) .lamp) (halt later) ≡ 0) where
+  stopped : loopTurns (afterStop l options onOff clock later .running) ≡ false
+  stopped = no-turn (afterStop l options onOff clock later .running) (halt-terminates _ later halted .still)
+
+  -- a loop that is not active turns no more, in both
+  pub stop-agrees : l .looping .active ≡ false →
+      loopTurns (afterStop l options onOff clock later .running) ≡ turnsAfterStop (l .looping .active) (loopTurns (l .running))
+  stop-agrees e = stopped ∙ rw e
+
+  -- one that is active turns on in the text; here a stop is asked for all the same, and with it the loop turns no more: any lamp whose
+  -- loop is active and turns
+  pub stop-on-loop-differs : l .looping .active ≡ true → loopTurns (l .running) ≡ true →
+      (turnsAfterStop (l .looping .active) (loopTurns (l .running)) ≡ true)
+      × (answer l (command (Command.StopMoveStep options) onOff clock) .task ≡ GivenTask.Given Task.Stop)
+      × (loopTurns (afterStop l options onOff clock later .running) ≡ false)
+  stop-on-loop-differs e t = (rw (e, t), stop-asked l options onOff clock leave accepted, stopped)
 
 -- a start of a move to a hue takes the place of a loop that turns, which the text has turn on; and the loop's attribute says that it
 -- is active still
