@@ -88,7 +88,7 @@ module _ (l : Lamp) (options : CommandOptions) (onOff : OnOff) (clock later : �
   -- a loop that is not active turns no more, in both
   pub stop-agrees : l .looping .active ≡ false →
       loopTurns (afterStop l options onOff clock later .running) ≡ turnsAfterStop (l .looping .active) (loopTurns (l .running))
-  stop-agrees e = stopped ∙ rw e
+  stop-agrees e = stopped ∙ sym (ap (λ (active : Bool). turnsAfterStop active (loopTurns (l .running))) e)
 
   -- one that is active turns on in the text; here a stop is asked for all the same, and with it the loop turns no more: any lamp whose
   -- loop is active and turns
@@ -96,7 +96,11 @@ module _ (l : Lamp) (options : CommandOptions) (onOff : OnOff) (clock later : �
       (turnsAfterStop (l .looping .active) (loopTurns (l .running)) ≡ true)
       × (answer l (command (Command.StopMoveStep options) onOff clock) .task ≡ GivenTask.Given Task.Stop)
       × (loopTurns (afterStop l options onOff clock later .running) ≡ false)
-  stop-on-loop-differs e t = (rw (e, t), stop-asked l options onOff clock leave accepted, stopped)
+  stop-on-loop-differs e t = (
+    ap (λ (active : Bool). turnsAfterStop active (loopTurns (l .running))) e ∙ t,
+    stop-asked l options onOff clock leave accepted,
+    stopped,
+  )
 
 -- a start of a move to a hue takes the place of a loop that turns, which the text has turn on; and the loop's attribute says that it
 -- is active still
