@@ -1,21 +1,40 @@
 -- The remaining time is told exactly where the text has it reportable, for all numbers; a colour attribute is told of a change
 -- exactly where the text allows it. Where the port tells more, or less.
 -- Assumes nothing.
-use Prim.Native.Nat.{ℕ, _+_, _<_}
-use mathlib.Core.Bool.{Bool, true, false, not, cond, _&&_, true≢false, _||_, or-true, or-assoc, and-false}
+use Prim.Native.Nat.{ℕ, zero, suc, _+_, _-_, _<_}
+use mathlib.Core.Bool.{Bool, true, false, not, cond, _&&_, true≢false, _||_, or-true, or-false, or-assoc, and-false}
 use mathlib.Core.List.{List, [], _∷_, _++_}
-use mathlib.Core.Path.{_≡_, refl, sym, ap, _∙_}
+use mathlib.Core.Path.{_≡_, refl, sym, ap, subst, _∙_}
 use native.Mathlib.Omega.{arith}
-use lib.Dec.{ltb, eqb}
-use borrow.Author.Tests.{leb-true, le-leb, lt-leb, ltb-true, ltb-false, lt-ltb, le-ltb, eqb-true, eqb-false, ne-eqb, not-true}
+use lib.Dec.{ltb, leb, eqb}
+use lib.IntN.{ℤ}
+use lib.ListN.{length, replicate}
+use borrow.Author.Tests.{leb-true, leb-false, le-leb, lt-leb, ltb-true, ltb-false, lt-ltb, le-ltb, eqb-true, eqb-false, ne-eqb, not-true}
 use Rattle.matter.specs.declared.ColorModeEnum.{ColorModeEnum}
 use Rattle.matter.specs.Laws.{and-left, and-right, or-left, or-right}
-use Rattle.notices.specs.Notices.{only}
-use Rattle.notices.specs.Names.{CurrentHue, EnhancedCurrentHue, CurrentSaturation, ColorTemperatureMireds, ColorMode, EnhancedColorMode, markedDirty, scenesTold}
+use Rattle.notices.specs.Notices.{only, filled}
+use Rattle.notices.specs.Names.{CurrentHue, EnhancedCurrentHue, CurrentSaturation, ColorTemperatureMireds, ColorMode, EnhancedColorMode, RemainingTime, markedDirty, scenesTold, deviceHueSaturation}
 use Rattle.color.specs.declared.Color.{Color}
 use Rattle.color.specs.Setters.{due, same, changeNotices, hueSet, hueTold, saturationSet, saturationTold, miredsSet, miredsTold}
-use Rattle.progress.specs.Progress.{tenthsOf}
+use Rattle.progress.specs.Progress.{permilleOf, tenthsOf, wayAtRate, loopWay}
+use Rattle.progress.specs.Laws.{permille-full, permille-short}
+use Rattle.hue.specs.Hue.{movedHue}
 use Rattle.remaining_time.specs.RemainingTime.{apart, told}
+use Rattle.tasks.specs.declared.ColorLoopRun.{ColorLoopRun}
+use Rattle.tasks.specs.declared.HueDelta.{HueDelta}
+use Rattle.tasks.specs.declared.HueRun.{HueRun}
+use Rattle.tasks.specs.declared.HueSaturationRun.{HueSaturationRun}
+use Rattle.tasks.specs.declared.Running.{Running}
+use Rattle.tasks.specs.declared.TargetSaturation.{TargetSaturation}
+use Rattle.lamp.specs.declared.Answer.{Answer}
+use Rattle.lamp.specs.declared.Lamp.{Lamp}
+use Rattle.lamp.specs.Answers.{atClock}
+use Rattle.lamp.specs.Calls.{done, stepped}
+use Rattle.lamp.specs.Passes.{Effect, atEnd, signed, hueNow, hueMoved, hueMovedTold, saturationNow, saturationMovedTold, leftWritten, hueSaturationPass, huePass, loopPass}
+use Rattle.lamp.specs.Typed.{step}
+use Rattle.commands.specs.Answers.{cause, answer}
+use Rattle.conformance.specs.MoveToAgrees.{hue-is-set}
+use Rattle.conformance.specs.ShownAgrees.{granted-is, step-shows}
 use Rattle.conformance.specs.Reports.{RemainingTimeIs, Reportable, fromZero, risen, fallen, toZero, hushed, MayReport, onceASecond, atTheEnd, tells}
 
 -- ---- RemainingTime
@@ -108,6 +127,20 @@ module _ (n : ℕ) (attributes : List ℕ) (has : tells n attributes ≡ true) (
   change-by true a d = refl
   change-by false true d = last-by d
   change-by false false d = rw (or-left (eqb n markedDirty) (tells n (scenesTold ∷ [])) other) (last-by d)
+
+-- a notice that is no attribute's of them is not told
+module _ (n : ℕ) (attributes : List ℕ) (none : tells n (attributes ++ (ColorMode ∷ EnhancedColorMode ∷ [])) ≡ false)
+    (other : tells n (markedDirty ∷ scenesTold ∷ []) ≡ false) where
+  no-last-by : (d : Bool) → tells n (cond d (attributes ++ (ColorMode ∷ EnhancedColorMode ∷ [])) [] ++ (scenesTold ∷ [])) ≡ false
+  no-last-by true =
+      tells-both n (attributes ++ (ColorMode ∷ EnhancedColorMode ∷ [])) (scenesTold ∷ [])
+      ∙ rw none (or-right (eqb n markedDirty) (tells n (scenesTold ∷ [])) other)
+  no-last-by false = or-right (eqb n markedDirty) (tells n (scenesTold ∷ [])) other
+
+  no-change-by : (s a d : Bool) → tells n (cond s [] (changeNotices a d attributes)) ≡ false
+  no-change-by true a d = refl
+  no-change-by false true d = no-last-by d
+  no-change-by false false d = rw (or-left (eqb n markedDirty) (tells n (scenesTold ∷ [])) other) (no-last-by d)
 
 -- of a hue, CurrentHue is told, and with it EnhancedCurrentHue where the move is an enhanced one
 abbrev IsHues : ℕ → Bool → Type 0
@@ -244,11 +277,7 @@ mode-by false false true false = refl
 mode-by false false false e = refl
 
 plain-by : (s a d : Bool) → tells EnhancedCurrentHue (cond s [] (changeNotices a d (CurrentHue ∷ []))) ≡ false
-plain-by true a d = refl
-plain-by false true true = refl
-plain-by false true false = refl
-plain-by false false true = refl
-plain-by false false false = refl
+plain-by = no-change-by EnhancedCurrentHue (CurrentHue ∷ []) refl refl
 
 module _ (c : Color) (clock : ℕ) (active : Bool) where
   -- more: at an end the number is told though it is the old one, where the text speaks of changes. Smallest: hue 0 to 0
@@ -269,3 +298,113 @@ module _ (c : Color) (clock : ℕ) (active : Bool) where
   pub enhanced-untold : (new : ℕ) (end : Bool) → tells EnhancedCurrentHue (hueTold c new end false clock active) ≡ false
   unfolding hueTold
   enhanced-untold new end = plain-by (same (c .hue) new end) active (due end (c .stamps .hue) clock)
+
+-- ---- over calls: what an accepted step tells of the hue
+
+-- the notices of a change of hue
+pub data HueNotice : ℕ → Bool → Type 0 where
+  ofCurrentHue : (enhanced : Bool) → HueNotice CurrentHue enhanced
+  ofEnhancedCurrentHue : HueNotice EnhancedCurrentHue true
+
+-- an answer has them exactly where they may be reported
+pub record HueReported (enhanced : Bool) (before : Lamp) (clock : ℕ) (end : Bool) (a : Answer) : Type 0 where
+  pub where-it-may : (n : ℕ) → HueNotice n enhanced → tells n (a .notices .places) ≡ true → MayReport (before .color .stamps .hue) clock end
+  pub of-each-change : (n : ℕ) → HueNotice n enhanced → (before .color .hue ≡ a .lamp .color .hue → ⊥) →
+      MayReport (before .color .stamps .hue) clock end → tells n (a .notices .places) ≡ true
+
+is-hues : {n : ℕ} {enhanced : Bool} → HueNotice n enhanced → IsHues n enhanced
+is-hues (ofCurrentHue enhanced) = (refl, refl)
+is-hues ofEnhancedCurrentHue = (refl, refl)
+
+-- none of them is 0, which fills the places, nor told of the rest of a pass
+no-zeros : {n : ℕ} {enhanced : Bool} → HueNotice n enhanced → (k : ℕ) → tells n (replicate k 0) ≡ false
+no-zeros h zero = refl
+no-zeros (ofCurrentHue enhanced) (suc k) = no-zeros (ofCurrentHue enhanced) k
+no-zeros ofEnhancedCurrentHue (suc k) = no-zeros ofEnhancedCurrentHue k
+
+no-device : {n : ℕ} {enhanced : Bool} → HueNotice n enhanced → tells n (deviceHueSaturation ∷ []) ≡ false
+no-device (ofCurrentHue enhanced) = refl
+no-device ofEnhancedCurrentHue = refl
+
+no-time : {n : ℕ} {enhanced : Bool} → HueNotice n enhanced → (t : Bool) → tells n (only t RemainingTime) ≡ false
+no-time h false = refl
+no-time (ofCurrentHue enhanced) true = refl
+no-time ofEnhancedCurrentHue true = refl
+
+no-saturation : {n : ℕ} {enhanced : Bool} → HueNotice n enhanced → (c : Color) (t : TargetSaturation) (first p clock : ℕ) (active : Bool) →
+    tells n (saturationMovedTold c t first p clock active) ≡ false
+unfolding saturationTold
+no-saturation h c TargetSaturation.Keep first p clock active = refl
+no-saturation (ofCurrentHue enhanced) c (TargetSaturation.To target) first p clock active =
+    no-change-by CurrentHue (CurrentSaturation ∷ []) refl refl (same (c .saturation) (saturationNow first target p) (atEnd p)) active (due (atEnd p) (c .stamps .saturation) clock)
+no-saturation ofEnhancedCurrentHue c (TargetSaturation.To target) first p clock active =
+    no-change-by EnhancedCurrentHue (CurrentSaturation ∷ []) refl refl (same (c .saturation) (saturationNow first target p) (atEnd p)) active (due (atEnd p) (c .stamps .saturation) clock)
+
+but-for : (n : ℕ) (told rest : List ℕ) → tells n rest ≡ false → tells n (told ++ rest) ≡ tells n told
+but-for n told rest none = tells-both n told rest ∙ rw none (or-false (tells n told))
+
+in-places : {n : ℕ} {enhanced : Bool} → HueNotice n enhanced → (xs : List ℕ) → tells n (filled xs) ≡ tells n xs
+unfolding filled
+in-places {n} h xs = but-for n xs (replicate (16 - length xs) 0) (no-zeros h (16 - length xs))
+
+alone : {n : ℕ} {enhanced : Bool} → HueNotice n enhanced → (told : List ℕ) → tells n (filled (told ++ (deviceHueSaturation ∷ []))) ≡ tells n told
+alone {n} h told = in-places h (told ++ (deviceHueSaturation ∷ [])) ∙ but-for n told (deviceHueSaturation ∷ []) (no-device h)
+
+-- the end of a movement is the end of its time
+end-by : (elapsed time : ℕ) (b : Bool) → leb time elapsed ≡ b → atEnd (permilleOf elapsed time) ≡ b
+end-by elapsed time true e = rw (permille-full elapsed time (leb-true time elapsed e))
+end-by elapsed time false e = lt-leb 1000 (permilleOf elapsed time) (permille-short elapsed time (leb-false time elapsed e))
+
+module _ (l : Lamp) (clock : ℕ) (accepted : cause l (step clock) ≡ 0) where
+  answer-is : (r : Running) → l .running ≡ r → answer l (step clock) ≡ done (stepped (atClock l clock) r)
+  answer-is r e = granted-is l (step clock) accepted ∙ ap (λ (x : Running). done (stepped (atClock l clock) x)) e
+
+  -- an effect that begins with the hue's setter
+  reported-by : (enhanced : Bool) (new : ℕ) (end : Bool) (e : Effect) → answer l (step clock) ≡ done e → e .lamp .color .hue ≡ new →
+      ((n : ℕ) → HueNotice n enhanced → tells n (filled (e .told)) ≡ tells n (hueTold (l .color) new end enhanced clock (l .looping .active))) →
+      HueReported enhanced l clock end (answer l (step clock))
+  reported-by enhanced new end e is set told =
+      subst (HueReported enhanced l clock end) (sym is)
+      (record {
+        where-it-may = λ n h t. hue-may (l .color) new end clock (l .looping .active) n enhanced (is-hues h) (sym (told n h) ∙ t);
+        of-each-change = λ n h c m. told n h ∙ hue-must (l .color) new end clock (l .looping .active) n enhanced (is-hues h) (λ x. c (x ∙ sym set)) m;
+      })
+
+  -- of a move to a hue
+  pub move-to-reported : (run : HueSaturationRun) (way : ℤ) → l .running ≡ Running.HueSaturationMoveTo run → run .task .delta ≡ HueDelta.By way →
+      HueReported (run .task .enhanced) l clock (leb (run .task .ms) (clock - run .start)) (answer l (step clock))
+  unfolding stepped hueSaturationPass
+  move-to-reported run way e d =
+      let elapsed : ℕ = clock - run .start in
+      let p : ℕ = permilleOf elapsed (run .task .ms) in
+      let is = answer-is (Running.HueSaturationMoveTo run) e in
+      let hued : Color = hueMoved (l .color) (run .task .delta) (run .hue) p (run .task .enhanced) clock in
+      subst (λ (end : Bool). HueReported (run .task .enhanced) l clock end (answer l (step clock))) (end-by elapsed (run .task .ms) (leb (run .task .ms) elapsed) refl)
+      (reported-by (run .task .enhanced) (hueNow (run .hue) way p) (atEnd p) (stepped (atClock l clock) (Running.HueSaturationMoveTo run)) is
+      (sym (ap (λ (a : Answer). a .lamp .color .hue) is) ∙ step-shows l clock accepted run e .hueMoves way d)
+      (λ n h.
+      let its = hueMovedTold (l .color) (run .task .delta) (run .hue) p (run .task .enhanced) clock (l .looping .active) in
+      let saturations = saturationMovedTold hued (run .task .saturation) (run .saturation) p clock (l .looping .active) in
+      let left : Bool = leftWritten (atClock l clock) (atEnd p) elapsed (run .task .ms) .told in
+      in-places h (its ++ saturations ++ (deviceHueSaturation ∷ []) ++ only left RemainingTime)
+      ∙ but-for n (its ++ saturations ++ (deviceHueSaturation ∷ [])) (only left RemainingTime) (no-time h left)
+      ∙ but-for n (its ++ saturations) (deviceHueSaturation ∷ []) (no-device h)
+      ∙ but-for n its saturations (no-saturation h hued (run .task .saturation) (run .saturation) p clock (l .looping .active))
+      ∙ ap (λ (x : HueDelta). tells n (hueMovedTold (l .color) x (run .hue) p (run .task .enhanced) clock (l .looping .active))) d))
+
+  -- of a move of the hue at a rate, and of the colour loop, which do not end
+  pub hue-move-reported : (run : HueRun) → l .running ≡ Running.HueMove run → HueReported (run .task .enhanced) l clock false (answer l (step clock))
+  unfolding stepped huePass
+  hue-move-reported run e =
+      let now : ℕ = movedHue (run .hue) (wayAtRate (signed (run .task .direction) (run .task .rate)) (clock - run .start)) in
+      reported-by (run .task .enhanced) now false (stepped (atClock l clock) (Running.HueMove run)) (answer-is (Running.HueMove run) e)
+      (hue-is-set (l .color) now false (run .task .enhanced) clock)
+      (λ n h. alone h (hueTold (l .color) now false (run .task .enhanced) clock (l .looping .active)))
+
+  pub loop-reported : (run : ColorLoopRun) → l .running ≡ Running.ColorLoop run → HueReported true l clock false (answer l (step clock))
+  unfolding stepped loopPass
+  loop-reported run e =
+      let now : ℕ = movedHue (run .hue) (loopWay (run .task .direction) (clock - run .start) (run .task .seconds)) in
+      reported-by true now false (stepped (atClock l clock) (Running.ColorLoop run)) (answer-is (Running.ColorLoop run) e)
+      (hue-is-set (l .color) now false true clock)
+      (λ n h. alone h (hueTold (l .color) now false true clock (l .looping .active)))

@@ -155,7 +155,7 @@ module _ (elapsed time : ℕ) (r : Running) where
 
 -- ---- an accepted call does what is granted
 
-granted-is : (l : Lamp) (x : Call) → cause l x ≡ 0 → answer l x ≡ granted l x
+pub granted-is : (l : Lamp) (x : Call) → cause l x ≡ 0 → answer l x ≡ granted l x
 granted-is l x z = answer-both l (λ (a : Answer). a ≡ granted l x) x (λ e. refl) (λ n. absurd (n z))
 
 -- ---- an accepted step
