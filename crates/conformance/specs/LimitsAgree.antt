@@ -115,9 +115,12 @@ module _ (l : Lamp) (mode : MoveModeEnum) (rate minimum maximum : ℕ) (options 
   crossed-by true e h = refl
   crossed-by false e h =
       let apart : lo (l .bounds) minimum < hi (l .bounds) maximum = leb-false (hi (l .bounds) maximum) (lo (l .bounds) minimum) e in
-      absurd (omega (arith, h (lo (l .bounds) minimum) (hi (l .bounds) maximum)
-      (within-allowed (l .bounds) minimum maximum (lo (l .bounds) minimum) (omega arith) (omega arith))
-      (within-allowed (l .bounds) minimum maximum (hi (l .bounds) maximum) (omega arith) (omega arith))))
+      absurd (omega (
+        arith,
+        h (lo (l .bounds) minimum) (hi (l .bounds) maximum)
+            (within-allowed (l .bounds) minimum maximum (lo (l .bounds) minimum) (omega arith) (omega arith))
+            (within-allowed (l .bounds) minimum maximum (hi (l .bounds) maximum) (omega arith) (omega arith)),
+      ))
 
   -- where no two mireds are allowed, it is done at once: nothing but the clock changes, and nothing is told
   pub move-at-once : ((n k : ℕ) → Allowed (l .bounds) minimum maximum n → Allowed (l .bounds) minimum maximum k → n ≡ k) →

@@ -230,7 +230,7 @@ module _ (c : Color) (clock later : ℕ) (soon : later < clock + 1000) (end : Bo
       let after : Color = hueSet c new end enhanced clock in
       hue-by n enhancedNext isNext (same (after .hue) next false) active (due false (after .stamps .hue) later)
       ∙ ap (λ (d : Bool). not (same (after .hue) next false) && d)
-        (not-due (c .hue) (c .stamps .hue) _ (after .stamps .hue) (hue-by n enhanced is (same (c .hue) new end) active (due end (c .stamps .hue) clock)) e (hue-stamp enhanced))
+      (not-due (c .hue) (c .stamps .hue) _ (after .stamps .hue) (hue-by n enhanced is (same (c .hue) new end) active (due end (c .stamps .hue) clock)) e (hue-stamp enhanced))
       ∙ and-false (not (same (after .hue) next false))
 
   pub hue-once : (enhanced enhancedNext : Bool) → tells CurrentHue (hueTold c new end enhanced clock active) ≡ true →

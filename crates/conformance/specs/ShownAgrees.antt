@@ -354,7 +354,7 @@ module _ (l : Lamp) (clock : ℕ) where
   module _ (task : HueSaturationMoveTo) (accepted : cause l (start (Task.HueSaturationMoveTo task) clock) ≡ 0) where
     start-is : answer l (start (Task.HueSaturationMoveTo task) clock) .lamp
         ≡ hueSaturationPass (remainingSet (atClock l clock) (fullWritten l (task .ms))) (runFrom l task clock)
-          (startPermille (task .ms) (still task (l .color .saturation))) .lamp
+        (startPermille (task .ms) (still task (l .color .saturation))) .lamp
     unfolding started hueSaturationStart
     start-is = start-lamp (Task.HueSaturationMoveTo task) accepted
 
@@ -400,12 +400,12 @@ module _ (l : Lamp) (clock : ℕ) where
 
     mireds-start-is : answer l (start (Task.ColorTemperatureMoveTo task) clock) .lamp
         ≡ temperatureToPass (remainingSet (atClock l clock) (fullWritten l (task .ms))) (miredsRunFrom l to (task .ms) clock)
-          (startPermille (task .ms) (eqb to (l .color .mireds))) .lamp
+        (startPermille (task .ms) (eqb to (l .color .mireds))) .lamp
     unfolding started temperatureToStart
     mireds-start-is =
         start-lamp (Task.ColorTemperatureMoveTo task) accepted
         ∙ ap (λ (t : ℕ). temperatureToPass (remainingSet (atClock l clock) (fullWritten l (task .ms))) (miredsRunFrom l t (task .ms) clock)
-          (startPermille (task .ms) (eqb t (l .color .mireds))) .lamp) to-is
+        (startPermille (task .ms) (eqb t (l .color .mireds))) .lamp) to-is
 
     pub mireds-start-shows : ShowsMiredsTo (l .color .mireds) to 0 (task .ms) (l .color) (answer l (start (Task.ColorTemperatureMoveTo task) clock) .lamp .color)
     mireds-start-shows =
