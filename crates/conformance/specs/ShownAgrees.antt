@@ -71,19 +71,24 @@ pub record ShowsMiredsTo (mireds target elapsed time : ℕ) (before after : Colo
 saturation-part : (c : Color) (t : TargetSaturation) (first p clock : ℕ) →
     (saturationMoved c t first p clock .hue ≡ c .hue) × (saturationMoved c t first p clock .mireds ≡ c .mireds)
 saturation-part c TargetSaturation.Keep first p clock = (refl, refl)
-saturation-part c (TargetSaturation.To target) first p clock = saturation-leaves c (saturationNow first target p) (atEnd p) clock
+saturation-part c (TargetSaturation.To target) first p clock =
+    saturation-leaves c (saturationNow first target p) (atEnd p) clock
 
 hue-part : (c : Color) (d : HueDelta) (first p : ℕ) (enhanced : Bool) (clock : ℕ) →
-    (hueMoved c d first p enhanced clock .saturation ≡ c .saturation) × (hueMoved c d first p enhanced clock .mireds ≡ c .mireds)
+    (hueMoved c d first p enhanced clock .saturation ≡ c .saturation)
+    × (hueMoved c d first p enhanced clock .mireds ≡ c .mireds)
 hue-part c HueDelta.Keep first p enhanced clock = (refl, refl)
 hue-part c (HueDelta.By way) first p enhanced clock = hue-leaves c (hueNow first way p) (atEnd p) enhanced clock
 
 module _ (m : Lamp) (run : HueSaturationRun) (p elapsed : ℕ) (few : p ≤ 1000) (high : run .saturation ≤ 254)
     (formed : saturationForm (run .task .saturation) ≡ true)
-    (hues : (way : ℤ) → run .task .delta ≡ HueDelta.By way → partOf way p ≡ partOf way (permilleOf elapsed (run .task .ms)))
+    (hues : (way : ℤ) → run .task .delta ≡ HueDelta.By way →
+    partOf way p ≡ partOf way (permilleOf elapsed (run .task .ms)))
     (saturations : (target : ℕ) → run .task .saturation ≡ TargetSaturation.To target →
-    natAbs (partOf (pos target -ℤ pos (run .saturation)) p) ≡ gone (pos target -ℤ pos (run .saturation)) elapsed (run .task .ms)) where
-  pass-shows : ShowsMoveTo (run .task) (run .hue) (run .saturation) elapsed (m .color) (hueSaturationPass m run p .lamp .color)
+    natAbs (partOf (pos target -ℤ pos (run .saturation)) p)
+    ≡ gone (pos target -ℤ pos (run .saturation)) elapsed (run .task .ms)) where
+  pass-shows : ShowsMoveTo (run .task) (run .hue) (run .saturation) elapsed (m .color)
+      (hueSaturationPass m run p .lamp .color)
   unfolding hueSaturationPass
   pass-shows =
       let d : HueDelta = run .task .delta in
@@ -98,14 +103,18 @@ module _ (m : Lamp) (run : HueSaturationRun) (p elapsed : ℕ) (few : p ≤ 1000
             ∙ hue-is-set (m .color) (hueNow (run .hue) way p) (atEnd p) (run .task .enhanced) (m .clock)
             ∙ ap (movedHue (run .hue)) (hues way e);
         hueStays =
-            λ e. rest .0 ∙ ap (λ (x : HueDelta). hueMoved (m .color) x (run .hue) p (run .task .enhanced) (m .clock) .hue) e;
+            λ e. rest .0 ∙ ap (λ (x : HueDelta). hueMoved (m .color) x (run .hue) p (run .task .enhanced)
+            (m .clock) .hue) e;
         saturationMoves =
-            λ target e. ap (λ (x : TargetSaturation). saturationMoved hued x (run .saturation) p (m .clock) .saturation) e
+            λ target e. ap (λ (x : TargetSaturation). saturationMoved hued x (run .saturation) p
+            (m .clock) .saturation) e
             ∙ saturation-is-set hued (saturationNow (run .saturation) target p) (atEnd p) (m .clock)
-            ∙ line-is 0 254 (run .saturation) target p few (omega arith) high (omega arith) (leb-true target 254 (rw e at formed))
+            ∙ line-is 0 254 (run .saturation) target p few (omega arith) high (omega arith)
+            (leb-true target 254 (rw e at formed))
             ∙ ap (onLine (run .saturation) target) (saturations target e);
         saturationStays =
-            λ e. ap (λ (x : TargetSaturation). saturationMoved hued x (run .saturation) p (m .clock) .saturation) e ∙ kept .0;
+            λ e. ap (λ (x : TargetSaturation). saturationMoved hued x (run .saturation) p (m .clock) .saturation) e
+            ∙ kept .0;
         miredsStay = rest .1 ∙ kept .1;
       }
 
@@ -114,7 +123,8 @@ module _ (m : Lamp) (run : ColorTemperatureToRun) (p elapsed : ℕ) (few : p ≤
     (last : (m .bounds .min ≤ run .task .target) × (run .task .target ≤ m .bounds .max))
     (part : natAbs (partOf (pos (run .task .target) -ℤ pos (run .mireds)) p)
     ≡ gone (pos (run .task .target) -ℤ pos (run .mireds)) elapsed (run .task .ms)) where
-  pass-shows-mireds : ShowsMiredsTo (run .mireds) (run .task .target) elapsed (run .task .ms) (m .color) (temperatureToPass m run p .lamp .color)
+  pass-shows-mireds : ShowsMiredsTo (run .mireds) (run .task .target) elapsed (run .task .ms) (m .color)
+      (temperatureToPass m run p .lamp .color)
   unfolding temperatureToPass
   pass-shows-mireds =
       let now : ℕ = miredsNow (m .bounds) (run .mireds) (run .task .target) p in
@@ -122,7 +132,8 @@ module _ (m : Lamp) (run : ColorTemperatureToRun) (p elapsed : ℕ) (few : p ≤
       record {
         miredsMove =
             mireds-is-set (m .color) now (atEnd p) (m .clock)
-            ∙ line-is (m .bounds .min) (m .bounds .max) (run .mireds) (run .task .target) p few (first .0) (first .1) (last .0) (last .1)
+            ∙ line-is (m .bounds .min) (m .bounds .max) (run .mireds) (run .task .target) p few (first .0) (first .1)
+            (last .0) (last .1)
             ∙ ap (onLine (run .mireds) (run .task .target)) part;
         hueStays = rest .0;
         saturationStays = rest .1;
@@ -134,8 +145,10 @@ over : (e t : ℕ) (b : Bool) → leb t e ≡ b → leb 1000 (permilleOf e t) �
 over e t true f h = leb-true t e f
 over e t false f h = absurd (omega (arith, permille-short e t (leb-false t e f), leb-true 1000 (permilleOf e t) h))
 
-left-by : (e t : ℕ) (b : Bool) → leb 1000 (permilleOf e t) ≡ b → t ≤ 6553500 → RemainingTimeIs (t - e) (newTenths (cond b 0 (t - e)))
-left-by e t true f h = let k : t ≤ e = over e t (leb t e) refl f in record { enough = omega arith; fewest = λ n m. omega arith }
+left-by : (e t : ℕ) (b : Bool) → leb 1000 (permilleOf e t) ≡ b → t ≤ 6553500 →
+    RemainingTimeIs (t - e) (newTenths (cond b 0 (t - e)))
+left-by e t true f h =
+    let k : t ≤ e = over e t (leb t e) refl f in record { enough = omega arith; fewest = λ n m. omega arith }
 left-by e t false f h = record { enough = omega arith; fewest = λ n m. omega arith }
 
 -- a time in form is at most 6,553,500
@@ -163,80 +176,104 @@ granted-is l x z = answer-both l (λ (a : Answer). a ≡ granted l x) x (λ e. r
 module _ (l : Lamp) (clock : ℕ) (accepted : cause l (step clock) ≡ 0) where
   step-lamp : (r : Running) → l .running ≡ r → answer l (step clock) .lamp ≡ stepped (atClock l clock) r .lamp
   step-lamp r e =
-      ap (λ (a : Answer). a .lamp) (granted-is l (step clock) accepted) ∙ ap (λ (x : Running). stepped (atClock l clock) x .lamp) e
+      ap (λ (a : Answer). a .lamp) (granted-is l (step clock) accepted)
+      ∙ ap (λ (x : Running). stepped (atClock l clock) x .lamp) e
 
   step-formed : (r : Running) → l .running ≡ r → runningForm r (l .bounds) clock ≡ true
   step-formed r e =
-      subst (λ (x : Running). runningForm x (l .bounds) clock ≡ true) e (form-running (atClock l clock) (granted-ready l (step clock) accepted))
+      subst (λ (x : Running). runningForm x (l .bounds) clock ≡ true) e
+      (form-running (atClock l clock) (granted-ready l (step clock) accepted))
 
   -- of a move to a hue, a saturation or both
   module _ (run : HueSaturationRun) (running : l .running ≡ Running.HueSaturationMoveTo run) where
-    step-is : answer l (step clock) .lamp ≡ hueSaturationPass (atClock l clock) run (permilleOf (clock - run .start) (run .task .ms)) .lamp
+    step-is : answer l (step clock) .lamp
+        ≡ hueSaturationPass (atClock l clock) run (permilleOf (clock - run .start) (run .task .ms)) .lamp
     unfolding stepped
     step-is = step-lamp (Running.HueSaturationMoveTo run) running
 
     -- the numbers of the record, at the time elapsed
-    pub step-shows : ShowsMoveTo (run .task) (run .hue) (run .saturation) (clock - run .start) (l .color) (answer l (step clock) .lamp .color)
+    pub step-shows : ShowsMoveTo (run .task) (run .hue) (run .saturation) (clock - run .start) (l .color)
+        (answer l (step clock) .lamp .color)
     unfolding runningForm moveToForm
     step-shows =
         let form = each _ (step-formed (Running.HueSaturationMoveTo run) running) in
         let elapsed : ℕ = clock - run .start in
-        subst (λ (m : Lamp). ShowsMoveTo (run .task) (run .hue) (run .saturation) elapsed (l .color) (m .color)) (sym step-is)
-        (pass-shows (atClock l clock) run (permilleOf elapsed (run .task .ms)) elapsed (permille-most elapsed (run .task .ms))
+        subst (λ (m : Lamp). ShowsMoveTo (run .task) (run .hue) (run .saturation) elapsed (l .color) (m .color))
+        (sym step-is)
+        (pass-shows (atClock l clock) run (permilleOf elapsed (run .task .ms)) elapsed
+        (permille-most elapsed (run .task .ms))
         (leb-true _ _ (form .1 .1 .0))
         (each _ (form .0) .1 .1 .0)
         (λ way e. refl)
         (λ target e. refl))
 
-    pub step-remaining : RemainingTimeIs (run .task .ms - (clock - run .start)) (answer l (step clock) .lamp .remaining .tenths)
+    pub step-remaining : RemainingTimeIs (run .task .ms - (clock - run .start))
+        (answer l (step clock) .lamp .remaining .tenths)
     unfolding runningForm moveToForm hueSaturationPass
     step-remaining =
         let form = each _ (step-formed (Running.HueSaturationMoveTo run) running) in
         let elapsed : ℕ = clock - run .start in
         subst (λ (m : Lamp). RemainingTimeIs (run .task .ms - elapsed) (m .remaining .tenths)) (sym step-is)
-        (left-by elapsed (run .task .ms) (leb 1000 (permilleOf elapsed (run .task .ms))) refl (time-form (run .task .ms) (each _ (form .0) .0)))
+        (left-by elapsed (run .task .ms) (leb 1000 (permilleOf elapsed (run .task .ms))) refl
+        (time-form (run .task .ms) (each _ (form .0) .0)))
 
     -- it runs on until its time is over
     pub step-ends : run .task .ms ≤ clock - run .start → answer l (step clock) .lamp .running ≡ Running.Idle
     unfolding hueSaturationPass
-    step-ends h = ap (λ (m : Lamp). m .running) step-is ∙ ends (clock - run .start) (run .task .ms) (Running.HueSaturationMoveTo run) h
+    step-ends h =
+        ap (λ (m : Lamp). m .running) step-is
+        ∙ ends (clock - run .start) (run .task .ms) (Running.HueSaturationMoveTo run) h
 
-    pub step-goes-on : clock - run .start < run .task .ms → answer l (step clock) .lamp .running ≡ Running.HueSaturationMoveTo run
+    pub step-goes-on : clock - run .start < run .task .ms →
+        answer l (step clock) .lamp .running ≡ Running.HueSaturationMoveTo run
     unfolding hueSaturationPass
-    step-goes-on h = ap (λ (m : Lamp). m .running) step-is ∙ goes-on (clock - run .start) (run .task .ms) (Running.HueSaturationMoveTo run) h
+    step-goes-on h =
+        ap (λ (m : Lamp). m .running) step-is
+        ∙ goes-on (clock - run .start) (run .task .ms) (Running.HueSaturationMoveTo run) h
 
   -- of a move to mireds
   module _ (run : ColorTemperatureToRun) (running : l .running ≡ Running.ColorTemperatureMoveTo run) where
-    mireds-step-is : answer l (step clock) .lamp ≡ temperatureToPass (atClock l clock) run (permilleOf (clock - run .start) (run .task .ms)) .lamp
+    mireds-step-is : answer l (step clock) .lamp
+        ≡ temperatureToPass (atClock l clock) run (permilleOf (clock - run .start) (run .task .ms)) .lamp
     unfolding stepped
     mireds-step-is = step-lamp (Running.ColorTemperatureMoveTo run) running
 
-    pub mireds-step-shows : ShowsMiredsTo (run .mireds) (run .task .target) (clock - run .start) (run .task .ms) (l .color) (answer l (step clock) .lamp .color)
+    pub mireds-step-shows : ShowsMiredsTo (run .mireds) (run .task .target) (clock - run .start) (run .task .ms)
+        (l .color) (answer l (step clock) .lamp .color)
     unfolding runningForm
     mireds-step-shows =
         let form = each _ (step-formed (Running.ColorTemperatureMoveTo run) running) in
         let elapsed : ℕ = clock - run .start in
-        subst (λ (m : Lamp). ShowsMiredsTo (run .mireds) (run .task .target) elapsed (run .task .ms) (l .color) (m .color)) (sym mireds-step-is)
-        (pass-shows-mireds (atClock l clock) run (permilleOf elapsed (run .task .ms)) elapsed (permille-most elapsed (run .task .ms))
+        subst (λ (m : Lamp). ShowsMiredsTo (run .mireds) (run .task .target) elapsed (run .task .ms) (l .color)
+        (m .color)) (sym mireds-step-is)
+        (pass-shows-mireds (atClock l clock) run (permilleOf elapsed (run .task .ms)) elapsed
+        (permille-most elapsed (run .task .ms))
         (within (l .bounds) (run .mireds) (form .1 .1 .0))
         (within (l .bounds) (run .task .target) (form .1 .1 .1 .0))
         refl)
 
-    pub mireds-step-remaining : RemainingTimeIs (run .task .ms - (clock - run .start)) (answer l (step clock) .lamp .remaining .tenths)
+    pub mireds-step-remaining : RemainingTimeIs (run .task .ms - (clock - run .start))
+        (answer l (step clock) .lamp .remaining .tenths)
     unfolding runningForm temperatureToPass
     mireds-step-remaining =
         let form = each _ (step-formed (Running.ColorTemperatureMoveTo run) running) in
         let elapsed : ℕ = clock - run .start in
         subst (λ (m : Lamp). RemainingTimeIs (run .task .ms - elapsed) (m .remaining .tenths)) (sym mireds-step-is)
-        (left-by elapsed (run .task .ms) (leb 1000 (permilleOf elapsed (run .task .ms))) refl (time-form (run .task .ms) (form .0)))
+        (left-by elapsed (run .task .ms) (leb 1000 (permilleOf elapsed (run .task .ms))) refl
+        (time-form (run .task .ms) (form .0)))
 
     pub mireds-step-ends : run .task .ms ≤ clock - run .start → answer l (step clock) .lamp .running ≡ Running.Idle
     unfolding temperatureToPass
-    mireds-step-ends h = ap (λ (m : Lamp). m .running) mireds-step-is ∙ ends (clock - run .start) (run .task .ms) (Running.ColorTemperatureMoveTo run) h
+    mireds-step-ends h =
+        ap (λ (m : Lamp). m .running) mireds-step-is
+        ∙ ends (clock - run .start) (run .task .ms) (Running.ColorTemperatureMoveTo run) h
 
-    pub mireds-step-goes-on : clock - run .start < run .task .ms → answer l (step clock) .lamp .running ≡ Running.ColorTemperatureMoveTo run
+    pub mireds-step-goes-on : clock - run .start < run .task .ms →
+        answer l (step clock) .lamp .running ≡ Running.ColorTemperatureMoveTo run
     unfolding temperatureToPass
-    mireds-step-goes-on h = ap (λ (m : Lamp). m .running) mireds-step-is ∙ goes-on (clock - run .start) (run .task .ms) (Running.ColorTemperatureMoveTo run) h
+    mireds-step-goes-on h =
+        ap (λ (m : Lamp). m .running) mireds-step-is
+        ∙ goes-on (clock - run .start) (run .task .ms) (Running.ColorTemperatureMoveTo run) h
 
 -- ---- an accepted start: elapsed 0, from the numbers that the lamp had
 
@@ -280,22 +317,26 @@ on-its-way : (ms : ℕ) → 0 < ms → startPermille ms false ≡ 0
 on-its-way ms h = rw (ne-eqb ms 0 (λ e. omega arith))
 
 -- the part at a start is that at elapsed 0
-start-part : (way : ℤ) (ms : ℕ) (noWay : Bool) → (noWay ≡ true → way ≡ pos 0) → partOf way (startPermille ms noWay) ≡ partOf way (permilleOf 0 ms)
+start-part : (way : ℤ) (ms : ℕ) (noWay : Bool) → (noWay ≡ true → way ≡ pos 0) →
+    partOf way (startPermille ms noWay) ≡ partOf way (permilleOf 0 ms)
 unfolding permilleOf
 start-part way zero noWay h = refl
 start-part way (suc n) true h =
-    ap (λ (z : ℤ). partOf z (startPermille (suc n) true)) (h refl) ∙ none (startPermille (suc n) true) ∙ sym (none (permilleOf 0 (suc n)))
+    ap (λ (z : ℤ). partOf z (startPermille (suc n) true)) (h refl) ∙ none (startPermille (suc n) true)
+    ∙ sym (none (permilleOf 0 (suc n)))
     ∙ sym (ap (λ (z : ℤ). partOf z (permilleOf 0 (suc n))) (h refl))
   where
     none : (p : ℕ) → partOf (pos 0) p ≡ pos 0
     none p = part-up 0 p ∙ ap pos (omega arith)
 start-part way (suc n) false h =
-    ap (partOf way) (on-its-way (suc n) (omega arith)) ∙ ap (partOf way) (sym (permille-is 0 (suc n) (omega arith) ∙ ap (min 1000) (zero-div (suc n))))
+    ap (partOf way) (on-its-way (suc n) (omega arith))
+    ∙ ap (partOf way) (sym (permille-is 0 (suc n) (omega arith) ∙ ap (min 1000) (zero-div (suc n))))
 
 start-few : (ms : ℕ) (noWay : Bool) → startPermille ms noWay ≤ 1000
 start-few ms noWay = cond-both (λ (n : ℕ). n ≤ 1000) (eqb ms 0 || noWay) 1000 0 (λ e. omega arith) (λ e. omega arith)
 
-start-left : (ms clock : ℕ) → ms ≤ 6553500 → RemainingTimeIs ms (newTenths (cond (atEnd (startPermille ms false)) 0 (ms - (clock - clock))))
+start-left : (ms clock : ℕ) → ms ≤ 6553500 →
+    RemainingTimeIs ms (newTenths (cond (atEnd (startPermille ms false)) 0 (ms - (clock - clock))))
 start-left zero clock h = record { enough = omega arith; fewest = λ n m. omega arith }
 start-left (suc n) clock h =
     rw (on-its-way (suc n) (omega arith)) (record { enough = omega arith; fewest = λ n m. omega arith })
@@ -316,7 +357,8 @@ module _ (ms clock : ℕ) (r : Running) (Done : Type 0) (b : Bool) (m : Lamp) (s
     (yes : Done → b ≡ true) (no : (Done → ⊥) → b ≡ false)
     (left : m .remaining .tenths ≡ newTenths (cond (atEnd (startPermille ms b)) 0 (ms - (clock - clock))))
     (runs : m .running ≡ unless (atEnd (startPermille ms b)) r) where
-  left-at : (t : Bool) → b ≡ t → m .remaining .tenths ≡ newTenths (cond (atEnd (startPermille ms t)) 0 (ms - (clock - clock)))
+  left-at : (t : Bool) → b ≡ t →
+      m .remaining .tenths ≡ newTenths (cond (atEnd (startPermille ms t)) 0 (ms - (clock - clock)))
   left-at t e = left ∙ ap (λ (x : Bool). newTenths (cond (atEnd (startPermille ms x)) 0 (ms - (clock - clock)))) e
 
   runs-at : (t : Bool) → b ≡ t → m .running ≡ unless (atEnd (startPermille ms t)) r
@@ -332,7 +374,8 @@ module _ (ms clock : ℕ) (r : Running) (Done : Type 0) (b : Bool) (m : Lamp) (s
         nowhere = λ d. runs-at true (yes d) ∙ rw (start-over ms);
         runsOrNot =
             subst (λ (x : Running). (x ≡ r) ⊎ (x ≡ Running.Idle)) (sym runs)
-            (cond-both (λ (x : Running). (x ≡ r) ⊎ (x ≡ Running.Idle)) (atEnd (startPermille ms b)) Running.Idle r (λ e. inr refl) (λ e. inl refl));
+            (cond-both (λ (x : Running). (x ≡ r) ⊎ (x ≡ Running.Idle)) (atEnd (startPermille ms b)) Running.Idle r
+            (λ e. inr refl) (λ e. inl refl));
       }
 
 -- the records that starts leave
@@ -340,13 +383,16 @@ abbrev pub runFrom : Lamp → HueSaturationMoveTo → ℕ → HueSaturationRun
 runFrom l task clock = record { start = clock; hue = l .color .hue; saturation = l .color .saturation; task = task }
 
 abbrev pub miredsRunFrom : Lamp → ℕ → ℕ → ℕ → ColorTemperatureToRun
-miredsRunFrom l target ms clock = record { start = clock; mireds = l .color .mireds; task = record { target = target; ms = ms } }
+miredsRunFrom l target ms clock =
+    record { start = clock; mireds = l .color .mireds; task = record { target = target; ms = ms } }
 
 module _ (l : Lamp) (clock : ℕ) where
-  start-lamp : (task : Task) → cause l (start task clock) ≡ 0 → answer l (start task clock) .lamp ≡ started (atClock l clock) task .lamp
+  start-lamp : (task : Task) → cause l (start task clock) ≡ 0 →
+      answer l (start task clock) .lamp ≡ started (atClock l clock) task .lamp
   start-lamp task accepted = ap (λ (a : Answer). a .lamp) (granted-is l (start task clock) accepted)
 
-  start-formed : (task : Task) → cause l (start task clock) ≡ 0 → (lampForm (atClock l clock) ≡ true) × (taskForm task ≡ true)
+  start-formed : (task : Task) → cause l (start task clock) ≡ 0 →
+      (lampForm (atClock l clock) ≡ true) × (taskForm task ≡ true)
   unfolding cause
   start-formed task accepted = start-ready l clock task accepted
 
@@ -363,24 +409,30 @@ module _ (l : Lamp) (clock : ℕ) where
     start-form = start-formed (Task.HueSaturationMoveTo task) accepted
 
     -- the numbers at elapsed 0: at time 0 the targets
-    pub start-shows : ShowsMoveTo task (l .color .hue) (l .color .saturation) 0 (l .color) (answer l (start (Task.HueSaturationMoveTo task) clock) .lamp .color)
+    pub start-shows : ShowsMoveTo task (l .color .hue) (l .color .saturation) 0 (l .color)
+        (answer l (start (Task.HueSaturationMoveTo task) clock) .lamp .color)
     unfolding moveToForm
     start-shows =
         let first : ℕ = l .color .saturation in
         let at-once : Bool = still task first in
         subst (λ (m : Lamp). ShowsMoveTo task (l .color .hue) first 0 (l .color) (m .color)) (sym start-is)
-        (pass-shows (remainingSet (atClock l clock) (fullWritten l (task .ms))) (runFrom l task clock) (startPermille (task .ms) at-once) 0 (start-few (task .ms) at-once)
+        (pass-shows (remainingSet (atClock l clock) (fullWritten l (task .ms))) (runFrom l task clock)
+        (startPermille (task .ms) at-once) 0 (start-few (task .ms) at-once)
         (form-saturation (l .color) (l .bounds) clock (form-color (atClock l clock) (start-form .0)))
         (each _ (start-form .1) .1 .1 .0)
         (λ way e. start-part way (task .ms) at-once (λ s. still-hue task first s way e))
-        (λ target e. ap natAbs (start-part (pos target -ℤ pos first) (task .ms) at-once (λ s. no-way first target (sym (still-saturation task first s target e))))))
+        (λ target e. ap natAbs
+        (start-part (pos target -ℤ pos first) (task .ms) at-once
+        (λ s. no-way first target (sym (still-saturation task first s target e))))))
 
-    pub start-begins : Begins (task .ms) (Running.HueSaturationMoveTo (runFrom l task clock)) (Nowhere task (l .color .saturation))
+    pub start-begins : Begins (task .ms) (Running.HueSaturationMoveTo (runFrom l task clock))
+        (Nowhere task (l .color .saturation))
         (answer l (start (Task.HueSaturationMoveTo task) clock) .lamp)
     unfolding moveToForm hueSaturationPass
     start-begins =
         let first : ℕ = l .color .saturation in
-        begins (task .ms) clock (Running.HueSaturationMoveTo (runFrom l task clock)) (Nowhere task first) (still task first) _
+        begins (task .ms) clock (Running.HueSaturationMoveTo (runFrom l task clock)) (Nowhere task first)
+        (still task first) _
         (time-form (task .ms) (each _ (start-form .1) .0))
         (nowhere-still task first) (going-by task first (still task first) refl)
         (ap (λ (m : Lamp). m .remaining .tenths) start-is) (ap (λ (m : Lamp). m .running) start-is)
@@ -399,28 +451,36 @@ module _ (l : Lamp) (clock : ℕ) where
         (closest-agrees (l .bounds .min) (l .bounds .max) (task .target) (omega (arith, found))) closest
 
     mireds-start-is : answer l (start (Task.ColorTemperatureMoveTo task) clock) .lamp
-        ≡ temperatureToPass (remainingSet (atClock l clock) (fullWritten l (task .ms))) (miredsRunFrom l to (task .ms) clock)
+        ≡ temperatureToPass (remainingSet (atClock l clock) (fullWritten l (task .ms)))
+        (miredsRunFrom l to (task .ms) clock)
         (startPermille (task .ms) (eqb to (l .color .mireds))) .lamp
     unfolding started temperatureToStart
     mireds-start-is =
         start-lamp (Task.ColorTemperatureMoveTo task) accepted
-        ∙ ap (λ (t : ℕ). temperatureToPass (remainingSet (atClock l clock) (fullWritten l (task .ms))) (miredsRunFrom l t (task .ms) clock)
+        ∙ ap (λ (t : ℕ). temperatureToPass (remainingSet (atClock l clock) (fullWritten l (task .ms)))
+        (miredsRunFrom l t (task .ms) clock)
         (startPermille (task .ms) (eqb t (l .color .mireds))) .lamp) to-is
 
-    pub mireds-start-shows : ShowsMiredsTo (l .color .mireds) to 0 (task .ms) (l .color) (answer l (start (Task.ColorTemperatureMoveTo task) clock) .lamp .color)
+    pub mireds-start-shows : ShowsMiredsTo (l .color .mireds) to 0 (task .ms) (l .color)
+        (answer l (start (Task.ColorTemperatureMoveTo task) clock) .lamp .color)
     mireds-start-shows =
         let first : ℕ = l .color .mireds in
         subst (λ (m : Lamp). ShowsMiredsTo first to 0 (task .ms) (l .color) (m .color)) (sym mireds-start-is)
-        (pass-shows-mireds (remainingSet (atClock l clock) (fullWritten l (task .ms))) (miredsRunFrom l to (task .ms) clock) (startPermille (task .ms) (eqb to first)) 0 (start-few (task .ms) (eqb to first))
+        (pass-shows-mireds (remainingSet (atClock l clock) (fullWritten l (task .ms)))
+        (miredsRunFrom l to (task .ms) clock) (startPermille (task .ms) (eqb to first)) 0
+        (start-few (task .ms) (eqb to first))
         found (closest .low, closest .high)
-        (ap natAbs (start-part (pos to -ℤ pos first) (task .ms) (eqb to first) (λ s. no-way first to (sym (eqb-true to first s))))))
+        (ap natAbs (start-part (pos to -ℤ pos first) (task .ms) (eqb to first)
+        (λ s. no-way first to (sym (eqb-true to first s))))))
 
-    pub mireds-start-begins : Begins (task .ms) (Running.ColorTemperatureMoveTo (miredsRunFrom l to (task .ms) clock)) (to ≡ l .color .mireds)
+    pub mireds-start-begins : Begins (task .ms) (Running.ColorTemperatureMoveTo (miredsRunFrom l to (task .ms) clock))
+        (to ≡ l .color .mireds)
         (answer l (start (Task.ColorTemperatureMoveTo task) clock) .lamp)
     unfolding taskForm temperatureToPass
     mireds-start-begins =
         let first : ℕ = l .color .mireds in
-        begins (task .ms) clock (Running.ColorTemperatureMoveTo (miredsRunFrom l to (task .ms) clock)) (to ≡ first) (eqb to first) _
+        begins (task .ms) clock (Running.ColorTemperatureMoveTo (miredsRunFrom l to (task .ms) clock)) (to ≡ first)
+        (eqb to first) _
         (time-form (task .ms) (start-formed (Task.ColorTemperatureMoveTo task) accepted .1))
         (eq-eqb to first) (ne-eqb to first)
         (ap (λ (m : Lamp). m .remaining .tenths) mireds-start-is) (ap (λ (m : Lamp). m .running) mireds-start-is)
@@ -433,7 +493,8 @@ afterSteps l [] = l
 afterSteps l (clock ∷ clocks) = afterSteps (answer l (step clock) .lamp) clocks
 
 -- a step while nothing runs is refused
-idle-refused : (m : Lamp) (clock : ℕ) (b : Bool) → lampForm m ≡ b → m .running ≡ Running.Idle → cause m (step clock) ≡ 0 → ⊥
+idle-refused : (m : Lamp) (clock : ℕ) (b : Bool) → lampForm m ≡ b → m .running ≡ Running.Idle →
+    cause m (step clock) ≡ 0 → ⊥
 idle-refused m clock true f e z = let seven : cause m (step clock) ≡ 7 = step-7 m clock f (ap runs e) in omega arith
 idle-refused m clock false f e z = let eight : cause m (step clock) ≡ 8 = step-8 m clock f in omega arith
 
@@ -441,7 +502,8 @@ idle-refused m clock false f e z = let eight : cause m (step clock) ≡ 8 = step
 module _ (r : Running) (P : Lamp → Type 0)
     (lasts : (m : Lamp) (clock : ℕ) → m .running ≡ r → cause m (step clock) ≡ 0 →
     (answer m (step clock) .lamp .running ≡ r) ⊎ (answer m (step clock) .lamp .running ≡ Running.Idle))
-    (keeps : (m : Lamp) (clock : ℕ) → m .running ≡ r → cause m (step clock) ≡ 0 → P m → P (answer m (step clock) .lamp)) where
+    (keeps : (m : Lamp) (clock : ℕ) → m .running ≡ r → cause m (step clock) ≡ 0 → P m →
+    P (answer m (step clock) .lamp)) where
   abbrev Kept : Lamp → Type 0
   Kept m = ((m .running ≡ r) ⊎ (m .running ≡ Running.Idle)) × P m
 
@@ -503,7 +565,8 @@ module _ (l : Lamp) (first : ℕ) (clocks : List ℕ) (clock : ℕ) where
     kept : Kept r P lasts stays m
     kept =
         let s = start-shows l first task begun in
-        steps-keep r P lasts stays clocks _ (start-begins l first task begun .runsOrNot, (s .hueStays, s .saturationStays, s .miredsStay))
+        steps-keep r P lasts stays clocks _
+        (start-begins l first task begun .runsOrNot, (s .hueStays, s .saturationStays, s .miredsStay))
 
     module _ (accepted : cause (begunAndStepped l (Task.HueSaturationMoveTo task) first clocks) (step clock) ≡ 0) where
       still-runs : m .running ≡ r
@@ -523,7 +586,8 @@ module _ (l : Lamp) (first : ℕ) (clocks : List ℕ) (clock : ℕ) where
           }
 
       pub steps-remaining : RemainingTimeIs (task .ms - (clock - first))
-          (answer (begunAndStepped l (Task.HueSaturationMoveTo task) first clocks) (step clock) .lamp .remaining .tenths)
+          (answer (begunAndStepped l (Task.HueSaturationMoveTo task) first clocks)
+          (step clock) .lamp .remaining .tenths)
       steps-remaining = step-remaining m clock accepted (runFrom l task first) still-runs
 
   module _ (task : ColorTemperatureMoveTo) (begun : cause l (start (Task.ColorTemperatureMoveTo task) first) ≡ 0)
@@ -546,7 +610,8 @@ module _ (l : Lamp) (first : ℕ) (clocks : List ℕ) (clock : ℕ) where
         lasts-by _ _ (task .ms) (now - first) (leb (task .ms) (now - first)) refl
         (mireds-step-goes-on n now z mireds-run e) (mireds-step-ends n now z mireds-run e)
 
-    mireds-stays : (n : Lamp) (now : ℕ) → n .running ≡ mireds-r → cause n (step now) ≡ 0 → mireds-P n → mireds-P (answer n (step now) .lamp)
+    mireds-stays : (n : Lamp) (now : ℕ) → n .running ≡ mireds-r → cause n (step now) ≡ 0 → mireds-P n →
+        mireds-P (answer n (step now) .lamp)
     mireds-stays n now e z k =
         let s = mireds-step-shows n now z mireds-run e in
         (s .hueStays ∙ k .0, s .saturationStays ∙ k .1)
@@ -557,7 +622,8 @@ module _ (l : Lamp) (first : ℕ) (clocks : List ℕ) (clock : ℕ) where
         steps-keep mireds-r mireds-P mireds-lasts mireds-stays clocks _
         (mireds-start-begins l first task begun to closest .runsOrNot, (s .hueStays, s .saturationStays))
 
-    module _ (accepted : cause (begunAndStepped l (Task.ColorTemperatureMoveTo task) first clocks) (step clock) ≡ 0) where
+    module _ (accepted : cause (begunAndStepped l (Task.ColorTemperatureMoveTo task) first clocks) (step clock)
+        ≡ 0) where
       mireds-still-run : mireds-m .running ≡ mireds-r
       mireds-still-run = running-still mireds-r mireds-P mireds-lasts mireds-stays mireds-m clock mireds-kept accepted
 
@@ -569,5 +635,6 @@ module _ (l : Lamp) (first : ℕ) (clocks : List ℕ) (clock : ℕ) where
           record { miredsMove = s .miredsMove; hueStays = k .0; saturationStays = k .1 }
 
       pub mireds-steps-remaining : RemainingTimeIs (task .ms - (clock - first))
-          (answer (begunAndStepped l (Task.ColorTemperatureMoveTo task) first clocks) (step clock) .lamp .remaining .tenths)
+          (answer (begunAndStepped l (Task.ColorTemperatureMoveTo task) first clocks)
+          (step clock) .lamp .remaining .tenths)
       mireds-steps-remaining = mireds-step-remaining mireds-m clock accepted mireds-run mireds-still-run
