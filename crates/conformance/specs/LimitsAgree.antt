@@ -38,7 +38,8 @@ module _ (bounds : Bounds) where
   asked-is physical n h = rw (ne-eqb n 0 h)
 
   -- every mired that the text allows lies between the port's bounds
-  pub allowed-within : (minimum maximum n : ℕ) → Allowed bounds minimum maximum n → (lo bounds minimum ≤ n) × (n ≤ hi bounds maximum)
+  pub allowed-within : (minimum maximum n : ℕ) → Allowed bounds minimum maximum n →
+      (lo bounds minimum ≤ n) × (n ≤ hi bounds maximum)
   allowed-within minimum maximum n a = (low minimum (a .fieldMinimum), high maximum (a .fieldMaximum))
     where
       low : (m : ℕ) → ((m ≡ 0 → ⊥) → m ≤ n) → lo bounds m ≤ n
@@ -47,10 +48,12 @@ module _ (bounds : Bounds) where
 
       high : (m : ℕ) → ((m ≡ 0 → ⊥) → n ≤ m) → n ≤ hi bounds m
       high zero f = omega (arith, a .physicalMaximum)
-      high (suc m) f = rw (ne-eqb (suc m) 0 (λ e. omega arith)) (omega (arith, a .physicalMaximum, f (λ e. omega arith)))
+      high (suc m) f =
+          rw (ne-eqb (suc m) 0 (λ e. omega arith)) (omega (arith, a .physicalMaximum, f (λ e. omega arith)))
 
   -- and every mired between them is allowed
-  pub within-allowed : (minimum maximum n : ℕ) → lo bounds minimum ≤ n → n ≤ hi bounds maximum → Allowed bounds minimum maximum n
+  pub within-allowed : (minimum maximum n : ℕ) → lo bounds minimum ≤ n → n ≤ hi bounds maximum →
+      Allowed bounds minimum maximum n
   within-allowed minimum maximum n h k =
       record {
         physicalMinimum = omega arith;
@@ -62,15 +65,19 @@ module _ (bounds : Bounds) where
 -- ---- MoveColorTemperature: the task that it is answered with, started on a lamp with the same bounds
 
 -- what a start does that runs between the mireds allowed: a pass of a record with these bounds and no others
-pub record RunsWithin (bounds : Bounds) (minimum maximum : ℕ) (rate : ℤ) (before : Lamp) (clock : ℕ) (after : Answer) : Type 0 where
+pub record RunsWithin (bounds : Bounds) (minimum maximum : ℕ) (rate : ℤ) (before : Lamp) (clock : ℕ)
+    (after : Answer) : Type 0 where
   pub run : ColorTemperatureRun
   pub begins : (run .start ≡ clock) × (run .mireds ≡ before .color .mireds) × (run .rate ≡ rate)
   pub passes : after ≡ done (temperaturePass (atClock before clock) run)
   pub all : (n : ℕ) → Allowed bounds minimum maximum n → (run .lo ≤ n) × (n ≤ run .hi)
   pub only : (n : ℕ) → run .lo ≤ n → n ≤ run .hi → Allowed bounds minimum maximum n
 
-module _ (l : Lamp) (mode : MoveModeEnum) (rate minimum maximum : ℕ) (options : CommandOptions) (onOff : OnOff) (first : ℕ)
-    (task : Task) (given : answer l (command (Command.MoveColorTemperature mode rate minimum maximum options) onOff first) .task ≡ GivenTask.Given task)
+module _ (l : Lamp) (mode : MoveModeEnum) (rate minimum maximum : ℕ) (options : CommandOptions) (onOff : OnOff)
+    (first : ℕ)
+    (task : Task) (given : answer l
+    (command (Command.MoveColorTemperature mode rate minimum maximum options) onOff first) .task
+    ≡ GivenTask.Given task)
     (m : Lamp) (same : m .bounds ≡ l .bounds) (clock : ℕ) (accepted : cause m (start task clock) ≡ 0) where
   abbrev asks : ColorTemperatureMove
   asks = record { rate = signed mode rate; min = asked (l .bounds .min) minimum; max = asked (l .bounds .max) maximum }
@@ -83,12 +90,14 @@ module _ (l : Lamp) (mode : MoveModeEnum) (rate minimum maximum : ℕ) (options 
   abbrev Gives : CommandEffect → Type 0
   Gives e = e .task ≡ GivenTask.Given task → task ≡ Task.ColorTemperatureMove asks
 
-  gives-by : Gives (commandDone (atClock l first) (Command.MoveColorTemperature mode rate minimum maximum options) onOff)
+  gives-by : Gives (commandDone (atClock l first)
+      (Command.MoveColorTemperature mode rate minimum maximum options) onOff)
   unfolding commandEffect
   gives-by =
       let c : Command = Command.MoveColorTemperature mode rate minimum maximum options in
       cond-both Gives (stopMode c) _ _ (λ s g. absurd (stop-refused (cc)))
-      (λ s. cond-both Gives (allowed l c onOff) _ _ (λ a g. cc) (λ a g. let z : _≡_ {A = ℕ} 0 1 = cc in absurd (omega arith)))
+      (λ s. cond-both Gives (allowed l c onOff) _ _ (λ a g. cc)
+      (λ a g. let z : _≡_ {A = ℕ} 0 1 = cc in absurd (omega arith)))
 
   task-is : task ≡ Task.ColorTemperatureMove asks
   task-is =
@@ -101,7 +110,8 @@ module _ (l : Lamp) (mode : MoveModeEnum) (rate minimum maximum : ℕ) (options 
   start-is : answer m (start task clock) ≡ done (temperatureStart (atClock m clock) asks)
   unfolding started
   start-is =
-      answer-both m (λ (a : Answer). a ≡ done (started (atClock m clock) task)) (start task clock) (λ z. refl) (λ n. absurd (n accepted))
+      answer-both m (λ (a : Answer). a ≡ done (started (atClock m clock) task)) (start task clock) (λ z. refl)
+      (λ n. absurd (n accepted))
       ∙ ap (λ (t : Task). done (started (atClock m clock) t)) task-is
 
   low-is : lower (m .bounds) (asks .min) ≡ lo (l .bounds) minimum
@@ -123,8 +133,10 @@ module _ (l : Lamp) (mode : MoveModeEnum) (rate minimum maximum : ℕ) (options 
       ))
 
   -- where no two mireds are allowed, it is done at once: nothing but the clock changes, and nothing is told
-  pub move-at-once : ((n k : ℕ) → Allowed (l .bounds) minimum maximum n → Allowed (l .bounds) minimum maximum k → n ≡ k) →
-      answer m (start task clock) ≡ done (record { lamp = moved (atClock m clock) (m .color) Running.Idle; told = []; wait = 0 })
+  pub move-at-once : ((n k : ℕ) → Allowed (l .bounds) minimum maximum n → Allowed (l .bounds) minimum maximum k →
+      n ≡ k) →
+      answer m (start task clock)
+      ≡ done (record { lamp = moved (atClock m clock) (m .color) Running.Idle; told = []; wait = 0 })
   unfolding temperatureStart
   move-at-once h = start-is ∙ rw (high-is, low-is, crossed-by _ refl h)
 
@@ -136,16 +148,26 @@ module _ (l : Lamp) (mode : MoveModeEnum) (rate minimum maximum : ℕ) (options 
       let low : lo (l .bounds) minimum ≤ n = allowed-within (l .bounds) minimum maximum n a .0 in
       let high : k ≤ hi (l .bounds) maximum = allowed-within (l .bounds) minimum maximum k b .1 in
       record {
-        run = record { start = clock; mireds = m .color .mireds; rate = signed mode rate; lo = lo (l .bounds) minimum; hi = hi (l .bounds) maximum };
+        run =
+            record {
+              start = clock;
+              mireds = m .color .mireds;
+              rate = signed mode rate;
+              lo = lo
+                  (l .bounds) minimum;
+              hi = hi (l .bounds) maximum;
+            };
         begins = (refl, refl, refl);
-        passes = start-is ∙ rw (high-is, low-is, lt-leb (hi (l .bounds) maximum) (lo (l .bounds) minimum) (omega arith));
+        passes =
+            start-is ∙ rw (high-is, low-is, lt-leb (hi (l .bounds) maximum) (lo (l .bounds) minimum) (omega arith));
         all = allowed-within (l .bounds) minimum maximum;
         only = within-allowed (l .bounds) minimum maximum;
       }
 
 -- ---- MoveToColorTemperature: the closest that the device has
 
-closest-by : (least most n : ℕ) (s t : Bool) → ltb n least ≡ s → ltb most n ≡ t → least ≤ most → Closest least most n (cond s least (cond t most n))
+closest-by : (least most n : ℕ) (s t : Bool) → ltb n least ≡ s → ltb most n ≡ t → least ≤ most →
+    Closest least most n (cond s least (cond t most n))
 closest-by least most n true t e f h =
     let l : n < least = ltb-true n least e in
     record { low = omega arith; high = omega arith; near = λ o a b. omega arith }
@@ -153,7 +175,12 @@ closest-by least most n false true e f h =
     let l : most < n = ltb-true most n f in
     record { low = omega arith; high = omega arith; near = λ o a b. omega arith }
 closest-by least most n false false e f h =
-    record { low = omega (arith, ltb-false n least e); high = omega (arith, ltb-false most n f); near = λ o a b. omega arith }
+    record {
+      low = omega (arith, ltb-false n least e);
+      high = omega
+          (arith, ltb-false most n f);
+      near = λ o a b. omega arith;
+    }
 
 -- what a target is brought to is the closest
 pub closest-agrees : (least most n : ℕ) → least ≤ most → Closest least most n (clamp least most (pos n))
@@ -165,10 +192,28 @@ only-by : (least most n a b : ℕ) (s t : Bool) → ltb n least ≡ s → ltb mo
     Closest least most n a → Closest least most n b → a ≡ b
 only-by least most n a b true t e f c d =
     let below : n < least = ltb-true n least e in
-    omega (arith, c .low, c .high, d .low, d .high, c .near least (omega arith) (omega (arith, c .low, c .high)), d .near least (omega arith) (omega (arith, c .low, c .high)))
+    omega (
+      arith,
+      c .low,
+      c .high,
+      d .low,
+      d .high,
+      c .near least (omega arith)
+          (omega (arith, c .low, c .high)),
+      d .near least (omega arith) (omega (arith, c .low, c .high)),
+    )
 only-by least most n a b false true e f c d =
     let above : most < n = ltb-true most n f in
-    omega (arith, c .low, c .high, d .low, d .high, c .near most (omega (arith, c .low, c .high)) (omega arith), d .near most (omega (arith, c .low, c .high)) (omega arith))
+    omega (
+      arith,
+      c .low,
+      c .high,
+      d .low,
+      d .high,
+      c .near most (omega (arith, c .low, c .high))
+          (omega arith),
+      d .near most (omega (arith, c .low, c .high)) (omega arith),
+    )
 only-by least most n a b false false e f c d =
     let low : least ≤ n = ltb-false n least e in
     let high : n ≤ most = ltb-false most n f in

@@ -87,7 +87,8 @@ unfolding hueSet
 hue-is-set c new end enhanced clock = set-by (λ x. x .hue) c _ new end refl
 
 pub hue-leaves : (c : Color) (new : ℕ) (end enhanced : Bool) (clock : ℕ) →
-    (hueSet c new end enhanced clock .saturation ≡ c .saturation) × (hueSet c new end enhanced clock .mireds ≡ c .mireds)
+    (hueSet c new end enhanced clock .saturation ≡ c .saturation)
+    × (hueSet c new end enhanced clock .mireds ≡ c .mireds)
 unfolding hueSet
 hue-leaves c new end enhanced clock =
     let t : Bool = same (c .hue) new end in
@@ -98,7 +99,8 @@ module _ (c : Color) (new : ℕ) (end : Bool) (clock : ℕ) where
   unfolding saturationSet
   saturation-is-set = set-by (λ x. x .saturation) c _ new end refl
 
-  pub saturation-leaves : (saturationSet c new end clock .hue ≡ c .hue) × (saturationSet c new end clock .mireds ≡ c .mireds)
+  pub saturation-leaves : (saturationSet c new end clock .hue ≡ c .hue)
+      × (saturationSet c new end clock .mireds ≡ c .mireds)
   unfolding saturationSet
   saturation-leaves =
       let t : Bool = same (c .saturation) new end in
@@ -108,7 +110,8 @@ module _ (c : Color) (new : ℕ) (end : Bool) (clock : ℕ) where
   unfolding miredsSet
   mireds-is-set = set-by (λ x. x .mireds) c _ new end refl
 
-  pub mireds-leaves : (miredsSet c new end clock .hue ≡ c .hue) × (miredsSet c new end clock .saturation ≡ c .saturation)
+  pub mireds-leaves : (miredsSet c new end clock .hue ≡ c .hue)
+      × (miredsSet c new end clock .saturation ≡ c .saturation)
   unfolding miredsSet
   mireds-leaves =
       let t : Bool = same (c .mireds) new end in

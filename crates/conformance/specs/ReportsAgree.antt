@@ -113,11 +113,14 @@ by-due (atTheEnd stamp clock) = refl
 -- whether a list has a notice, of two lists
 tells-both : (n : ℕ) (xs ys : List ℕ) → tells n (xs ++ ys) ≡ (tells n xs || tells n ys)
 tells-both n [] ys = refl
-tells-both n (x ∷ xs) ys = ap (λ (b : Bool). eqb n x || b) (tells-both n xs ys) ∙ sym (or-assoc (eqb n x) (tells n xs) (tells n ys))
+tells-both n (x ∷ xs) ys =
+    ap (λ (b : Bool). eqb n x || b) (tells-both n xs ys) ∙ sym (or-assoc (eqb n x) (tells n xs) (tells n ys))
 
 -- of a change, an attribute's notice is told exactly where the change is due
-module _ (n : ℕ) (attributes : List ℕ) (has : tells n attributes ≡ true) (other : tells n (markedDirty ∷ scenesTold ∷ []) ≡ false) where
-  last-by : (d : Bool) → tells n (cond d (attributes ++ (ColorMode ∷ EnhancedColorMode ∷ [])) [] ++ (scenesTold ∷ [])) ≡ d
+module _ (n : ℕ) (attributes : List ℕ) (has : tells n attributes ≡ true)
+    (other : tells n (markedDirty ∷ scenesTold ∷ []) ≡ false) where
+  last-by : (d : Bool) → tells n (cond d (attributes ++ (ColorMode ∷ EnhancedColorMode ∷ [])) [] ++ (scenesTold ∷ []))
+      ≡ d
   last-by true =
       tells-both n (attributes ++ (ColorMode ∷ EnhancedColorMode ∷ [])) (scenesTold ∷ [])
       ∙ rw (tells-both n attributes (ColorMode ∷ EnhancedColorMode ∷ []), has)
@@ -131,7 +134,8 @@ module _ (n : ℕ) (attributes : List ℕ) (has : tells n attributes ≡ true) (
 -- a notice that is no attribute's of them is not told
 module _ (n : ℕ) (attributes : List ℕ) (none : tells n (attributes ++ (ColorMode ∷ EnhancedColorMode ∷ [])) ≡ false)
     (other : tells n (markedDirty ∷ scenesTold ∷ []) ≡ false) where
-  no-last-by : (d : Bool) → tells n (cond d (attributes ++ (ColorMode ∷ EnhancedColorMode ∷ [])) [] ++ (scenesTold ∷ [])) ≡ false
+  no-last-by : (d : Bool) →
+      tells n (cond d (attributes ++ (ColorMode ∷ EnhancedColorMode ∷ [])) [] ++ (scenesTold ∷ [])) ≡ false
   no-last-by true =
       tells-both n (attributes ++ (ColorMode ∷ EnhancedColorMode ∷ [])) (scenesTold ∷ [])
       ∙ rw none (or-right (eqb n markedDirty) (tells n (scenesTold ∷ [])) other)
@@ -151,74 +155,99 @@ hue-by : (n : ℕ) (enhanced : Bool) → IsHues n enhanced → (s a d : Bool) �
     tells n (cond s [] (changeNotices a d (CurrentHue ∷ only enhanced EnhancedCurrentHue))) ≡ not s && d
 hue-by n enhanced is = change-by n (CurrentHue ∷ only enhanced EnhancedCurrentHue) (is .0) (is .1)
 
-saturation-by : (s a d : Bool) → tells CurrentSaturation (cond s [] (changeNotices a d (CurrentSaturation ∷ []))) ≡ not s && d
+saturation-by : (s a d : Bool) →
+    tells CurrentSaturation (cond s [] (changeNotices a d (CurrentSaturation ∷ []))) ≡ not s && d
 saturation-by = change-by CurrentSaturation (CurrentSaturation ∷ []) refl refl
 
-mireds-by : (s a d : Bool) → tells ColorTemperatureMireds (cond s [] (changeNotices a d (ColorTemperatureMireds ∷ []))) ≡ not s && d
+mireds-by : (s a d : Bool) →
+    tells ColorTemperatureMireds (cond s [] (changeNotices a d (ColorTemperatureMireds ∷ []))) ≡ not s && d
 mireds-by = change-by ColorTemperatureMireds (ColorTemperatureMireds ∷ []) refl refl
 
 module _ (c : Color) (new : ℕ) (end : Bool) (clock : ℕ) (active : Bool) where
   -- a notice of a change is one that may be reported, and of a change each that may be is told
-  told-may : (old stamp : ℕ) (t : Bool) → t ≡ not (same old new end) && due end stamp clock → t ≡ true → MayReport stamp clock end
-  told-may old stamp t e h = due-by end stamp clock (and-right (not (same old new end)) (due end stamp clock) (sym e ∙ h))
+  told-may : (old stamp : ℕ) (t : Bool) → t ≡ not (same old new end) && due end stamp clock → t ≡ true →
+      MayReport stamp clock end
+  told-may old stamp t e h =
+      due-by end stamp clock (and-right (not (same old new end)) (due end stamp clock) (sym e ∙ h))
 
-  may-told : (old stamp : ℕ) (t : Bool) → t ≡ not (same old new end) && due end stamp clock → (old ≡ new → ⊥) → MayReport stamp clock end → t ≡ true
+  may-told : (old stamp : ℕ) (t : Bool) → t ≡ not (same old new end) && due end stamp clock → (old ≡ new → ⊥) →
+      MayReport stamp clock end → t ≡ true
   may-told old stamp t e h m = e ∙ rw (ne-eqb old new h, by-due m)
 
   hue-may : (n : ℕ) (enhanced : Bool) → IsHues n enhanced →
       tells n (hueTold c new end enhanced clock active) ≡ true → MayReport (c .stamps .hue) clock end
   unfolding hueTold
   hue-may n enhanced is =
-      told-may (c .hue) (c .stamps .hue) _ (hue-by n enhanced is (same (c .hue) new end) active (due end (c .stamps .hue) clock))
+      told-may (c .hue) (c .stamps .hue) _
+      (hue-by n enhanced is (same (c .hue) new end) active (due end (c .stamps .hue) clock))
 
   hue-must : (n : ℕ) (enhanced : Bool) → IsHues n enhanced →
-      (c .hue ≡ new → ⊥) → MayReport (c .stamps .hue) clock end → tells n (hueTold c new end enhanced clock active) ≡ true
+      (c .hue ≡ new → ⊥) → MayReport (c .stamps .hue) clock end →
+      tells n (hueTold c new end enhanced clock active) ≡ true
   unfolding hueTold
   hue-must n enhanced is =
-      may-told (c .hue) (c .stamps .hue) _ (hue-by n enhanced is (same (c .hue) new end) active (due end (c .stamps .hue) clock))
+      may-told (c .hue) (c .stamps .hue) _
+      (hue-by n enhanced is (same (c .hue) new end) active (due end (c .stamps .hue) clock))
 
   pub hue-reported : (enhanced : Bool) →
       tells CurrentHue (hueTold c new end enhanced clock active) ≡ true → MayReport (c .stamps .hue) clock end
   hue-reported enhanced = hue-may CurrentHue enhanced (refl, refl)
 
   pub hue-change-told : (enhanced : Bool) →
-      (c .hue ≡ new → ⊥) → MayReport (c .stamps .hue) clock end → tells CurrentHue (hueTold c new end enhanced clock active) ≡ true
+      (c .hue ≡ new → ⊥) → MayReport (c .stamps .hue) clock end →
+      tells CurrentHue (hueTold c new end enhanced clock active) ≡ true
   hue-change-told enhanced = hue-must CurrentHue enhanced (refl, refl)
 
   -- in an enhanced move
-  pub enhanced-reported : tells EnhancedCurrentHue (hueTold c new end true clock active) ≡ true → MayReport (c .stamps .hue) clock end
+  pub enhanced-reported : tells EnhancedCurrentHue (hueTold c new end true clock active) ≡ true →
+      MayReport (c .stamps .hue) clock end
   enhanced-reported = hue-may EnhancedCurrentHue true (refl, refl)
 
   pub enhanced-change-told :
-      (c .hue ≡ new → ⊥) → MayReport (c .stamps .hue) clock end → tells EnhancedCurrentHue (hueTold c new end true clock active) ≡ true
+      (c .hue ≡ new → ⊥) → MayReport (c .stamps .hue) clock end →
+      tells EnhancedCurrentHue (hueTold c new end true clock active) ≡ true
   enhanced-change-told = hue-must EnhancedCurrentHue true (refl, refl)
 
-  pub saturation-reported : tells CurrentSaturation (saturationTold c new end clock active) ≡ true → MayReport (c .stamps .saturation) clock end
+  pub saturation-reported : tells CurrentSaturation (saturationTold c new end clock active) ≡ true →
+      MayReport (c .stamps .saturation) clock end
   unfolding saturationTold
-  saturation-reported = told-may (c .saturation) (c .stamps .saturation) _ (saturation-by (same (c .saturation) new end) active (due end (c .stamps .saturation) clock))
+  saturation-reported =
+      told-may (c .saturation) (c .stamps .saturation) _
+      (saturation-by (same (c .saturation) new end) active (due end (c .stamps .saturation) clock))
 
-  pub saturation-change-told : (c .saturation ≡ new → ⊥) → MayReport (c .stamps .saturation) clock end → tells CurrentSaturation (saturationTold c new end clock active) ≡ true
+  pub saturation-change-told : (c .saturation ≡ new → ⊥) → MayReport (c .stamps .saturation) clock end →
+      tells CurrentSaturation (saturationTold c new end clock active) ≡ true
   unfolding saturationTold
-  saturation-change-told = may-told (c .saturation) (c .stamps .saturation) _ (saturation-by (same (c .saturation) new end) active (due end (c .stamps .saturation) clock))
+  saturation-change-told =
+      may-told (c .saturation) (c .stamps .saturation) _
+      (saturation-by (same (c .saturation) new end) active (due end (c .stamps .saturation) clock))
 
-  pub mireds-reported : tells ColorTemperatureMireds (miredsTold c new end clock active) ≡ true → MayReport (c .stamps .mireds) clock end
+  pub mireds-reported : tells ColorTemperatureMireds (miredsTold c new end clock active) ≡ true →
+      MayReport (c .stamps .mireds) clock end
   unfolding miredsTold
-  mireds-reported = told-may (c .mireds) (c .stamps .mireds) _ (mireds-by (same (c .mireds) new end) active (due end (c .stamps .mireds) clock))
+  mireds-reported =
+      told-may (c .mireds) (c .stamps .mireds) _
+      (mireds-by (same (c .mireds) new end) active (due end (c .stamps .mireds) clock))
 
-  pub mireds-change-told : (c .mireds ≡ new → ⊥) → MayReport (c .stamps .mireds) clock end → tells ColorTemperatureMireds (miredsTold c new end clock active) ≡ true
+  pub mireds-change-told : (c .mireds ≡ new → ⊥) → MayReport (c .stamps .mireds) clock end →
+      tells ColorTemperatureMireds (miredsTold c new end clock active) ≡ true
   unfolding miredsTold
-  mireds-change-told = may-told (c .mireds) (c .stamps .mireds) _ (mireds-by (same (c .mireds) new end) active (due end (c .stamps .mireds) clock))
+  mireds-change-told =
+      may-told (c .mireds) (c .stamps .mireds) _
+      (mireds-by (same (c .mireds) new end) active (due end (c .stamps .mireds) clock))
 
 -- "at most once per second": what was told at one clock is not told again within the second, but at an end
 
 module _ (c : Color) (clock later : ℕ) (soon : later < clock + 1000) (end : Bool) (new next : ℕ) (active : Bool) where
   -- a notice that was told sets its stamp to the clock, and then is not due
-  not-due : (old stamp : ℕ) (t : Bool) (after : ℕ) → t ≡ not (same old new end) && due end stamp clock → t ≡ true → (same old new end ≡ false → due end stamp clock ≡ true → after ≡ clock) → due false after later ≡ false
+  not-due : (old stamp : ℕ) (t : Bool) (after : ℕ) → t ≡ not (same old new end) && due end stamp clock → t ≡ true →
+      (same old new end ≡ false → due end stamp clock ≡ true → after ≡ clock) → due false after later ≡ false
   not-due old stamp t after e h f =
       let a : after ≡ clock = f (not-true (same old new end) (and-left (not (same old new end)) (due end stamp clock) (sym e ∙ h))) (and-right (not (same old new end)) (due end stamp clock) (sym e ∙ h)) in
       lt-leb (after + 1000) later (omega arith)
 
-  hue-stamp : (enhanced : Bool) → same (c .hue) new end ≡ false → due end (c .stamps .hue) clock ≡ true → hueSet c new end enhanced clock .stamps .hue ≡ clock
+  hue-stamp : (enhanced : Bool) → same (c .hue) new end ≡ false → due end (c .stamps .hue) clock ≡ true →
+      hueSet c new end enhanced clock .stamps .hue ≡ clock
   unfolding hueSet
   hue-stamp enhanced e d = rw (e, d)
 
@@ -230,7 +259,8 @@ module _ (c : Color) (clock later : ℕ) (soon : later < clock + 1000) (end : Bo
       let after : Color = hueSet c new end enhanced clock in
       hue-by n enhancedNext isNext (same (after .hue) next false) active (due false (after .stamps .hue) later)
       ∙ ap (λ (d : Bool). not (same (after .hue) next false) && d)
-      (not-due (c .hue) (c .stamps .hue) _ (after .stamps .hue) (hue-by n enhanced is (same (c .hue) new end) active (due end (c .stamps .hue) clock)) e (hue-stamp enhanced))
+      (not-due (c .hue) (c .stamps .hue) _ (after .stamps .hue)
+      (hue-by n enhanced is (same (c .hue) new end) active (due end (c .stamps .hue) clock)) e (hue-stamp enhanced))
       ∙ and-false (not (same (after .hue) next false))
 
   pub hue-once : (enhanced enhancedNext : Bool) → tells CurrentHue (hueTold c new end enhanced clock active) ≡ true →
@@ -308,7 +338,8 @@ pub data HueNotice : ℕ → Bool → Type 0 where
 
 -- an answer has them exactly where they may be reported
 pub record HueReported (enhanced : Bool) (before : Lamp) (clock : ℕ) (end : Bool) (a : Answer) : Type 0 where
-  pub where-it-may : (n : ℕ) → HueNotice n enhanced → tells n (a .notices .places) ≡ true → MayReport (before .color .stamps .hue) clock end
+  pub where-it-may : (n : ℕ) → HueNotice n enhanced → tells n (a .notices .places) ≡ true →
+      MayReport (before .color .stamps .hue) clock end
   pub of-each-change : (n : ℕ) → HueNotice n enhanced → (before .color .hue ≡ a .lamp .color .hue → ⊥) →
       MayReport (before .color .stamps .hue) clock end → tells n (a .notices .places) ≡ true
 
@@ -331,14 +362,17 @@ no-time h false = refl
 no-time (ofCurrentHue enhanced) true = refl
 no-time ofEnhancedCurrentHue true = refl
 
-no-saturation : {n : ℕ} {enhanced : Bool} → HueNotice n enhanced → (c : Color) (t : TargetSaturation) (first p clock : ℕ) (active : Bool) →
+no-saturation : {n : ℕ} {enhanced : Bool} → HueNotice n enhanced →
+    (c : Color) (t : TargetSaturation) (first p clock : ℕ) (active : Bool) →
     tells n (saturationMovedTold c t first p clock active) ≡ false
 unfolding saturationTold
 no-saturation h c TargetSaturation.Keep first p clock active = refl
 no-saturation (ofCurrentHue enhanced) c (TargetSaturation.To target) first p clock active =
-    no-change-by CurrentHue (CurrentSaturation ∷ []) refl refl (same (c .saturation) (saturationNow first target p) (atEnd p)) active (due (atEnd p) (c .stamps .saturation) clock)
+    no-change-by CurrentHue (CurrentSaturation ∷ []) refl refl
+    (same (c .saturation) (saturationNow first target p) (atEnd p)) active (due (atEnd p) (c .stamps .saturation) clock)
 no-saturation ofEnhancedCurrentHue c (TargetSaturation.To target) first p clock active =
-    no-change-by EnhancedCurrentHue (CurrentSaturation ∷ []) refl refl (same (c .saturation) (saturationNow first target p) (atEnd p)) active (due (atEnd p) (c .stamps .saturation) clock)
+    no-change-by EnhancedCurrentHue (CurrentSaturation ∷ []) refl refl
+    (same (c .saturation) (saturationNow first target p) (atEnd p)) active (due (atEnd p) (c .stamps .saturation) clock)
 
 but-for : (n : ℕ) (told rest : List ℕ) → tells n rest ≡ false → tells n (told ++ rest) ≡ tells n told
 but-for n told rest none = tells-both n told rest ∙ rw none (or-false (tells n told))
@@ -347,31 +381,40 @@ in-places : {n : ℕ} {enhanced : Bool} → HueNotice n enhanced → (xs : List 
 unfolding filled
 in-places {n} h xs = but-for n xs (replicate (16 - length xs) 0) (no-zeros h (16 - length xs))
 
-alone : {n : ℕ} {enhanced : Bool} → HueNotice n enhanced → (told : List ℕ) → tells n (filled (told ++ (deviceHueSaturation ∷ []))) ≡ tells n told
-alone {n} h told = in-places h (told ++ (deviceHueSaturation ∷ [])) ∙ but-for n told (deviceHueSaturation ∷ []) (no-device h)
+alone : {n : ℕ} {enhanced : Bool} → HueNotice n enhanced → (told : List ℕ) →
+    tells n (filled (told ++ (deviceHueSaturation ∷ []))) ≡ tells n told
+alone {n} h told =
+    in-places h (told ++ (deviceHueSaturation ∷ [])) ∙ but-for n told (deviceHueSaturation ∷ []) (no-device h)
 
 -- the end of a movement is the end of its time
 end-by : (elapsed time : ℕ) (b : Bool) → leb time elapsed ≡ b → atEnd (permilleOf elapsed time) ≡ b
 end-by elapsed time true e = rw (permille-full elapsed time (leb-true time elapsed e))
-end-by elapsed time false e = lt-leb 1000 (permilleOf elapsed time) (permille-short elapsed time (leb-false time elapsed e))
+end-by elapsed time false e =
+    lt-leb 1000 (permilleOf elapsed time) (permille-short elapsed time (leb-false time elapsed e))
 
 module _ (l : Lamp) (clock : ℕ) (accepted : cause l (step clock) ≡ 0) where
   answer-is : (r : Running) → l .running ≡ r → answer l (step clock) ≡ done (stepped (atClock l clock) r)
   answer-is r e = granted-is l (step clock) accepted ∙ ap (λ (x : Running). done (stepped (atClock l clock) x)) e
 
   -- an effect that begins with the hue's setter
-  reported-by : (enhanced : Bool) (new : ℕ) (end : Bool) (e : Effect) → answer l (step clock) ≡ done e → e .lamp .color .hue ≡ new →
-      ((n : ℕ) → HueNotice n enhanced → tells n (filled (e .told)) ≡ tells n (hueTold (l .color) new end enhanced clock (l .looping .active))) →
+  reported-by : (enhanced : Bool) (new : ℕ) (end : Bool) (e : Effect) → answer l (step clock) ≡ done e →
+      e .lamp .color .hue ≡ new →
+      ((n : ℕ) → HueNotice n enhanced →
+      tells n (filled (e .told)) ≡ tells n (hueTold (l .color) new end enhanced clock (l .looping .active))) →
       HueReported enhanced l clock end (answer l (step clock))
   reported-by enhanced new end e is set told =
       subst (HueReported enhanced l clock end) (sym is)
       (record {
-        where-it-may = λ n h t. hue-may (l .color) new end clock (l .looping .active) n enhanced (is-hues h) (sym (told n h) ∙ t);
-        of-each-change = λ n h c m. told n h ∙ hue-must (l .color) new end clock (l .looping .active) n enhanced (is-hues h) (λ x. c (x ∙ sym set)) m;
+        where-it-may =
+            λ n h t. hue-may (l .color) new end clock (l .looping .active) n enhanced (is-hues h) (sym (told n h) ∙ t);
+        of-each-change =
+            λ n h c m. told n h ∙ hue-must (l .color) new end clock (l .looping .active) n enhanced (is-hues h)
+            (λ x. c (x ∙ sym set)) m;
       })
 
   -- of a move to a hue
-  pub move-to-reported : (run : HueSaturationRun) (way : ℤ) → l .running ≡ Running.HueSaturationMoveTo run → run .task .delta ≡ HueDelta.By way →
+  pub move-to-reported : (run : HueSaturationRun) (way : ℤ) → l .running ≡ Running.HueSaturationMoveTo run →
+      run .task .delta ≡ HueDelta.By way →
       HueReported (run .task .enhanced) l clock (leb (run .task .ms) (clock - run .start)) (answer l (step clock))
   unfolding stepped hueSaturationPass
   move-to-reported run way e d =
@@ -379,8 +422,10 @@ module _ (l : Lamp) (clock : ℕ) (accepted : cause l (step clock) ≡ 0) where
       let p : ℕ = permilleOf elapsed (run .task .ms) in
       let is = answer-is (Running.HueSaturationMoveTo run) e in
       let hued : Color = hueMoved (l .color) (run .task .delta) (run .hue) p (run .task .enhanced) clock in
-      subst (λ (end : Bool). HueReported (run .task .enhanced) l clock end (answer l (step clock))) (end-by elapsed (run .task .ms) (leb (run .task .ms) elapsed) refl)
-      (reported-by (run .task .enhanced) (hueNow (run .hue) way p) (atEnd p) (stepped (atClock l clock) (Running.HueSaturationMoveTo run)) is
+      subst (λ (end : Bool). HueReported (run .task .enhanced) l clock end (answer l (step clock)))
+      (end-by elapsed (run .task .ms) (leb (run .task .ms) elapsed) refl)
+      (reported-by (run .task .enhanced) (hueNow (run .hue) way p) (atEnd p)
+      (stepped (atClock l clock) (Running.HueSaturationMoveTo run)) is
       (sym (ap (λ (a : Answer). a .lamp .color .hue) is) ∙ step-shows l clock accepted run e .hueMoves way d)
       (λ n h.
       let its = hueMovedTold (l .color) (run .task .delta) (run .hue) p (run .task .enhanced) clock (l .looping .active) in
@@ -389,22 +434,28 @@ module _ (l : Lamp) (clock : ℕ) (accepted : cause l (step clock) ≡ 0) where
       in-places h (its ++ saturations ++ (deviceHueSaturation ∷ []) ++ only left RemainingTime)
       ∙ but-for n (its ++ saturations ++ (deviceHueSaturation ∷ [])) (only left RemainingTime) (no-time h left)
       ∙ but-for n (its ++ saturations) (deviceHueSaturation ∷ []) (no-device h)
-      ∙ but-for n its saturations (no-saturation h hued (run .task .saturation) (run .saturation) p clock (l .looping .active))
-      ∙ ap (λ (x : HueDelta). tells n (hueMovedTold (l .color) x (run .hue) p (run .task .enhanced) clock (l .looping .active))) d))
+      ∙ but-for n its saturations
+      (no-saturation h hued (run .task .saturation) (run .saturation) p clock (l .looping .active))
+      ∙ ap (λ (x : HueDelta). tells n
+      (hueMovedTold (l .color) x (run .hue) p (run .task .enhanced) clock (l .looping .active))) d))
 
   -- of a move of the hue at a rate, and of the colour loop, which do not end
-  pub hue-move-reported : (run : HueRun) → l .running ≡ Running.HueMove run → HueReported (run .task .enhanced) l clock false (answer l (step clock))
+  pub hue-move-reported : (run : HueRun) → l .running ≡ Running.HueMove run →
+      HueReported (run .task .enhanced) l clock false (answer l (step clock))
   unfolding stepped huePass
   hue-move-reported run e =
       let now : ℕ = movedHue (run .hue) (wayAtRate (signed (run .task .direction) (run .task .rate)) (clock - run .start)) in
-      reported-by (run .task .enhanced) now false (stepped (atClock l clock) (Running.HueMove run)) (answer-is (Running.HueMove run) e)
+      reported-by (run .task .enhanced) now false (stepped (atClock l clock) (Running.HueMove run))
+      (answer-is (Running.HueMove run) e)
       (hue-is-set (l .color) now false (run .task .enhanced) clock)
       (λ n h. alone h (hueTold (l .color) now false (run .task .enhanced) clock (l .looping .active)))
 
-  pub loop-reported : (run : ColorLoopRun) → l .running ≡ Running.ColorLoop run → HueReported true l clock false (answer l (step clock))
+  pub loop-reported : (run : ColorLoopRun) → l .running ≡ Running.ColorLoop run →
+      HueReported true l clock false (answer l (step clock))
   unfolding stepped loopPass
   loop-reported run e =
       let now : ℕ = movedHue (run .hue) (loopWay (run .task .direction) (clock - run .start) (run .task .seconds)) in
-      reported-by true now false (stepped (atClock l clock) (Running.ColorLoop run)) (answer-is (Running.ColorLoop run) e)
+      reported-by true now false (stepped (atClock l clock) (Running.ColorLoop run))
+      (answer-is (Running.ColorLoop run) e)
       (hue-is-set (l .color) now false true clock)
       (λ n h. alone h (hueTold (l .color) now false true clock (l .looping .active)))

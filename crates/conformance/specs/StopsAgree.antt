@@ -32,7 +32,8 @@ pub stop-asked : (l : Lamp) (options : CommandOptions) (onOff : OnOff) (clock : 
     answer l (command (Command.StopMoveStep options) onOff clock) .task ≡ GivenTask.Given Task.Stop
 unfolding commandEffect
 stop-asked l options onOff clock leave accepted =
-    answer-both l (λ (a : Answer). a .task ≡ GivenTask.Given Task.Stop) (command (Command.StopMoveStep options) onOff clock)
+    answer-both l (λ (a : Answer). a .task ≡ GivenTask.Given Task.Stop)
+    (command (Command.StopMoveStep options) onOff clock)
     (λ z. rw leave) (λ n. absurd (n accepted))
 
 -- which is answered by a halt
@@ -52,7 +53,8 @@ module _ (l : Lamp) (clock : ℕ) (accepted : cause l (halt clock) ≡ 0) where
   halt-keeps-time = rw accepted
 
   -- so it is the text's exactly where it was 0
-  pub halt-time-exactly : (NoTimeLeft l → NoTimeLeft (answer l (halt clock) .lamp)) × (NoTimeLeft (answer l (halt clock) .lamp) → NoTimeLeft l)
+  pub halt-time-exactly : (NoTimeLeft l → NoTimeLeft (answer l (halt clock) .lamp))
+      × (NoTimeLeft (answer l (halt clock) .lamp) → NoTimeLeft l)
   halt-time-exactly =
       let kept : answer l (halt clock) .lamp .remaining .tenths ≡ l .remaining .tenths = ap (λ r. r .tenths) halt-keeps-time in
       (λ e. kept ∙ e, λ e. sym kept ∙ e)
@@ -87,7 +89,8 @@ module _ (l : Lamp) (options : CommandOptions) (onOff : OnOff) (clock later : �
 
   -- a loop that is not active turns no more, in both
   pub stop-agrees : l .looping .active ≡ false →
-      loopTurns (afterStop l options onOff clock later .running) ≡ turnsAfterStop (l .looping .active) (loopTurns (l .running))
+      loopTurns (afterStop l options onOff clock later .running)
+      ≡ turnsAfterStop (l .looping .active) (loopTurns (l .running))
   stop-agrees e = stopped ∙ sym (ap (λ (active : Bool). turnsAfterStop active (loopTurns (l .running))) e)
 
   -- one that is active turns on in the text; here a stop is asked for all the same, and with it the loop turns no more: any lamp whose

@@ -156,7 +156,8 @@ way-ends way elapsed time h = ap (partOf way) (permille-full elapsed time h) ∙
 
 -- ---- saturation and mireds: numbers on a line, brought within their bounds
 
-up-by : (s t : ℕ) (b : Bool) → ltb t (suc s) ≡ b → suc s ≤ t → cond b (negsuc (suc s - suc t)) (pos (t - suc s)) ≡ pos (t - suc s)
+up-by : (s t : ℕ) (b : Bool) → ltb t (suc s) ≡ b → suc s ≤ t →
+    cond b (negsuc (suc s - suc t)) (pos (t - suc s)) ≡ pos (t - suc s)
 up-by s t true e h = absurd (omega (arith, ltb-true t (suc s) e))
 up-by s t false e h = refl
 
@@ -165,7 +166,8 @@ way-up : (s t : ℕ) → s ≤ t → pos t -ℤ pos s ≡ pos (t - s)
 way-up zero t h = ap pos (omega arith)
 way-up (suc s) t h = up-by s t (ltb t (suc s)) refl h
 
-down-by : (s t : ℕ) (b : Bool) → ltb t (suc s) ≡ b → t < suc s → cond b (negsuc (suc s - suc t)) (pos (t - suc s)) ≡ negℤ (pos (suc s - t))
+down-by : (s t : ℕ) (b : Bool) → ltb t (suc s) ≡ b → t < suc s →
+    cond b (negsuc (suc s - suc t)) (pos (t - suc s)) ≡ negℤ (pos (suc s - t))
 down-by s t true e h = let f : suc (suc s - suc t) ≡ suc s - t = omega arith in ap (λ (n : ℕ). negℤ (pos n)) f
 down-by s t false e h = absurd (omega (arith, ltb-false t (suc s) e))
 
@@ -175,39 +177,50 @@ way-down (suc s) t h = down-by s t (ltb t (suc s)) refl h
 
 module _ (lo hi start target p : ℕ) (few : p ≤ 1000) where
   -- a number on its way to a target above it: the start and the part
-  line-up : lo ≤ start → start ≤ target → target ≤ hi → broughtWithin lo hi start (partOf (pos target -ℤ pos start) p) ≡ start + natAbs (partOf (pos target -ℤ pos start) p)
+  line-up : lo ≤ start → start ≤ target → target ≤ hi →
+      broughtWithin lo hi start (partOf (pos target -ℤ pos start) p)
+      ≡ start + natAbs (partOf (pos target -ℤ pos start) p)
   line-up low h high =
       let w : pos target -ℤ pos start ≡ pos (target - start) = way-up start target h in
       let k : (target - start) * p / 1000 ≤ target - start = part-within (pos (target - start)) p few in
-      ap (λ (z : ℤ). broughtWithin lo hi start (partOf z p)) w ∙ within-up lo hi start ((target - start) * p / 1000) low ∙ omega arith
+      ap (λ (z : ℤ). broughtWithin lo hi start (partOf z p)) w
+      ∙ within-up lo hi start ((target - start) * p / 1000) low ∙ omega arith
       ∙ sym (ap (λ (z : ℤ). start + natAbs (partOf z p)) w)
 
   -- and to one below it: the start less the part
-  line-down : lo ≤ target → target < start → start ≤ hi → broughtWithin lo hi start (partOf (pos target -ℤ pos start) p) ≡ start - natAbs (partOf (pos target -ℤ pos start) p)
+  line-down : lo ≤ target → target < start → start ≤ hi →
+      broughtWithin lo hi start (partOf (pos target -ℤ pos start) p)
+      ≡ start - natAbs (partOf (pos target -ℤ pos start) p)
   line-down low h high =
       let w : partOf (pos target -ℤ pos start) p ≡ negℤ (pos ((start - target) * p / 1000)) = ap (λ (z : ℤ). partOf z p) (way-down start target h) ∙ part-down (start - target) p in
       let k : (start - target) * p / 1000 ≤ start - target = part-within (pos (start - target)) p few in
-      ap (broughtWithin lo hi start) w ∙ within-down lo hi start ((start - target) * p / 1000) (omega arith) high ∙ omega arith
-      ∙ sym (ap (λ (z : ℤ). start - natAbs z) w ∙ ap (λ (n : ℕ). start - n) (abs-neg (pos ((start - target) * p / 1000))))
+      ap (broughtWithin lo hi start) w ∙ within-down lo hi start ((start - target) * p / 1000) (omega arith) high
+      ∙ omega arith
+      ∙ sym (ap (λ (z : ℤ). start - natAbs z) w
+      ∙ ap (λ (n : ℕ). start - n) (abs-neg (pos ((start - target) * p / 1000))))
 
 -- at permille 1000 the target, which is the start and the whole way
 module _ (start target p : ℕ) (few : p ≤ 1000) where
   whole-up : start ≤ target → leb 1000 p ≡ true → target ≡ start + natAbs (partOf (pos target -ℤ pos start) p)
   whole-up h e =
       let q : p ≡ 1000 = omega (arith, leb-true 1000 p e) in
-      sym (ap (λ (n : ℕ). start + natAbs (partOf (pos target -ℤ pos start) n)) q ∙ ap (λ (z : ℤ). start + natAbs z) (part-whole (pos target -ℤ pos start) ∙ way-up start target h) ∙ omega arith)
+      sym (ap (λ (n : ℕ). start + natAbs (partOf (pos target -ℤ pos start) n)) q
+      ∙ ap (λ (z : ℤ). start + natAbs z) (part-whole (pos target -ℤ pos start) ∙ way-up start target h) ∙ omega arith)
 
   whole-down : target < start → leb 1000 p ≡ true → target ≡ start - natAbs (partOf (pos target -ℤ pos start) p)
   whole-down h e =
       let q : p ≡ 1000 = omega (arith, leb-true 1000 p e) in
-      sym (ap (λ (n : ℕ). start - natAbs (partOf (pos target -ℤ pos start) n)) q ∙ ap (λ (z : ℤ). start - natAbs z) (part-whole (pos target -ℤ pos start) ∙ way-down start target h) ∙ ap (λ (n : ℕ). start - n) (abs-neg (pos (start - target))) ∙ omega arith)
+      sym (ap (λ (n : ℕ). start - natAbs (partOf (pos target -ℤ pos start) n)) q
+      ∙ ap (λ (z : ℤ). start - natAbs z) (part-whole (pos target -ℤ pos start) ∙ way-down start target h)
+      ∙ ap (λ (n : ℕ). start - n) (abs-neg (pos (start - target))) ∙ omega arith)
 
 -- what a pass sets at so many thousandths: the number on its line, as many units on as the part is large
 module _ (lo hi start target p : ℕ) (few : p ≤ 1000)
     (low : lo ≤ start) (high : start ≤ hi) (above : lo ≤ target) (below : target ≤ hi) where
   line-by : (b : Bool) → leb start target ≡ b →
       cond (leb 1000 p) target (broughtWithin lo hi start (partOf (pos target -ℤ pos start) p))
-      ≡ cond b (start + natAbs (partOf (pos target -ℤ pos start) p)) (start - natAbs (partOf (pos target -ℤ pos start) p))
+      ≡ cond b (start + natAbs (partOf (pos target -ℤ pos start) p))
+      (start - natAbs (partOf (pos target -ℤ pos start) p))
   line-by true e =
       let h : start ≤ target = leb-true start target e in
       cond-both (λ (n : ℕ). n ≡ start + natAbs (partOf (pos target -ℤ pos start) p)) (leb 1000 p) target _
