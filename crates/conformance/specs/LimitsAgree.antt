@@ -7,7 +7,7 @@ use mathlib.Core.Path.{_≡_, refl, sym, ap, _∙_}
 use native.Mathlib.Omega.{arith}
 use lib.Dec.{ltb, leb}
 use lib.IntN.{ℤ, pos}
-use borrow.Author.Tests.{leb-false, le-leb, lt-leb, ltb-true, ltb-false, ne-eqb}
+use borrow.Author.Tests.{leb-false, lt-leb, ltb-true, ltb-false, ne-eqb}
 use Rattle.matter.specs.declared.Bounds.{Bounds}
 use Rattle.matter.specs.declared.Command.{Command}
 use Rattle.matter.specs.declared.CommandOptions.{CommandOptions}
@@ -27,7 +27,7 @@ use Rattle.lamp.specs.Answers.{atClock}
 use Rattle.lamp.specs.Calls.{done, started, temperatureStart, lower, upper}
 use Rattle.lamp.specs.Kept.{start-ready}
 use Rattle.lamp.specs.Passes.{moved, signed, temperaturePass}
-use Rattle.lamp.specs.Typed.{command, start}
+use Rattle.lamp.specs.Typed.{Call, command, start}
 use Rattle.commands.specs.Answers.{cause, answer, allowed, commandDone}
 use Rattle.commands.specs.Commands.{CommandEffect, asked, lo, hi, stopMode, commandEffect}
 use Rattle.commands.specs.Kept.{answer-both}
@@ -73,11 +73,18 @@ pub record RunsWithin (bounds : Bounds) (minimum maximum : ℕ) (rate : ℤ) (be
   pub all : (n : ℕ) → Allowed bounds minimum maximum n → (run .lo ≤ n) × (n ≤ run .hi)
   pub only : (n : ℕ) → run .lo ≤ n → n ≤ run .hi → Allowed bounds minimum maximum n
 
+-- no two mireds are allowed
+abbrev pub NoTwo : Bounds → ℕ → ℕ → Type 0
+NoTwo bounds minimum maximum =
+    (n k : ℕ) → Allowed bounds minimum maximum n → Allowed bounds minimum maximum k → n ≡ k
+
+-- the task that a call is answered with
+abbrev pub Answered : Lamp → Call → Task → Type 0
+Answered l x task = answer l x .task ≡ GivenTask.Given task
+
 module _ (l : Lamp) (mode : MoveModeEnum) (rate minimum maximum : ℕ) (options : CommandOptions) (onOff : OnOff)
-    (first : ℕ)
-    (task : Task) (given : answer l
-    (command (Command.MoveColorTemperature mode rate minimum maximum options) onOff first) .task
-    ≡ GivenTask.Given task)
+    (first : ℕ) (task : Task)
+    (given : Answered l (command (Command.MoveColorTemperature mode rate minimum maximum options) onOff first) task)
     (m : Lamp) (same : m .bounds ≡ l .bounds) (clock : ℕ) (accepted : cause m (start task clock) ≡ 0) where
   abbrev asks : ColorTemperatureMove
   asks = record { rate = signed mode rate; min = asked (l .bounds .min) minimum; max = asked (l .bounds .max) maximum }
@@ -121,7 +128,7 @@ module _ (l : Lamp) (mode : MoveModeEnum) (rate minimum maximum : ℕ) (options 
   high-is = ap (λ (b : Bounds). upper b (asks .max)) same
 
   crossed-by : (b : Bool) → leb (hi (l .bounds) maximum) (lo (l .bounds) minimum) ≡ b →
-      ((n k : ℕ) → Allowed (l .bounds) minimum maximum n → Allowed (l .bounds) minimum maximum k → n ≡ k) → b ≡ true
+      NoTwo (l .bounds) minimum maximum → b ≡ true
   crossed-by true e h = refl
   crossed-by false e h =
       let apart : lo (l .bounds) minimum < hi (l .bounds) maximum = leb-false (hi (l .bounds) maximum) (lo (l .bounds) minimum) e in
@@ -133,8 +140,7 @@ module _ (l : Lamp) (mode : MoveModeEnum) (rate minimum maximum : ℕ) (options 
       ))
 
   -- where no two mireds are allowed, it is done at once: nothing but the clock changes, and nothing is told
-  pub move-at-once : ((n k : ℕ) → Allowed (l .bounds) minimum maximum n → Allowed (l .bounds) minimum maximum k →
-      n ≡ k) →
+  pub move-at-once : NoTwo (l .bounds) minimum maximum →
       answer m (start task clock)
       ≡ done (record { lamp = moved (atClock m clock) (m .color) Running.Idle; told = []; wait = 0 })
   unfolding temperatureStart

@@ -2,7 +2,7 @@
 -- receipt.
 -- Assumes nothing.
 use Prim.Native.Nat.{ℕ}
-use mathlib.Core.Bool.{Bool, true, false, cond, _&&_, true≢false, _||_, and-false}
+use mathlib.Core.Bool.{Bool, true, false, cond, true≢false, _||_, and-false}
 use mathlib.Core.Path.{_≡_, refl, sym, ap, _∙_}
 use lib.Dec.{eqb}
 use Rattle.matter.specs.declared.Command.{Command}

@@ -338,9 +338,9 @@ pub data HueNotice : ℕ → Bool → Type 0 where
 
 -- an answer has them exactly where they may be reported
 pub record HueReported (enhanced : Bool) (before : Lamp) (clock : ℕ) (end : Bool) (a : Answer) : Type 0 where
-  pub where-it-may : (n : ℕ) → HueNotice n enhanced → tells n (a .notices .places) ≡ true →
+  pub whereItMay : (n : ℕ) → HueNotice n enhanced → tells n (a .notices .places) ≡ true →
       MayReport (before .color .stamps .hue) clock end
-  pub of-each-change : (n : ℕ) → HueNotice n enhanced → (before .color .hue ≡ a .lamp .color .hue → ⊥) →
+  pub ofEachChange : (n : ℕ) → HueNotice n enhanced → (before .color .hue ≡ a .lamp .color .hue → ⊥) →
       MayReport (before .color .stamps .hue) clock end → tells n (a .notices .places) ≡ true
 
 is-hues : {n : ℕ} {enhanced : Bool} → HueNotice n enhanced → IsHues n enhanced
@@ -405,9 +405,9 @@ module _ (l : Lamp) (clock : ℕ) (accepted : cause l (step clock) ≡ 0) where
   reported-by enhanced new end e is set told =
       subst (HueReported enhanced l clock end) (sym is)
       (record {
-        where-it-may =
+        whereItMay =
             λ n h t. hue-may (l .color) new end clock (l .looping .active) n enhanced (is-hues h) (sym (told n h) ∙ t);
-        of-each-change =
+        ofEachChange =
             λ n h c m. told n h ∙ hue-must (l .color) new end clock (l .looping .active) n enhanced (is-hues h)
             (λ x. c (x ∙ sym set)) m;
       })

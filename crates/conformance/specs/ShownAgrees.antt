@@ -11,12 +11,12 @@ use native.Mathlib.Nat.{zero-div}
 use native.Mathlib.Omega.{arith}
 use lib.Dec.{leb, eqb}
 use lib.IntN.{ℤ, pos, negsuc, natAbs, _-ℤ_}
-use borrow.Author.Tests.{eqb-true, eq-eqb, ne-eqb, leb-true, leb-false, le-leb, lt-leb, ltb-true}
+use borrow.Author.Tests.{eqb-true, eq-eqb, ne-eqb, leb-true, leb-false, lt-leb}
 use Rattle.matter.specs.declared.Bounds.{Bounds}
 use Rattle.matter.specs.Laws.{and-left, and-right, cond-both, each}
 use Rattle.hue.specs.Hue.{movedHue}
 use Rattle.progress.specs.Progress.{permilleOf, partOf, clamp}
-use Rattle.progress.specs.Laws.{permille-is, permille-full, permille-short, permille-most, part-up, clamp-within}
+use Rattle.progress.specs.Laws.{permille-is, permille-full, permille-short, permille-most, part-up}
 use Rattle.remaining_time.specs.RemainingTime.{newTenths}
 use Rattle.color.specs.declared.Color.{Color}
 use Rattle.color.specs.Kept.{form-saturation, form-above, form-below}
@@ -36,7 +36,7 @@ use Rattle.lamp.specs.Answers.{atClock}
 use Rattle.lamp.specs.Calls.{started, stepped, hueSaturationStart, temperatureToStart, startPermille, noHueWay, noSaturationWay, fullWritten}
 use Rattle.lamp.specs.Form.{lampForm}
 use Rattle.lamp.specs.Kept.{form-color, form-running, start-ready}
-use Rattle.lamp.specs.Passes.{atEnd, unless, hueMoved, saturationMoved, saturationNow, miredsNow, hueNow, remainingSet, hueSaturationPass, temperatureToPass, huePass, saturationPass, temperaturePass, loopPass}
+use Rattle.lamp.specs.Passes.{atEnd, unless, hueMoved, saturationMoved, saturationNow, miredsNow, hueNow, remainingSet, hueSaturationPass, temperatureToPass}
 use Rattle.lamp.specs.Typed.{Call, start, step}
 use Rattle.commands.specs.Answers.{cause, answer, granted}
 use Rattle.commands.specs.Kept.{answer-both, granted-ready}

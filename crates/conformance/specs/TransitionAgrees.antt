@@ -14,7 +14,7 @@ use Rattle.matter.specs.Laws.{cond-both}
 use Rattle.hue.specs.Hue.{movedHue}
 use Rattle.integers.proofs.Sizes.{abs-neg}
 use Rattle.progress.specs.Progress.{permilleOf, partOf, broughtWithin}
-use Rattle.progress.specs.Laws.{permille-is, permille-full, permille-short, permille-most, part-down, part-size, part-within, part-whole}
+use Rattle.progress.specs.Laws.{permille-is, permille-full, permille-short, part-down, part-size, part-within, part-whole}
 use Rattle.commands.specs.Commands.{stepWay}
 use Rattle.conformance.specs.Limits.{away}
 use Rattle.conformance.specs.Steps.{enhancedHueMaximum, hueStepTo}
