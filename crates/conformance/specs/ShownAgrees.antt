@@ -46,7 +46,7 @@ use Rattle.conformance.specs.LimitsAgree.{closest-agrees, closest-only}
 use Rattle.conformance.specs.MoveToAgrees.{hue-is-set, hue-leaves, saturation-is-set, saturation-leaves, mireds-is-set, mireds-leaves}
 use Rattle.conformance.specs.Reports.{RemainingTimeIs}
 use Rattle.conformance.specs.Transition.{onLine}
-use Rattle.conformance.specs.TransitionAgrees.{gone, line-is, no-way}
+use Rattle.conformance.specs.TransitionAgrees.{gone, transition-end, way-ends, line-is, line-agrees, line-arrives, no-way}
 
 -- the colour so long after the start of a move to a hue, a saturation or both, from the hue and saturation of the start, and from
 -- the colour before the call
@@ -64,6 +64,24 @@ pub record ShowsMiredsTo (mireds target elapsed time : ℕ) (before after : Colo
   pub miredsMove : after .mireds ≡ onLine mireds target (gone (pos target -ℤ pos mireds) elapsed time)
   pub hueStays : after .hue ≡ before .hue
   pub saturationStays : after .saturation ≡ before .saturation
+
+-- at the time and after it: the whole way of the hue, and the numbers moved to
+module _ (task : HueSaturationMoveTo) (hue saturation elapsed : ℕ) (before after : Color)
+    (shows : ShowsMoveTo task hue saturation elapsed before after) (over : task .ms ≤ elapsed) where
+  pub hue-arrives : (way : ℤ) → task .delta ≡ HueDelta.By way → after .hue ≡ movedHue hue way
+  hue-arrives way e = shows .hueMoves way e ∙ ap (movedHue hue) (way-ends way elapsed (task .ms) over)
+
+  pub saturation-arrives : (target : ℕ) → task .saturation ≡ TargetSaturation.To target → after .saturation ≡ target
+  saturation-arrives target e =
+      shows .saturationMoves target e
+      ∙ line-agrees saturation target elapsed (task .ms) (transition-end (pos target -ℤ pos saturation) (task .ms) elapsed over)
+      ∙ line-arrives saturation target elapsed (task .ms) over
+
+pub mireds-arrive : (mireds target elapsed time : ℕ) (before after : Color) →
+    ShowsMiredsTo mireds target elapsed time before after → time ≤ elapsed → after .mireds ≡ target
+mireds-arrive mireds target elapsed time before after shows over =
+    shows .miredsMove ∙ line-agrees mireds target elapsed time (transition-end (pos target -ℤ pos mireds) time elapsed over)
+    ∙ line-arrives mireds target elapsed time over
 
 -- ---- a pass at so many thousandths, whose part is that of the time elapsed
 
