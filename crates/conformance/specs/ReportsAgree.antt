@@ -6,34 +6,38 @@ use mathlib.Core.Bool.{Bool, true, false, not, cond, _&&_, true≢false, _||_, o
 use mathlib.Core.List.{List, [], _∷_, _++_}
 use mathlib.Core.Path.{_≡_, refl, sym, ap, subst, _∙_}
 use native.Mathlib.Omega.{arith}
-use lib.Dec.{ltb, leb, eqb}
+use lib.Dec.{ltb, eqb}
 use lib.IntN.{ℤ}
 use lib.ListN.{length, replicate}
-use borrow.Author.Tests.{leb-true, leb-false, le-leb, lt-leb, ltb-true, ltb-false, lt-ltb, le-ltb, eqb-true, eqb-false, ne-eqb, not-true}
+use borrow.Author.Tests.{leb-true, le-leb, lt-leb, ltb-true, ltb-false, lt-ltb, le-ltb, eqb-true, eqb-false, ne-eqb, not-true}
 use Rattle.matter.specs.declared.ColorModeEnum.{ColorModeEnum}
-use Rattle.matter.specs.Laws.{and-left, and-right, or-left, or-right}
+use Rattle.matter.specs.Limits.{saturationLimit}
+use Rattle.matter.specs.Laws.{and-left, and-right, or-left, or-right, cond-both}
 use Rattle.notices.specs.Notices.{only, filled}
-use Rattle.notices.specs.Names.{CurrentHue, EnhancedCurrentHue, CurrentSaturation, ColorTemperatureMireds, ColorMode, EnhancedColorMode, RemainingTime, markedDirty, scenesTold, deviceHueSaturation}
+use Rattle.notices.specs.Names.{CurrentHue, EnhancedCurrentHue, CurrentSaturation, ColorTemperatureMireds, ColorMode, EnhancedColorMode, RemainingTime, markedDirty, scenesTold, deviceHueSaturation, deviceMireds}
 use Rattle.color.specs.declared.Color.{Color}
 use Rattle.color.specs.Setters.{due, same, changeNotices, hueSet, hueTold, saturationSet, saturationTold, miredsSet, miredsTold}
-use Rattle.progress.specs.Progress.{permilleOf, tenthsOf, wayAtRate, loopWay}
-use Rattle.progress.specs.Laws.{permille-full, permille-short}
+use Rattle.progress.specs.Progress.{permilleOf, tenthsOf, wayAtRate, broughtWithin, loopWay}
 use Rattle.hue.specs.Hue.{movedHue}
 use Rattle.remaining_time.specs.RemainingTime.{apart, told}
 use Rattle.tasks.specs.declared.ColorLoopRun.{ColorLoopRun}
+use Rattle.tasks.specs.declared.ColorTemperatureRun.{ColorTemperatureRun}
+use Rattle.tasks.specs.declared.ColorTemperatureToRun.{ColorTemperatureToRun}
 use Rattle.tasks.specs.declared.HueDelta.{HueDelta}
 use Rattle.tasks.specs.declared.HueRun.{HueRun}
 use Rattle.tasks.specs.declared.HueSaturationRun.{HueSaturationRun}
 use Rattle.tasks.specs.declared.Running.{Running}
+use Rattle.tasks.specs.declared.SaturationRun.{SaturationRun}
 use Rattle.tasks.specs.declared.TargetSaturation.{TargetSaturation}
+use Rattle.tasks.specs.Runs.{runs}
 use Rattle.lamp.specs.declared.Answer.{Answer}
 use Rattle.lamp.specs.declared.Lamp.{Lamp}
 use Rattle.lamp.specs.Answers.{atClock}
 use Rattle.lamp.specs.Calls.{done, stepped}
-use Rattle.lamp.specs.Passes.{Effect, atEnd, signed, hueNow, hueMoved, hueMovedTold, saturationNow, saturationMovedTold, leftWritten, hueSaturationPass, huePass, loopPass}
+use Rattle.lamp.specs.Passes.{Effect, unless, atEnd, signed, hueNow, hueMoved, hueMovedTold, saturationNow, saturationMoved, saturationMovedTold, leftWritten, miredsNow, saturationDone, miredsDone, hueSaturationPass, temperatureToPass, huePass, saturationPass, temperaturePass, loopPass}
 use Rattle.lamp.specs.Typed.{step}
 use Rattle.commands.specs.Answers.{cause, answer}
-use Rattle.conformance.specs.MoveToAgrees.{hue-is-set}
+use Rattle.conformance.specs.MoveToAgrees.{hue-is-set, saturation-is-set, mireds-is-set}
 use Rattle.conformance.specs.ShownAgrees.{granted-is, step-shows}
 use Rattle.conformance.specs.Reports.{RemainingTimeIs, Reportable, fromZero, risen, fallen, toZero, hushed, MayReport, onceASecond, atTheEnd, tells}
 
@@ -329,133 +333,253 @@ module _ (c : Color) (clock : ℕ) (active : Bool) where
   unfolding hueTold
   enhanced-untold new end = plain-by (same (c .hue) new end) active (due end (c .stamps .hue) clock)
 
--- ---- over calls: what an accepted step tells of the hue
+-- ---- over calls: an accepted step tells an attribute exactly where it may be reported, whatever moves it
 
--- the notices of a change of hue
+-- the last of a movement: nothing runs after it
+abbrev pub ended : Answer → Bool
+ended a = not (runs (a .lamp .running))
+
+pub record Reported (notice : ℕ) (number stamp : Color → ℕ) (before : Lamp) (clock : ℕ) (a : Answer) : Type 0 where
+  pub whereItMay : tells notice (a .notices .places) ≡ true → MayReport (stamp (before .color)) clock (ended a)
+  pub ofEachChange : (number (before .color) ≡ number (a .lamp .color) → ⊥) →
+      MayReport (stamp (before .color)) clock (ended a) → tells notice (a .notices .places) ≡ true
+
+-- what a pass tells beside an attribute's notices, and the zeros behind them
+but-for : (n : ℕ) (told rest : List ℕ) → tells n rest ≡ false → tells n (told ++ rest) ≡ tells n told
+but-for n told rest none = tells-both n told rest ∙ rw none (or-false (tells n told))
+
+no-zeros : (n : ℕ) → eqb n 0 ≡ false → (k : ℕ) → tells n (replicate k 0) ≡ false
+no-zeros n z zero = refl
+no-zeros n z (suc k) = rw z (no-zeros n z k)
+
+in-places : (n : ℕ) → eqb n 0 ≡ false → (xs : List ℕ) → tells n (filled xs) ≡ tells n xs
+unfolding filled
+in-places n z xs = but-for n xs (replicate (16 - length xs) 0) (no-zeros n z (16 - length xs))
+
+no-time : (n : ℕ) → eqb n RemainingTime ≡ false → (t : Bool) → tells n (only t RemainingTime) ≡ false
+no-time n z true = rw z
+no-time n z false = refl
+
+ended-by : (end : Bool) (r : Running) → runs r ≡ true → not (runs (unless end r)) ≡ end
+ended-by true r e = refl
+ended-by false r e = rw e
+
+-- the notices of a hue
 pub data HueNotice : ℕ → Bool → Type 0 where
   ofCurrentHue : (enhanced : Bool) → HueNotice CurrentHue enhanced
   ofEnhancedCurrentHue : HueNotice EnhancedCurrentHue true
-
--- an answer has them exactly where they may be reported
-pub record HueReported (enhanced : Bool) (before : Lamp) (clock : ℕ) (end : Bool) (a : Answer) : Type 0 where
-  pub whereItMay : (n : ℕ) → HueNotice n enhanced → tells n (a .notices .places) ≡ true →
-      MayReport (before .color .stamps .hue) clock end
-  pub ofEachChange : (n : ℕ) → HueNotice n enhanced → (before .color .hue ≡ a .lamp .color .hue → ⊥) →
-      MayReport (before .color .stamps .hue) clock end → tells n (a .notices .places) ≡ true
 
 is-hues : {n : ℕ} {enhanced : Bool} → HueNotice n enhanced → IsHues n enhanced
 is-hues (ofCurrentHue enhanced) = (refl, refl)
 is-hues ofEnhancedCurrentHue = (refl, refl)
 
--- none of them is 0, which fills the places, nor told of the rest of a pass
-no-zeros : {n : ℕ} {enhanced : Bool} → HueNotice n enhanced → (k : ℕ) → tells n (replicate k 0) ≡ false
-no-zeros h zero = refl
-no-zeros (ofCurrentHue enhanced) (suc k) = no-zeros (ofCurrentHue enhanced) k
-no-zeros ofEnhancedCurrentHue (suc k) = no-zeros ofEnhancedCurrentHue k
+-- they are not told of the rest of a pass
+apart-from : {n : ℕ} {enhanced : Bool} → HueNotice n enhanced →
+    (eqb n 0 ≡ false) × (tells n (deviceHueSaturation ∷ []) ≡ false) × (eqb n RemainingTime ≡ false)
+    × (tells n (CurrentSaturation ∷ ColorMode ∷ EnhancedColorMode ∷ []) ≡ false)
+apart-from (ofCurrentHue enhanced) = (refl, refl, refl, refl)
+apart-from ofEnhancedCurrentHue = (refl, refl, refl, refl)
 
-no-device : {n : ℕ} {enhanced : Bool} → HueNotice n enhanced → tells n (deviceHueSaturation ∷ []) ≡ false
-no-device (ofCurrentHue enhanced) = refl
-no-device ofEnhancedCurrentHue = refl
-
-no-time : {n : ℕ} {enhanced : Bool} → HueNotice n enhanced → (t : Bool) → tells n (only t RemainingTime) ≡ false
-no-time h false = refl
-no-time (ofCurrentHue enhanced) true = refl
-no-time ofEnhancedCurrentHue true = refl
-
-no-saturation : {n : ℕ} {enhanced : Bool} → HueNotice n enhanced →
+no-saturation : (n : ℕ) → tells n (CurrentSaturation ∷ ColorMode ∷ EnhancedColorMode ∷ []) ≡ false →
+    tells n (markedDirty ∷ scenesTold ∷ []) ≡ false →
     (c : Color) (t : TargetSaturation) (first p clock : ℕ) (active : Bool) →
     tells n (saturationMovedTold c t first p clock active) ≡ false
 unfolding saturationTold
-no-saturation h c TargetSaturation.Keep first p clock active = refl
-no-saturation (ofCurrentHue enhanced) c (TargetSaturation.To target) first p clock active =
-    no-change-by CurrentHue (CurrentSaturation ∷ []) refl refl
-    (same (c .saturation) (saturationNow first target p) (atEnd p)) active (due (atEnd p) (c .stamps .saturation) clock)
-no-saturation ofEnhancedCurrentHue c (TargetSaturation.To target) first p clock active =
-    no-change-by EnhancedCurrentHue (CurrentSaturation ∷ []) refl refl
+no-saturation n none other c TargetSaturation.Keep first p clock active = refl
+no-saturation n none other c (TargetSaturation.To target) first p clock active =
+    no-change-by n (CurrentSaturation ∷ []) none other
     (same (c .saturation) (saturationNow first target p) (atEnd p)) active (due (atEnd p) (c .stamps .saturation) clock)
 
-but-for : (n : ℕ) (told rest : List ℕ) → tells n rest ≡ false → tells n (told ++ rest) ≡ tells n told
-but-for n told rest none = tells-both n told rest ∙ rw none (or-false (tells n told))
+-- nor is CurrentSaturation of a hue, which leaves its number and stamp
+no-hue-by : (enhanced : Bool) →
+    tells CurrentSaturation ((CurrentHue ∷ only enhanced EnhancedCurrentHue) ++ (ColorMode ∷ EnhancedColorMode ∷ []))
+    ≡ false
+no-hue-by true = refl
+no-hue-by false = refl
 
-in-places : {n : ℕ} {enhanced : Bool} → HueNotice n enhanced → (xs : List ℕ) → tells n (filled xs) ≡ tells n xs
-unfolding filled
-in-places {n} h xs = but-for n xs (replicate (16 - length xs) 0) (no-zeros h (16 - length xs))
+no-hue : (c : Color) (d : HueDelta) (first p : ℕ) (enhanced : Bool) (clock : ℕ) (active : Bool) →
+    tells CurrentSaturation (hueMovedTold c d first p enhanced clock active) ≡ false
+unfolding hueTold
+no-hue c HueDelta.Keep first p enhanced clock active = refl
+no-hue c (HueDelta.By way) first p enhanced clock active =
+    no-change-by CurrentSaturation (CurrentHue ∷ only enhanced EnhancedCurrentHue) (no-hue-by enhanced) refl
+    (same (c .hue) (hueNow first way p) (atEnd p)) active (due (atEnd p) (c .stamps .hue) clock)
 
-alone : {n : ℕ} {enhanced : Bool} → HueNotice n enhanced → (told : List ℕ) →
-    tells n (filled (told ++ (deviceHueSaturation ∷ []))) ≡ tells n told
-alone {n} h told =
-    in-places h (told ++ (deviceHueSaturation ∷ [])) ∙ but-for n told (deviceHueSaturation ∷ []) (no-device h)
-
--- the end of a movement is the end of its time
-end-by : (elapsed time : ℕ) (b : Bool) → leb time elapsed ≡ b → atEnd (permilleOf elapsed time) ≡ b
-end-by elapsed time true e = rw (permille-full elapsed time (leb-true time elapsed e))
-end-by elapsed time false e =
-    lt-leb 1000 (permilleOf elapsed time) (permille-short elapsed time (leb-false time elapsed e))
+hue-leaves-stamp : (c : Color) (d : HueDelta) (first p : ℕ) (enhanced : Bool) (clock : ℕ) →
+    (hueMoved c d first p enhanced clock .saturation ≡ c .saturation)
+    × (hueMoved c d first p enhanced clock .stamps .saturation ≡ c .stamps .saturation)
+unfolding hueSet
+hue-leaves-stamp c HueDelta.Keep first p enhanced clock = (refl, refl)
+hue-leaves-stamp c (HueDelta.By way) first p enhanced clock =
+    let t : Bool = same (c .hue) (hueNow first way p) (atEnd p) in (
+      cond-both (λ (x : Color). x .saturation ≡ c .saturation) t c _ (λ e. refl) (λ e. refl),
+      cond-both
+          (λ (x : Color). x .stamps .saturation ≡ c .stamps .saturation) t c _ (λ e. refl) (λ e. refl),
+    )
 
 module _ (l : Lamp) (clock : ℕ) (accepted : cause l (step clock) ≡ 0) where
-  answer-is : (r : Running) → l .running ≡ r → answer l (step clock) ≡ done (stepped (atClock l clock) r)
-  answer-is r e = granted-is l (step clock) accepted ∙ ap (λ (x : Running). done (stepped (atClock l clock) x)) e
+  abbrev on : Lamp
+  on = atClock l clock
 
-  -- an effect that begins with the hue's setter
-  reported-by : (enhanced : Bool) (new : ℕ) (end : Bool) (e : Effect) → answer l (step clock) ≡ done e →
-      e .lamp .color .hue ≡ new →
-      ((n : ℕ) → HueNotice n enhanced →
-      tells n (filled (e .told)) ≡ tells n (hueTold (l .color) new end enhanced clock (l .looping .active))) →
-      HueReported enhanced l clock end (answer l (step clock))
-  reported-by enhanced new end e is set told =
-      subst (HueReported enhanced l clock end) (sym is)
+  answer-is : (r : Running) → l .running ≡ r → answer l (step clock) ≡ done (stepped on r)
+  answer-is r e = granted-is l (step clock) accepted ∙ ap (λ (x : Running). done (stepped on x)) e
+
+  reported-by : (n : ℕ) (number stamp : Color → ℕ) (new : ℕ) (end : Bool) (e : Effect) →
+      answer l (step clock) ≡ done e → number (e .lamp .color) ≡ new → not (runs (e .lamp .running)) ≡ end →
+      tells n (filled (e .told)) ≡ not (same (number (l .color)) new end) && due end (stamp (l .color)) clock →
+      Reported n number stamp l clock (answer l (step clock))
+  reported-by n number stamp new end e is set over told =
+      subst (Reported n number stamp l clock) (sym is)
       (record {
         whereItMay =
-            λ n h t. hue-may (l .color) new end clock (l .looping .active) n enhanced (is-hues h) (sym (told n h) ∙ t);
+            λ t. subst (MayReport (stamp (l .color)) clock) (sym over)
+            (told-may (l .color) new end clock true (number (l .color)) (stamp (l .color))
+            (tells n (filled (e .told))) told t);
         ofEachChange =
-            λ n h c m. told n h ∙ hue-must (l .color) new end clock (l .looping .active) n enhanced (is-hues h)
-            (λ x. c (x ∙ sym set)) m;
+            λ c m. may-told (l .color) new end clock true (number (l .color)) (stamp (l .color))
+            (tells n (filled (e .told))) told (λ x. c (x ∙ sym set))
+            (subst (MayReport (stamp (l .color)) clock) over m);
       })
 
-  -- of a move to a hue
-  pub move-to-reported : (run : HueSaturationRun) (way : ℤ) → l .running ≡ Running.HueSaturationMoveTo run →
-      run .task .delta ≡ HueDelta.By way →
-      HueReported (run .task .enhanced) l clock (leb (run .task .ms) (clock - run .start)) (answer l (step clock))
-  unfolding stepped hueSaturationPass
-  move-to-reported run way e d =
-      let elapsed : ℕ = clock - run .start in
-      let p : ℕ = permilleOf elapsed (run .task .ms) in
-      let is = answer-is (Running.HueSaturationMoveTo run) e in
-      let hued : Color = hueMoved (l .color) (run .task .delta) (run .hue) p (run .task .enhanced) clock in
-      subst (λ (end : Bool). HueReported (run .task .enhanced) l clock end (answer l (step clock)))
-      (end-by elapsed (run .task .ms) (leb (run .task .ms) elapsed) refl)
-      (reported-by (run .task .enhanced) (hueNow (run .hue) way p) (atEnd p)
-      (stepped (atClock l clock) (Running.HueSaturationMoveTo run)) is
-      (sym (ap (λ (a : Answer). a .lamp .color .hue) is) ∙ step-shows l clock accepted run e .hueMoves way d)
-      (λ n h.
-      let its = hueMovedTold (l .color) (run .task .delta) (run .hue) p (run .task .enhanced) clock (l .looping .active) in
-      let saturations = saturationMovedTold hued (run .task .saturation) (run .saturation) p clock (l .looping .active) in
-      let left : Bool = leftWritten (atClock l clock) (atEnd p) elapsed (run .task .ms) .told in
-      in-places h (its ++ saturations ++ (deviceHueSaturation ∷ []) ++ only left RemainingTime)
-      ∙ but-for n (its ++ saturations ++ (deviceHueSaturation ∷ [])) (only left RemainingTime) (no-time h left)
-      ∙ but-for n (its ++ saturations) (deviceHueSaturation ∷ []) (no-device h)
-      ∙ but-for n its saturations
-      (no-saturation h hued (run .task .saturation) (run .saturation) p clock (l .looping .active))
-      ∙ ap (λ (x : HueDelta). tells n
-      (hueMovedTold (l .color) x (run .hue) p (run .task .enhanced) clock (l .looping .active))) d))
+  -- a pass of the hue alone, which does not end
+  hue-alone : (enhanced : Bool) (new : ℕ) (e : Effect) → answer l (step clock) ≡ done e → e .lamp .color .hue ≡ new →
+      not (runs (e .lamp .running)) ≡ false →
+      e .told ≡ hueTold (l .color) new false enhanced clock (l .looping .active) ++ (deviceHueSaturation ∷ []) →
+      (n : ℕ) → HueNotice n enhanced → Reported n (λ c. c .hue) (λ c. c .stamps .hue) l clock (answer l (step clock))
+  unfolding hueTold
+  hue-alone enhanced new e is set over list n h =
+      let its = hueTold (l .color) new false enhanced clock (l .looping .active) in
+      let (z, device, time, others) = apart-from h in
+      reported-by n (λ c. c .hue) (λ c. c .stamps .hue) new false e is set over
+      (ap (λ (x : List ℕ). tells n (filled x)) list
+      ∙ in-places n z (its ++ (deviceHueSaturation ∷ []))
+      ∙ but-for n its (deviceHueSaturation ∷ []) device
+      ∙ hue-by n enhanced (is-hues h) (same (l .color .hue) new false) (l .looping .active)
+      (due false (l .color .stamps .hue) clock))
 
-  -- of a move of the hue at a rate, and of the colour loop, which do not end
+  -- CurrentHue, and in an enhanced move EnhancedCurrentHue: of a move to a hue, of a move at a rate and of the loop
+  pub hue-to-reported : (run : HueSaturationRun) (way : ℤ) → l .running ≡ Running.HueSaturationMoveTo run →
+      run .task .delta ≡ HueDelta.By way →
+      (n : ℕ) → HueNotice n (run .task .enhanced) →
+      Reported n (λ c. c .hue) (λ c. c .stamps .hue) l clock (answer l (step clock))
+  unfolding stepped hueSaturationPass hueTold
+  hue-to-reported run way e d n h =
+      let p : ℕ = permilleOf (clock - run .start) (run .task .ms) in
+      let is = answer-is (Running.HueSaturationMoveTo run) e in
+      let active : Bool = l .looping .active in
+      let hued : Color = hueMoved (l .color) (run .task .delta) (run .hue) p (run .task .enhanced) clock in
+      let its = hueMovedTold (l .color) (run .task .delta) (run .hue) p (run .task .enhanced) clock active in
+      let saturations = saturationMovedTold hued (run .task .saturation) (run .saturation) p clock active in
+      let left : Bool = leftWritten on (atEnd p) (clock - run .start) (run .task .ms) .told in
+      let (z, device, time, others) = apart-from h in
+      reported-by n (λ c. c .hue) (λ c. c .stamps .hue) (hueNow (run .hue) way p) (atEnd p)
+      (stepped on (Running.HueSaturationMoveTo run)) is
+      (sym (ap (λ (a : Answer). a .lamp .color .hue) is) ∙ step-shows l clock accepted run e .hueMoves way d)
+      (ended-by (atEnd p) (Running.HueSaturationMoveTo run) refl)
+      (in-places n z (its ++ saturations ++ (deviceHueSaturation ∷ []) ++ only left RemainingTime)
+      ∙ but-for n (its ++ saturations ++ (deviceHueSaturation ∷ [])) (only left RemainingTime) (no-time n time left)
+      ∙ but-for n (its ++ saturations) (deviceHueSaturation ∷ []) device
+      ∙ but-for n its saturations
+      (no-saturation n others (is-hues h .1) hued (run .task .saturation) (run .saturation) p clock active)
+      ∙ ap (λ (x : HueDelta). tells n (hueMovedTold (l .color) x (run .hue) p (run .task .enhanced) clock active)) d
+      ∙ hue-by n (run .task .enhanced) (is-hues h) (same (l .color .hue) (hueNow (run .hue) way p) (atEnd p)) active
+      (due (atEnd p) (l .color .stamps .hue) clock))
+
   pub hue-move-reported : (run : HueRun) → l .running ≡ Running.HueMove run →
-      HueReported (run .task .enhanced) l clock false (answer l (step clock))
-  unfolding stepped huePass
-  hue-move-reported run e =
+      (n : ℕ) → HueNotice n (run .task .enhanced) →
+      Reported n (λ c. c .hue) (λ c. c .stamps .hue) l clock (answer l (step clock))
+  unfolding stepped huePass hueTold
+  hue-move-reported run e n h =
       let now : ℕ = movedHue (run .hue) (wayAtRate (signed (run .task .direction) (run .task .rate)) (clock - run .start)) in
-      reported-by (run .task .enhanced) now false (stepped (atClock l clock) (Running.HueMove run))
-      (answer-is (Running.HueMove run) e)
-      (hue-is-set (l .color) now false (run .task .enhanced) clock)
-      (λ n h. alone h (hueTold (l .color) now false (run .task .enhanced) clock (l .looping .active)))
+      hue-alone (run .task .enhanced) now (stepped on (Running.HueMove run)) (answer-is (Running.HueMove run) e)
+      (hue-is-set (l .color) now false (run .task .enhanced) clock) refl refl n h
 
   pub loop-reported : (run : ColorLoopRun) → l .running ≡ Running.ColorLoop run →
-      HueReported true l clock false (answer l (step clock))
-  unfolding stepped loopPass
-  loop-reported run e =
+      (n : ℕ) → HueNotice n true → Reported n (λ c. c .hue) (λ c. c .stamps .hue) l clock (answer l (step clock))
+  unfolding stepped loopPass hueTold
+  loop-reported run e n h =
       let now : ℕ = movedHue (run .hue) (loopWay (run .task .direction) (clock - run .start) (run .task .seconds)) in
-      reported-by true now false (stepped (atClock l clock) (Running.ColorLoop run))
-      (answer-is (Running.ColorLoop run) e)
-      (hue-is-set (l .color) now false true clock)
-      (λ n h. alone h (hueTold (l .color) now false true clock (l .looping .active)))
+      hue-alone true now (stepped on (Running.ColorLoop run)) (answer-is (Running.ColorLoop run) e)
+      (hue-is-set (l .color) now false true clock) refl refl n h
+
+  -- CurrentSaturation: of a move to a saturation, and of a move at a rate
+  pub saturation-to-reported : (run : HueSaturationRun) (target : ℕ) → l .running ≡ Running.HueSaturationMoveTo run →
+      run .task .saturation ≡ TargetSaturation.To target →
+      Reported CurrentSaturation (λ c. c .saturation) (λ c. c .stamps .saturation) l clock (answer l (step clock))
+  unfolding stepped hueSaturationPass saturationTold
+  saturation-to-reported run target e t =
+      let p : ℕ = permilleOf (clock - run .start) (run .task .ms) in
+      let n : ℕ = CurrentSaturation in
+      let is = answer-is (Running.HueSaturationMoveTo run) e in
+      let active : Bool = l .looping .active in
+      let now : ℕ = saturationNow (run .saturation) target p in
+      let hued : Color = hueMoved (l .color) (run .task .delta) (run .hue) p (run .task .enhanced) clock in
+      let its = hueMovedTold (l .color) (run .task .delta) (run .hue) p (run .task .enhanced) clock active in
+      let saturations = saturationMovedTold hued (run .task .saturation) (run .saturation) p clock active in
+      let left : Bool = leftWritten on (atEnd p) (clock - run .start) (run .task .ms) .told in
+      let (kept, stamp) = hue-leaves-stamp (l .color) (run .task .delta) (run .hue) p (run .task .enhanced) clock in
+      reported-by n (λ c. c .saturation) (λ c. c .stamps .saturation) now (atEnd p)
+      (stepped on (Running.HueSaturationMoveTo run)) is
+      (ap (λ (x : TargetSaturation). saturationMoved hued x (run .saturation) p clock .saturation) t
+      ∙ saturation-is-set hued now (atEnd p) clock)
+      (ended-by (atEnd p) (Running.HueSaturationMoveTo run) refl)
+      (in-places n refl (its ++ saturations ++ (deviceHueSaturation ∷ []) ++ only left RemainingTime)
+      ∙ but-for n (its ++ saturations ++ (deviceHueSaturation ∷ [])) (only left RemainingTime) (no-time n refl left)
+      ∙ but-for n (its ++ saturations) (deviceHueSaturation ∷ []) refl
+      ∙ tells-both n its saturations
+      ∙ rw (no-hue (l .color) (run .task .delta) (run .hue) p (run .task .enhanced) clock active)
+      (ap (λ (x : TargetSaturation). tells n (saturationMovedTold hued x (run .saturation) p clock active)) t
+      ∙ saturation-by (same (hued .saturation) now (atEnd p)) active (due (atEnd p) (hued .stamps .saturation) clock)
+      ∙ ap (λ (x : ℕ). not (same x now (atEnd p)) && due (atEnd p) (hued .stamps .saturation) clock) kept
+      ∙ ap (λ (x : ℕ). not (same (l .color .saturation) now (atEnd p)) && due (atEnd p) x clock) stamp))
+
+  pub saturation-move-reported : (run : SaturationRun) → l .running ≡ Running.SaturationMove run →
+      Reported CurrentSaturation (λ c. c .saturation) (λ c. c .stamps .saturation) l clock (answer l (step clock))
+  unfolding stepped saturationPass saturationTold
+  saturation-move-reported run e =
+      let now : ℕ = broughtWithin 0 saturationLimit (run .saturation) (wayAtRate (signed (run .task .direction) (run .task .rate)) (clock - run .start)) in
+      let end : Bool = saturationDone (run .task .direction) now in
+      let its = saturationTold (l .color) now end clock (l .looping .active) in
+      reported-by CurrentSaturation (λ c. c .saturation) (λ c. c .stamps .saturation) now end
+      (stepped on (Running.SaturationMove run)) (answer-is (Running.SaturationMove run) e)
+      (saturation-is-set (l .color) now end clock)
+      (ended-by end (Running.SaturationMove run) refl)
+      (in-places CurrentSaturation refl (its ++ (deviceHueSaturation ∷ []))
+      ∙ but-for CurrentSaturation its (deviceHueSaturation ∷ []) refl
+      ∙ saturation-by (same (l .color .saturation) now end) (l .looping .active)
+      (due end (l .color .stamps .saturation) clock))
+
+  -- ColorTemperatureMireds: of a move to mireds, and of a move at a rate
+  pub mireds-to-reported : (run : ColorTemperatureToRun) → l .running ≡ Running.ColorTemperatureMoveTo run →
+      Reported ColorTemperatureMireds (λ c. c .mireds) (λ c. c .stamps .mireds) l clock (answer l (step clock))
+  unfolding stepped temperatureToPass miredsTold
+  mireds-to-reported run e =
+      let p : ℕ = permilleOf (clock - run .start) (run .task .ms) in
+      let now : ℕ = miredsNow (l .bounds) (run .mireds) (run .task .target) p in
+      let its = miredsTold (l .color) now (atEnd p) clock (l .looping .active) in
+      let left : Bool = leftWritten on (atEnd p) (clock - run .start) (run .task .ms) .told in
+      reported-by ColorTemperatureMireds (λ c. c .mireds) (λ c. c .stamps .mireds) now (atEnd p)
+      (stepped on (Running.ColorTemperatureMoveTo run)) (answer-is (Running.ColorTemperatureMoveTo run) e)
+      (mireds-is-set (l .color) now (atEnd p) clock)
+      (ended-by (atEnd p) (Running.ColorTemperatureMoveTo run) refl)
+      (in-places ColorTemperatureMireds refl (its ++ (deviceMireds ∷ []) ++ only left RemainingTime)
+      ∙ but-for ColorTemperatureMireds (its ++ (deviceMireds ∷ [])) (only left RemainingTime)
+      (no-time ColorTemperatureMireds refl left)
+      ∙ but-for ColorTemperatureMireds its (deviceMireds ∷ []) refl
+      ∙ mireds-by (same (l .color .mireds) now (atEnd p)) (l .looping .active)
+      (due (atEnd p) (l .color .stamps .mireds) clock))
+
+  pub mireds-move-reported : (run : ColorTemperatureRun) → l .running ≡ Running.ColorTemperatureMove run →
+      Reported ColorTemperatureMireds (λ c. c .mireds) (λ c. c .stamps .mireds) l clock (answer l (step clock))
+  unfolding stepped temperaturePass miredsTold
+  mireds-move-reported run e =
+      let now : ℕ = broughtWithin (run .lo) (run .hi) (run .mireds) (wayAtRate (run .rate) (clock - run .start)) in
+      let end : Bool = miredsDone (run .rate) (run .lo) (run .hi) now in
+      let its = miredsTold (l .color) now end clock (l .looping .active) in
+      reported-by ColorTemperatureMireds (λ c. c .mireds) (λ c. c .stamps .mireds) now end
+      (stepped on (Running.ColorTemperatureMove run)) (answer-is (Running.ColorTemperatureMove run) e)
+      (mireds-is-set (l .color) now end clock)
+      (ended-by end (Running.ColorTemperatureMove run) refl)
+      (in-places ColorTemperatureMireds refl (its ++ (deviceMireds ∷ []))
+      ∙ but-for ColorTemperatureMireds its (deviceMireds ∷ []) refl
+      ∙ mireds-by (same (l .color .mireds) now end) (l .looping .active) (due end (l .color .stamps .mireds) clock))
