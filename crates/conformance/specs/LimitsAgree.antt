@@ -1,4 +1,5 @@
--- The port's bounds of a move or a step of mireds are the text's, and a target is brought to the closest mireds.
+-- The port's bounds of a move or a step of mireds are the text's, a started move runs between them, and a target is brought to
+-- the closest mireds.
 -- Assumes nothing.
 use Prim.Native.Nat.{ℕ, zero, suc, _≤_, _<_, min, max}
 use mathlib.Core.Bool.{Bool, true, false, cond, true≢false}
@@ -139,7 +140,7 @@ module _ (l : Lamp) (mode : MoveModeEnum) (rate minimum maximum : ℕ) (options 
             (within-allowed (l .bounds) minimum maximum (hi (l .bounds) maximum) (omega arith) (omega arith)),
       ))
 
-  -- where no two mireds are allowed, it is done at once: nothing but the clock changes, and nothing is told
+  -- where no two mireds are allowed, it is done at once: the lamp is idle, nothing else but the clock changes, nothing is told
   pub move-at-once : NoTwo (l .bounds) minimum maximum →
       answer m (start task clock)
       ≡ done (record { lamp = moved (atClock m clock) (m .color) Running.Idle; told = []; wait = 0 })
