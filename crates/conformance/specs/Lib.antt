@@ -7,6 +7,7 @@ pub mod MoveTo
 pub mod Steps
 pub mod Limits
 pub mod Hues
+pub mod Receipt
 pub mod Modes
 pub mod Stops
 pub mod LoopTurn
@@ -27,6 +28,7 @@ pub mod HuesAgree
 pub mod ModesAgree
 pub mod StopsAgree
 pub mod LoopTurnAgrees
+pub mod Ran
 pub mod MovesAgree
 pub mod ColorLoopAgrees
 pub mod ReportsAgree

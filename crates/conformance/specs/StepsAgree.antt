@@ -169,9 +169,16 @@ up-done lo hi n rate a true f g e = absurd (omega (arith, ltb-true rate 0 g))
 up-done lo hi n rate true false f g e = eqb-true n hi (or-false (eqb n hi) e)
 up-done lo hi n rate false false f g e = absurd (true≢false (sym e))
 
+pub mireds-up-done : (lo hi n rate : ℕ) → miredsDone (pos rate) lo hi n ≡ true → n ≡ hi
+mireds-up-done lo hi n rate e = up-done lo hi n rate (ltb 0 rate) (ltb rate 0) refl refl e
+
+pub mireds-down-done : (lo hi n rate : ℕ) → miredsDone (negℤ (pos rate)) lo hi n ≡ true → n ≡ lo
+mireds-down-done lo hi n zero e = absurd (true≢false (sym e))
+mireds-down-done lo hi n (suc rate) e = eqb-true n lo e
+
 pub mireds-stop-up : (lo hi n rate : ℕ) → miredsDone (pos rate) lo hi n ≡ true → (units : ℕ) → times units (unitUp hi) n ≡ n
 mireds-stop-up lo hi n rate e units =
-    let z : n ≡ hi = up-done lo hi n rate (ltb 0 rate) (ltb rate 0) refl refl e in
+    let z : n ≡ hi = mireds-up-done lo hi n rate e in
     omega (arith, units-up hi units n (omega arith))
 
 pub mireds-stop-down : (lo hi n rate : ℕ) → miredsDone (negsuc rate) lo hi n ≡ true → (units : ℕ) → times units (unitDown lo) n ≡ n
