@@ -30,6 +30,7 @@ pub mod StopsAgree
 pub mod LoopTurnAgrees
 pub mod Ran
 pub mod MovesAgree
+pub mod ArrivalsAgree
 pub mod ColorLoopAgrees
 pub mod ReportsAgree
 pub mod DefaultsAgree
