@@ -31,6 +31,7 @@ pub mod LoopTurnAgrees
 pub mod Ran
 pub mod MovesAgree
 pub mod ArrivalsAgree
+pub mod ReceiptAgrees
 pub mod ColorLoopAgrees
 pub mod ReportsAgree
 pub mod DefaultsAgree

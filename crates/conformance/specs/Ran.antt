@@ -176,3 +176,8 @@ module _ (m : Lamp) (task : Task) (begun : ℕ) (P : Lamp → Type 0)
 pub idle-done : (end : Bool) (run : Running) → runs run ≡ true → unless end run ≡ Running.Idle → end ≡ true
 idle-done true run r e = refl
 idle-done false run r e = absurd (true≢false (sym r ∙ ap runs e))
+
+-- the lamp was in form
+pub ran-form : {m : Lamp} {task : Task} {begun : ℕ} {n : Lamp} → Ran m task begun n → lampForm (atClock m begun) ≡ true
+ran-form {m} {task} {begun} (began z) = granted-ready m (start task begun) z
+ran-form (went clock r z) = ran-form r

@@ -131,10 +131,9 @@ OnReceipt bounds received (Command.EnhancedStepHue mode size time options) elaps
 OnReceipt bounds received (Command.MoveToColorTemperature mireds time options) elapsed from now =
     MiredsAlone from now (Goes-near bounds mireds (milliseconds time) elapsed)
 OnReceipt bounds received (Command.MoveColorTemperature mode rate min max options) elapsed from now =
-    MiredsAlone from now (λ a b. Within bounds min max a (λ least most. b ≡ moveTo mode least most (stepsMade rate elapsed) a))
+    Within bounds min max (from .mireds) (λ least most. MiredsAlone from now (λ a b. b ≡ moveTo mode least most (stepsMade rate elapsed) a))
 OnReceipt bounds received (Command.StepColorTemperature mode size time min max options) elapsed from now =
-    MiredsAlone from now
-    (λ a b. Within bounds min max (received .mireds)
-    (λ least most. Reaches a (stepTo mode least most size (received .mireds)) (milliseconds time) elapsed b))
+    Within bounds min max (received .mireds)
+    (λ least most. MiredsAlone from now (λ a b. Reaches a (stepTo mode least most size (received .mireds)) (milliseconds time) elapsed b))
 OnReceipt bounds received (Command.ColorLoopSet flags action direction time startHue options) elapsed from now = Unit
 OnReceipt bounds received (Command.StopMoveStep options) elapsed from now = Unit
