@@ -4,17 +4,25 @@
 use Prim.Native.Nat.{ℕ, _/_, _%_}
 use mathlib.Core.Bool.{Bool, true, false, cond}
 use mathlib.Core.List.{List}
-use mathlib.Core.Path.{_≡_, refl}
+use mathlib.Core.Path.{_≡_, refl, _∙_}
 use lib.Dec.{eqb}
 use Rattle.matter.specs.declared.ColorLoopActionEnum.{ColorLoopActionEnum}
 use Rattle.matter.specs.declared.ColorLoopDirectionEnum.{ColorLoopDirectionEnum}
+use Rattle.matter.specs.declared.Command.{Command}
+use Rattle.matter.specs.declared.CommandOptions.{CommandOptions}
+use Rattle.matter.specs.declared.OnOff.{OnOff}
 use Rattle.matter.specs.Flags.{hasFlag, updateAction}
 use Rattle.tasks.specs.declared.GivenTask.{GivenTask}
 use Rattle.tasks.specs.declared.Task.{Task}
 use Rattle.tasks.specs.declared.ColorLoopRun.{ColorLoopRun}
 use Rattle.tasks.specs.declared.Running.{Running}
+use Rattle.lamp.specs.declared.Answer.{Answer}
 use Rattle.lamp.specs.declared.Lamp.{Lamp}
-use Rattle.commands.specs.Commands.{withLoop, updated, updatedTold, deactivated, activated, acted, loopSet}
+use Rattle.lamp.specs.Answers.{atClock}
+use Rattle.lamp.specs.Typed.{Call, command}
+use Rattle.commands.specs.Answers.{allowed, cause, answer}
+use Rattle.commands.specs.Commands.{withLoop, updated, updatedTold, deactivated, activated, acted, loopSet, commandEffect}
+use Rattle.commands.specs.Kept.{answer-both}
 use Rattle.conformance.specs.MoveToAgrees.{hue-is-set}
 use Rattle.conformance.specs.ColorLoop.{LoopAttributes, updatedBy, activateFrom, deactivate, actedBy, colorLoopSet, Turning, turningBy}
 
@@ -58,26 +66,60 @@ module _ (l : Lamp) (flags : ℕ) (action : ColorLoopActionEnum) (direction : Co
   set-by-flag true e = acted-agrees changed (updatedTold flags) action
   set-by-flag false e = refl
 
-  -- the attributes after the command are the text's
-  pub loop-set-agrees : attributes (loopSet l flags action direction time startHue .lamp) ≡ colorLoopSet flags action direction time startHue (attributes l)
+  set-agrees : attributes (loopSet l flags action direction time startHue .lamp) ≡ colorLoopSet flags action direction time startHue (attributes l)
   unfolding loopSet colorLoopSet updatedBy hasFlag changed
-  loop-set-agrees = set-by-flag (eqb (flags / 1 % 2) 1) refl
+  set-agrees = set-by-flag (eqb (flags / 1 % 2) 1) refl
 
-  -- an activation gives the loop's task, with the direction and the time of the text's loop
-  pub loop-task-from-start : hasFlag flags updateAction ≡ true → action ≡ ColorLoopActionEnum.ActivateFromColorLoopStartEnhancedHue → loopSet l flags action direction time startHue .task ≡ loopTask (turningBy (colorLoopSet flags action direction time startHue (attributes l)))
-  unfolding loopSet activated colorLoopSet actedBy updatedBy hasFlag
-  loop-task-from-start e a = rw (a, e)
+-- ---- an accepted command with leave to run
 
-  pub loop-task-from-current : hasFlag flags updateAction ≡ true → action ≡ ColorLoopActionEnum.ActivateFromEnhancedCurrentHue → loopSet l flags action direction time startHue .task ≡ loopTask (turningBy (colorLoopSet flags action direction time startHue (attributes l)))
-  unfolding loopSet activated colorLoopSet actedBy updatedBy hasFlag
-  loop-task-from-current e a = rw (a, e)
+module _ (l : Lamp) (flags : ℕ) (action : ColorLoopActionEnum) (direction : ColorLoopDirectionEnum) (time startHue : ℕ)
+    (options : CommandOptions) (onOff : OnOff) (clock : ℕ) where
+  abbrev pub setting : Call
+  setting = command (Command.ColorLoopSet flags action direction time startHue options) onOff clock
 
-  -- without the action flag nothing is given and what turns turns on as it did, where the text's loop follows the attributes
-  pub loop-not-followed : hasFlag flags updateAction ≡ false → (loopSet l flags action direction time startHue .task ≡ GivenTask.Nothing) × (loopSet l flags action direction time startHue .lamp .running ≡ l .running)
-  unfolding loopSet
-  loop-not-followed e = (rw e, rw e)
+  -- the attributes that the text's command leaves
+  abbrev pub set : LoopAttributes
+  set = colorLoopSet flags action direction time startHue (attributes l)
+
+  module _ (accepted : cause l setting ≡ 0) (leave : allowed l (Command.ColorLoopSet flags action direction time startHue options) onOff ≡ true) where
+    set-by : (P : Lamp → GivenTask → Type 0) →
+        P (loopSet (atClock l clock) flags action direction time startHue .lamp) (loopSet (atClock l clock) flags action direction time startHue .task) →
+        P (answer l setting .lamp) (answer l setting .task)
+    unfolding commandEffect
+    set-by P p = answer-both l (λ (a : Answer). P (a .lamp) (a .task)) setting (λ e. rw leave p) (λ k. absurd (k accepted))
+
+    -- the attributes after the command are the text's
+    pub loop-set-agrees : attributes (answer l setting .lamp) ≡ set
+    loop-set-agrees = set-by (λ m t. attributes m ≡ set) (set-agrees (atClock l clock) flags action direction time startHue)
+
+    -- an activation gives the loop's task, with the direction and the time of the text's loop
+    pub loop-task-from-start : hasFlag flags updateAction ≡ true → action ≡ ColorLoopActionEnum.ActivateFromColorLoopStartEnhancedHue →
+        answer l setting .task ≡ loopTask (turningBy set)
+    unfolding loopSet activated colorLoopSet actedBy updatedBy hasFlag
+    loop-task-from-start e a = set-by (λ m t. t ≡ loopTask (turningBy set)) (rw (a, e))
+
+    pub loop-task-from-current : hasFlag flags updateAction ≡ true → action ≡ ColorLoopActionEnum.ActivateFromEnhancedCurrentHue →
+        answer l setting .task ≡ loopTask (turningBy set)
+    unfolding loopSet activated colorLoopSet actedBy updatedBy hasFlag
+    loop-task-from-current e a = set-by (λ m t. t ≡ loopTask (turningBy set)) (rw (a, e))
+
+    -- a deactivation of an active loop asks for a stop
+    pub loop-task-off : hasFlag flags updateAction ≡ true → action ≡ ColorLoopActionEnum.Deactivate → l .looping .active ≡ true →
+        answer l setting .task ≡ GivenTask.Given Task.Stop
+    unfolding loopSet deactivated
+    loop-task-off e a h = set-by (λ m t. t ≡ GivenTask.Given Task.Stop) (rw (a, e, h))
+
+    -- without the action flag nothing is given and what turns turns on as it did, where the text's loop follows the attributes
+    pub loop-not-followed : hasFlag flags updateAction ≡ false → (answer l setting .task ≡ GivenTask.Nothing) × (answer l setting .lamp .running ≡ l .running)
+    unfolding loopSet
+    loop-not-followed e = set-by (λ m t. (t ≡ GivenTask.Nothing) × (m .running ≡ l .running)) (rw e, rw e)
 
 -- the smallest: flag 2 alone, and another direction
-pub loop-follow-differs : (l : Lamp) (run : ColorLoopRun) → l .running ≡ Running.ColorLoop run → (turningBy (colorLoopSet 2 ColorLoopActionEnum.Deactivate ColorLoopDirectionEnum.Decrement 0 0 (attributes l)) .direction ≡ ColorLoopDirectionEnum.Decrement) × (loopSet l 2 ColorLoopActionEnum.Deactivate ColorLoopDirectionEnum.Decrement 0 0 .lamp .running ≡ Running.ColorLoop run)
-unfolding loopSet colorLoopSet updatedBy hasFlag
-loop-follow-differs l run e = (refl, e)
+pub loop-follow-differs : (l : Lamp) (run : ColorLoopRun) (options : CommandOptions) (onOff : OnOff) (clock : ℕ) → l .running ≡ Running.ColorLoop run →
+    cause l (setting l 2 ColorLoopActionEnum.Deactivate ColorLoopDirectionEnum.Decrement 0 0 options onOff clock) ≡ 0 →
+    allowed l (Command.ColorLoopSet 2 ColorLoopActionEnum.Deactivate ColorLoopDirectionEnum.Decrement 0 0 options) onOff ≡ true →
+    (turningBy (set l 2 ColorLoopActionEnum.Deactivate ColorLoopDirectionEnum.Decrement 0 0 options onOff clock) .direction ≡ ColorLoopDirectionEnum.Decrement)
+    × (answer l (setting l 2 ColorLoopActionEnum.Deactivate ColorLoopDirectionEnum.Decrement 0 0 options onOff clock) .lamp .running ≡ Running.ColorLoop run)
+unfolding colorLoopSet updatedBy hasFlag
+loop-follow-differs l run options onOff clock e z a =
+    (refl, loop-not-followed l 2 ColorLoopActionEnum.Deactivate ColorLoopDirectionEnum.Decrement 0 0 options onOff clock z a refl .1 ∙ e)
