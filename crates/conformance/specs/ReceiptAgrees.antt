@@ -53,16 +53,13 @@ use Rattle.conformance.specs.Transition.{milliseconds}
 use Rattle.conformance.specs.Steps.{enhancedHueMaximum, saturationMaximum, stepsMade, stepTo, moveTo, hueMoveTo}
 use Rattle.conformance.specs.StepsAgree.{saturation-step-agrees, mireds-step-agrees}
 
--- a task that does what the command asks, wherever and whenever it is started, while it runs and after
-pub record Does (l : Lamp) (c : Command) (task : Task) : Type 0 where
-  pub inForm : taskForm task ≡ true
-  pub follows : (m n : Lamp) (begun : ℕ) → m .bounds ≡ l .bounds → m .color .hue < 65536 → Ran m task begun n → (clock : ℕ) → Lasts n clock → OnReceipt (l .bounds) (l .color) c (clock - begun) (m .color) (n .color)
-
--- and that is given
+-- a task in form that does what the command asks, wherever and whenever it is started, while it runs and after
 pub record Gives (l : Lamp) (c : Command) (given : GivenTask) : Type 0 where
   pub task : Task
   pub is : given ≡ GivenTask.Given task
-  pub does : Does l c task
+  pub inForm : taskForm task ≡ true
+  pub follows : (m n : Lamp) (begun : ℕ) → m .bounds ≡ l .bounds → m .color .hue < 65536 → Ran m task begun n →
+      (clock : ℕ) → Lasts n clock → OnReceipt (l .bounds) (l .color) c (clock - begun) (m .color) (n .color)
 
 -- ---- tasks in form
 
@@ -186,100 +183,109 @@ module _ (l : Lamp) (formed : lampForm l ≡ true) (hued : l .color .hue < 65536
   goes-to to time direction elapsed from now h g =
       record { way = pathDelta (l .color .hue) to direction; goes = directions-agree (l .color .hue) to hued h direction; moves = g }
 
-  gives : (c : Command) (task : Task) → Does l c task → Gives l c (GivenTask.Given task)
-  gives c task d = record { task = task; is = refl; does = d }
-
   does : (c : Command) → TypedCommand c → stopMode c ≡ false → numberCause c ≡ 0 → moves c ≡ true → Gives l c (commandEffect l c .task)
   unfolding commandEffect
   does (Command.MoveToHue hue direction time options) t s z v =
-      gives _ _
-      (record {
-        inForm = hue-form _ time false (way-small (l .color .hue) (stored hue) direction) (t .1);
+      record {
+        task = _;
+        is = refl;
+        inForm = hue-form _ _ _ (way-small (l .color .hue) (stored hue) direction) (t .1);
         follows = λ m n begun b k r clock lasts.
             let g = move-to-follows m begun _ k (fair-saturation r) n r clock lasts in
             record { hue = goes-to (stored hue) time direction _ _ _ (omega (arith, t .0)) (g .hue); saturation = g .saturation; mireds = g .mireds };
-      })
+      }
   does (Command.MoveHue mode rate true options) t s z v =
-      gives _ _
-      (record {
-        inForm = hue-move-form mode rate true s (not-0 rate 1 z) (omega (arith, t .0));
+      record {
+        task = _;
+        is = refl;
+        inForm = hue-move-form mode _ _ s (not-0 rate 1 z) (omega (arith, t .0));
         follows = λ m n begun b k r clock lasts. rw (mul-one rate) (hue-move-follows m begun _ k n r clock lasts);
-      })
+      }
   does (Command.MoveHue mode rate false options) t s z v =
       let some : 0 < rate = not-0 rate 1 z in
-      gives _ _
-      (record {
-        inForm = hue-move-form mode (stored rate) false s (omega arith) (omega (arith, t .0));
+      record {
+        task = _;
+        is = refl;
+        inForm = hue-move-form mode _ _ s (omega arith) (omega (arith, t .0));
         follows = λ m n begun b k r clock lasts. hue-move-follows m begun _ k n r clock lasts;
-      })
+      }
   does (Command.StepHue mode size time options) t s z v =
       let some : 0 < size = not-0 size 1 z in
-      gives _ _
-      (record {
-        inForm = hue-form _ time false (omega (arith, step-size mode (stored size), t .0)) (t .1);
+      record {
+        task = _;
+        is = refl;
+        inForm = hue-form _ _ _ (omega (arith, step-size mode (stored size), t .0)) (t .1);
         follows = λ m n begun b k r clock lasts.
             let g = move-to-follows m begun _ k (fair-saturation r) n r clock lasts in
             record { hue = step-goes mode (stored size) _ _ _ _ (omega arith) (g .hue); saturation = g .saturation; mireds = g .mireds };
-      })
+      }
   does (Command.MoveToSaturation saturation time options) t s z v =
-      gives _ _
-      (record {
-        inForm = saturation-form saturation time (at-most saturation z) (t .1);
+      record {
+        task = _;
+        is = refl;
+        inForm = saturation-form _ _ (at-most saturation z) (t .1);
         follows = λ m n begun b k r clock lasts. move-to-follows m begun _ k (fair-saturation r) n r clock lasts;
-      })
+      }
   does (Command.MoveSaturation mode rate options) t s z v =
-      gives _ _
-      (record {
-        inForm = saturation-move-form mode rate s (not-0 rate 1 z) (omega (arith, t .0));
+      record {
+        task = _;
+        is = refl;
+        inForm = saturation-move-form _ _ s (not-0 rate 1 z) (omega (arith, t .0));
         follows = λ m n begun b k r clock lasts. saturation-move-follows m begun _ (fair-saturation r) n r clock lasts;
-      })
+      }
   does (Command.StepSaturation mode size time options) t s z v =
       let e : saturationStep mode (l .color .saturation) size ≡ stepTo mode 0 saturationMaximum size (l .color .saturation) = saturation-step-agrees mode (l .color .saturation) size fair in
-      gives _ _
-      (record {
-        inForm = saturation-form _ time (step-most mode (l .color .saturation) size fair) (t .1);
+      record {
+        task = _;
+        is = refl;
+        inForm = saturation-form _ _ (step-most mode (l .color .saturation) size fair) (t .1);
         follows = λ m n begun b k r clock lasts.
             let g = move-to-follows m begun _ k (fair-saturation r) n r clock lasts in
             record { hue = g .hue; saturation = subst (λ (to : ℕ). Reaches (m .color .saturation) to (milliseconds time) (clock - begun) (n .color .saturation)) e (g .saturation); mireds = g .mireds };
-      })
+      }
   does (Command.MoveToHueAndSaturation hue saturation time enhanced enhancedHue options) t s z v =
       let to : ℕ = cond enhanced enhancedHue (stored hue) in
       let h : to < 65536 = cond-both (λ n. n < 65536) enhanced enhancedHue (stored hue) (λ e. t .3) (λ e. omega (arith, t .0)) in
-      gives _ _
-      (record {
-        inForm = both-form _ saturation time enhanced (way-small (l .color .hue) to DirectionEnum.Shortest) (at-most-second (not enhanced && ltb 254 hue) saturation z) (t .2);
+      record {
+        task = _;
+        is = refl;
+        inForm = both-form _ _ _ _ (way-small (l .color .hue) to DirectionEnum.Shortest) (at-most-second (not enhanced && ltb 254 hue) saturation z) (t .2);
         follows = λ m n begun b k r clock lasts.
             let g = move-to-follows m begun _ k (fair-saturation r) n r clock lasts in
             record { hue = goes-to to time DirectionEnum.Shortest _ _ _ h (g .hue); saturation = g .saturation; mireds = g .mireds };
-      })
+      }
   does (Command.EnhancedMoveToHue hue direction time options) t s z v =
-      gives _ _
-      (record {
-        inForm = hue-form _ time true (way-small (l .color .hue) hue direction) (t .1);
+      record {
+        task = _;
+        is = refl;
+        inForm = hue-form _ _ _ (way-small (l .color .hue) hue direction) (t .1);
         follows = λ m n begun b k r clock lasts.
             let g = move-to-follows m begun _ k (fair-saturation r) n r clock lasts in
             record { hue = goes-to hue time direction _ _ _ (t .0) (g .hue); saturation = g .saturation; mireds = g .mireds };
-      })
+      }
   does (Command.EnhancedMoveHue mode rate options) t s z v =
-      gives _ _
-      (record {
-        inForm = hue-move-form mode rate true s (not-0 rate 1 z) (omega (arith, t .0));
+      record {
+        task = _;
+        is = refl;
+        inForm = hue-move-form mode _ _ s (not-0 rate 1 z) (omega (arith, t .0));
         follows = λ m n begun b k r clock lasts. hue-move-follows m begun _ k n r clock lasts;
-      })
+      }
   does (Command.EnhancedStepHue mode size time options) t s z v =
       let some : 0 < size = not-0 size 1 z in
-      gives _ _
-      (record {
-        inForm = hue-form _ time true (omega (arith, step-size mode size, t .0)) (t .1);
+      record {
+        task = _;
+        is = refl;
+        inForm = hue-form _ _ _ (omega (arith, step-size mode size, t .0)) (t .1);
         follows = λ m n begun b k r clock lasts.
             let g = move-to-follows m begun _ k (fair-saturation r) n r clock lasts in
             record { hue = step-goes mode size _ _ _ _ some (g .hue); saturation = g .saturation; mireds = g .mireds };
-      })
+      }
   does (Command.MoveToColorTemperature mireds time options) t s z v =
       let selected : ℕ = clamp (l .bounds .min) (l .bounds .max) (pos mireds) in
-      gives _ _
-      (record {
-        inForm = temperature-form selected time (t .1);
+      record {
+        task = _;
+        is = refl;
+        inForm = temperature-form _ _ (t .1);
         follows = λ m n begun b k r clock lasts.
             let g = to-mireds selected time m n begun b (clamp-within (l .bounds .min) (l .bounds .max) (pos mireds) ordered) r clock lasts in
             record {
@@ -287,15 +293,16 @@ module _ (l : Lamp) (formed : lampForm l ≡ true) (hued : l .color .hue < 65536
               saturation = g .saturation;
               mireds = record { selected = selected; closest = closest-agrees (l .bounds .min) (l .bounds .max) mireds ordered; reaches = g .mireds };
             };
-      })
+      }
   does (Command.MoveColorTemperature mode rate min max options) t s z v =
-      gives _ _
-      (record {
-        inForm = mireds-move-form mode rate (asked (l .bounds .min) min) (asked (l .bounds .max) max) s (not-0 rate 1 z) (omega (arith, t .0));
+      record {
+        task = _;
+        is = refl;
+        inForm = mireds-move-form mode rate _ _ s (not-0 rate 1 z) (omega (arith, t .0));
         follows = λ m n begun b k r clock lasts least most ends allow.
             let e : lower (m .bounds) (asked (l .bounds .min) min) ≡ least = ap (λ (q : Bounds). lower q (asked (l .bounds .min) min)) b ∙ least-is (l .bounds) min max least most (m .color .mireds) ends allow in
             let f : upper (m .bounds) (asked (l .bounds .max) max) ≡ most = ap (λ (q : Bounds). upper q (asked (l .bounds .max) max)) b ∙ most-is (l .bounds) min max least most (m .color .mireds) ends allow in
-            let g = mireds-move-follows m begun mode rate (asked (l .bounds .min) min) (asked (l .bounds .max) max) (omega (arith, e, ends .between (m .color .mireds) allow)) (omega (arith, f, ends .between (m .color .mireds) allow)) n r clock lasts in
+            let g = mireds-move-follows m begun mode rate _ _ (omega (arith, e, ends .between (m .color .mireds) allow)) (omega (arith, f, ends .between (m .color .mireds) allow)) n r clock lasts in
             record {
               hue = g .hue;
               saturation = g .saturation;
@@ -304,12 +311,13 @@ module _ (l : Lamp) (formed : lampForm l ≡ true) (hued : l .color .hue < 65536
                   ∙ ap (λ (q : ℕ). moveTo mode q (upper (m .bounds) (asked (l .bounds .max) max)) (stepsMade rate (clock - begun)) (m .color .mireds)) e
                   ∙ ap (λ (q : ℕ). moveTo mode least q (stepsMade rate (clock - begun)) (m .color .mireds)) f;
             };
-      })
+      }
   does (Command.StepColorTemperature mode size time min max options) t s z v =
       let target : ℕ = clamp (lo (l .bounds) min) (hi (l .bounds) max) (pos (l .color .mireds) +ℤ stepWay mode size) in
-      gives _ _
-      (record {
-        inForm = temperature-form target time (t .1);
+      record {
+        task = _;
+        is = refl;
+        inForm = temperature-form _ _ (t .1);
         follows = λ m n begun b k r clock lasts least most ends allow.
             let i : (lo (l .bounds) min ≤ l .color .mireds) × (l .color .mireds ≤ hi (l .bounds) max) = allowed-within (l .bounds) min max (l .color .mireds) allow in
             let w : (lo (l .bounds) min ≤ target) × (target ≤ hi (l .bounds) max) = clamp-within (lo (l .bounds) min) (hi (l .bounds) max) (pos (l .color .mireds) +ℤ stepWay mode size) (omega arith) in
@@ -320,7 +328,7 @@ module _ (l : Lamp) (formed : lampForm l ≡ true) (hued : l .color .hue < 65536
             in
             let g = to-mireds target time m n begun b (omega (arith, w), omega (arith, w)) r clock lasts in
             record { hue = g .hue; saturation = g .saturation; mireds = subst (λ (to : ℕ). Reaches (m .color .mireds) to (milliseconds time) (clock - begun) (n .color .mireds)) e (g .mireds) };
-      })
+      }
   does (Command.ColorLoopSet flags action direction time startHue options) t s z v = absurd (true≢false (sym v))
   does (Command.StopMoveStep options) t s z v = absurd (true≢false (sym v))
 
@@ -339,4 +347,4 @@ module _ (l : Lamp) (c : Command) (onOff : OnOff) (clock : ℕ) where
       (λ k. absurd (k z))
     where
       given : Gives (atClock l clock) c (commandEffect (atClock l clock) c .task) → Gives l c (commandEffect (atClock l clock) c .task)
-      given g = record { task = g .task; is = g .is; does = record { inForm = g .does .inForm; follows = g .does .follows } }
+      given g = record { task = g .task; is = g .is; inForm = g .inForm; follows = g .follows }
