@@ -212,13 +212,14 @@ module _ (m : Lamp) (begun : ℕ) where
         HueFollows (huePass x hueRun .lamp)
     unfolding huePass
     hue-follows x t s r =
-        let now : ℕ = movedHue (m .color .hue) (wayAtRate (signed (task .direction) (task .rate)) (x .clock - begun)) in
-        ( refl,
+        let now : ℕ = movedHue (m .color .hue) (wayAtRate (signed (task .direction) (task .rate)) (x .clock - begun)) in (
+          refl,
           record {
             hue = hue-pass x hueRun t small;
             saturation = hue-saturation (x .color) now false (x .clock) (task .enhanced) ∙ s;
             mireds = hue-mireds (x .color) now false (x .clock) (task .enhanced) ∙ r;
-          } )
+          },
+        )
 
     pub hue-move-follows : (n : Lamp) → Ran m (Task.HueMove task) begun n → (clock : ℕ) → Lasts n clock →
         HueAlone (m .color) (n .color) (λ a b. b ≡ hueMoveTo (task .direction) enhancedHueMaximum (stepsMade (task .rate) (clock - begun)) a)
@@ -354,13 +355,14 @@ module _ (m : Lamp) (begun : ℕ) where
     loop-on : (x : Lamp) → x .color .saturation ≡ m .color .saturation → x .color .mireds ≡ m .color .mireds → LoopFollows (loopPass x loopRun .lamp)
     unfolding loopPass
     loop-on x s r =
-        let now : ℕ = movedHue (m .color .hue) (loopWay (task .direction) (x .clock - begun) (task .seconds)) in
-        ( refl,
+        let now : ℕ = movedHue (m .color .hue) (loopWay (task .direction) (x .clock - begun) (task .seconds)) in (
+          refl,
           record {
             hue = loop-pass x loopRun small;
             saturation = hue-saturation (x .color) now false (x .clock) true ∙ s;
             mireds = hue-mireds (x .color) now false (x .clock) true ∙ r;
-          } )
+          },
+        )
 
     pub loop-follows : (n : Lamp) → Ran m (Task.ColorLoop task) begun n → (clock : ℕ) → Lasts n clock →
         HueAlone (m .color) (n .color) (λ a b. b ≡ hueMoveTo (turnMode (task .direction)) enhancedHueMaximum (loopTurn (clock - begun) (task .seconds)) a)

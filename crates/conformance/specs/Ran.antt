@@ -157,16 +157,18 @@ module _ (m : Lamp) (task : Task) (begun : ℕ) (P : Lamp → Type 0)
     (first : lampForm (atClock m begun) ≡ true → P (started (atClock m begun) task .lamp))
     (next : (x : Lamp) (clock : ℕ) → lampForm (atClock x clock) ≡ true → P x → P (stepped (atClock x clock) (saved m task begun) .lamp)) where
   ran-on : (n : Lamp) → Ran m task begun n → P n × OnOrIdle (saved m task begun) (n .running)
-  ran-on n (began z) =
-      ( answer-both m (λ a. P (a .lamp)) (start task begun) (λ e. first (granted-ready m (start task begun) z)) (λ k. absurd (k z)),
-        start-saves m task begun z )
+  ran-on n (began z) = (
+    answer-both m (λ a. P (a .lamp)) (start task begun) (λ e. first (granted-ready m (start task begun) z)) (λ k. absurd (k z)),
+    start-saves m task begun z,
+  )
   ran-on n (went {x} clock r z) =
       let (p, on) = ran-on x r in
       ⊎-elim
       (λ e. step-by x (saved m task begun) clock (λ y. P y × OnOrIdle (saved m task begun) (y .running)) e z
-      (λ f.
-      ( next x clock f p,
-        ⊎-elim (λ s. s) (λ i. absurd (step-runs x clock z (e ∙ i))) (stepped-so (atClock x clock) (saved m task begun)) )))
+      (λ f. (
+        next x clock f p,
+        ⊎-elim (λ s. s) (λ i. absurd (step-runs x clock z (e ∙ i))) (stepped-so (atClock x clock) (saved m task begun)),
+      )))
       (λ i. absurd (step-runs x clock z i)) on
 
   pub ran-by : (n : Lamp) → Ran m task begun n → P n

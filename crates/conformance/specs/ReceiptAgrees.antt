@@ -183,9 +183,13 @@ module _ (l : Lamp) (formed : lampForm l ≡ true) (hued : l .color .hue < 65536
   goes-to to time direction elapsed from now h g =
       record { way = pathDelta (l .color .hue) to direction; goes = directions-agree (l .color .hue) to hued h direction; moves = g }
 
-  does : (c : Command) → TypedCommand c → stopMode c ≡ false → numberCause c ≡ 0 → moves c ≡ true → Gives l c (commandEffect l c .task)
+  -- a command with good fields, in no Stop mode
+  abbrev Asked : Command → Type 0
+  Asked c = TypedCommand c → stopMode c ≡ false → numberCause c ≡ 0 → Gives l c (commandEffect l c .task)
+
+  move-to-hue-does : (hue : ℕ) (direction : DirectionEnum) (time : ℕ) (options : CommandOptions) → Asked (Command.MoveToHue hue direction time options)
   unfolding commandEffect
-  does (Command.MoveToHue hue direction time options) t s z v =
+  move-to-hue-does hue direction time options t s z =
       record {
         task = _;
         is = refl;
@@ -194,14 +198,17 @@ module _ (l : Lamp) (formed : lampForm l ≡ true) (hued : l .color .hue < 65536
             let g = move-to-follows m begun _ k (fair-saturation r) n r clock lasts in
             record { hue = goes-to (stored hue) time direction _ _ _ (omega (arith, t .0)) (g .hue); saturation = g .saturation; mireds = g .mireds };
       }
-  does (Command.MoveHue mode rate true options) t s z v =
+
+  move-hue-does : (mode : MoveModeEnum) (rate : ℕ) (enhanced : Bool) (options : CommandOptions) → Asked (Command.MoveHue mode rate enhanced options)
+  unfolding commandEffect
+  move-hue-does mode rate true options t s z =
       record {
         task = _;
         is = refl;
         inForm = hue-move-form mode _ _ s (not-0 rate 1 z) (omega (arith, t .0));
         follows = λ m n begun b k r clock lasts. rw (mul-one rate) (hue-move-follows m begun _ k n r clock lasts);
       }
-  does (Command.MoveHue mode rate false options) t s z v =
+  move-hue-does mode rate false options t s z =
       let some : 0 < rate = not-0 rate 1 z in
       record {
         task = _;
@@ -209,7 +216,10 @@ module _ (l : Lamp) (formed : lampForm l ≡ true) (hued : l .color .hue < 65536
         inForm = hue-move-form mode _ _ s (omega arith) (omega (arith, t .0));
         follows = λ m n begun b k r clock lasts. hue-move-follows m begun _ k n r clock lasts;
       }
-  does (Command.StepHue mode size time options) t s z v =
+
+  step-hue-does : (mode : StepModeEnum) (size time : ℕ) (options : CommandOptions) → Asked (Command.StepHue mode size time options)
+  unfolding commandEffect
+  step-hue-does mode size time options t s z =
       let some : 0 < size = not-0 size 1 z in
       record {
         task = _;
@@ -219,21 +229,30 @@ module _ (l : Lamp) (formed : lampForm l ≡ true) (hued : l .color .hue < 65536
             let g = move-to-follows m begun _ k (fair-saturation r) n r clock lasts in
             record { hue = step-goes mode (stored size) _ _ _ _ (omega arith) (g .hue); saturation = g .saturation; mireds = g .mireds };
       }
-  does (Command.MoveToSaturation saturation time options) t s z v =
+
+  move-to-saturation-does : (saturation time : ℕ) (options : CommandOptions) → Asked (Command.MoveToSaturation saturation time options)
+  unfolding commandEffect
+  move-to-saturation-does saturation time options t s z =
       record {
         task = _;
         is = refl;
         inForm = saturation-form _ _ (at-most saturation z) (t .1);
         follows = λ m n begun b k r clock lasts. move-to-follows m begun _ k (fair-saturation r) n r clock lasts;
       }
-  does (Command.MoveSaturation mode rate options) t s z v =
+
+  move-saturation-does : (mode : MoveModeEnum) (rate : ℕ) (options : CommandOptions) → Asked (Command.MoveSaturation mode rate options)
+  unfolding commandEffect
+  move-saturation-does mode rate options t s z =
       record {
         task = _;
         is = refl;
         inForm = saturation-move-form _ _ s (not-0 rate 1 z) (omega (arith, t .0));
         follows = λ m n begun b k r clock lasts. saturation-move-follows m begun _ (fair-saturation r) n r clock lasts;
       }
-  does (Command.StepSaturation mode size time options) t s z v =
+
+  step-saturation-does : (mode : StepModeEnum) (size time : ℕ) (options : CommandOptions) → Asked (Command.StepSaturation mode size time options)
+  unfolding commandEffect
+  step-saturation-does mode size time options t s z =
       let e : saturationStep mode (l .color .saturation) size ≡ stepTo mode 0 saturationMaximum size (l .color .saturation) = saturation-step-agrees mode (l .color .saturation) size fair in
       record {
         task = _;
@@ -243,7 +262,10 @@ module _ (l : Lamp) (formed : lampForm l ≡ true) (hued : l .color .hue < 65536
             let g = move-to-follows m begun _ k (fair-saturation r) n r clock lasts in
             record { hue = g .hue; saturation = subst (λ (to : ℕ). Reaches (m .color .saturation) to (milliseconds time) (clock - begun) (n .color .saturation)) e (g .saturation); mireds = g .mireds };
       }
-  does (Command.MoveToHueAndSaturation hue saturation time enhanced enhancedHue options) t s z v =
+
+  move-to-hue-and-saturation-does : (hue saturation time : ℕ) (enhanced : Bool) (enhancedHue : ℕ) (options : CommandOptions) → Asked (Command.MoveToHueAndSaturation hue saturation time enhanced enhancedHue options)
+  unfolding commandEffect
+  move-to-hue-and-saturation-does hue saturation time enhanced enhancedHue options t s z =
       let to : ℕ = cond enhanced enhancedHue (stored hue) in
       let h : to < 65536 = cond-both (λ n. n < 65536) enhanced enhancedHue (stored hue) (λ e. t .3) (λ e. omega (arith, t .0)) in
       record {
@@ -254,7 +276,10 @@ module _ (l : Lamp) (formed : lampForm l ≡ true) (hued : l .color .hue < 65536
             let g = move-to-follows m begun _ k (fair-saturation r) n r clock lasts in
             record { hue = goes-to to time DirectionEnum.Shortest _ _ _ h (g .hue); saturation = g .saturation; mireds = g .mireds };
       }
-  does (Command.EnhancedMoveToHue hue direction time options) t s z v =
+
+  enhanced-move-to-hue-does : (hue : ℕ) (direction : DirectionEnum) (time : ℕ) (options : CommandOptions) → Asked (Command.EnhancedMoveToHue hue direction time options)
+  unfolding commandEffect
+  enhanced-move-to-hue-does hue direction time options t s z =
       record {
         task = _;
         is = refl;
@@ -263,14 +288,20 @@ module _ (l : Lamp) (formed : lampForm l ≡ true) (hued : l .color .hue < 65536
             let g = move-to-follows m begun _ k (fair-saturation r) n r clock lasts in
             record { hue = goes-to hue time direction _ _ _ (t .0) (g .hue); saturation = g .saturation; mireds = g .mireds };
       }
-  does (Command.EnhancedMoveHue mode rate options) t s z v =
+
+  enhanced-move-hue-does : (mode : MoveModeEnum) (rate : ℕ) (options : CommandOptions) → Asked (Command.EnhancedMoveHue mode rate options)
+  unfolding commandEffect
+  enhanced-move-hue-does mode rate options t s z =
       record {
         task = _;
         is = refl;
         inForm = hue-move-form mode _ _ s (not-0 rate 1 z) (omega (arith, t .0));
         follows = λ m n begun b k r clock lasts. hue-move-follows m begun _ k n r clock lasts;
       }
-  does (Command.EnhancedStepHue mode size time options) t s z v =
+
+  enhanced-step-hue-does : (mode : StepModeEnum) (size time : ℕ) (options : CommandOptions) → Asked (Command.EnhancedStepHue mode size time options)
+  unfolding commandEffect
+  enhanced-step-hue-does mode size time options t s z =
       let some : 0 < size = not-0 size 1 z in
       record {
         task = _;
@@ -280,7 +311,10 @@ module _ (l : Lamp) (formed : lampForm l ≡ true) (hued : l .color .hue < 65536
             let g = move-to-follows m begun _ k (fair-saturation r) n r clock lasts in
             record { hue = step-goes mode size _ _ _ _ some (g .hue); saturation = g .saturation; mireds = g .mireds };
       }
-  does (Command.MoveToColorTemperature mireds time options) t s z v =
+
+  move-to-color-temperature-does : (mireds time : ℕ) (options : CommandOptions) → Asked (Command.MoveToColorTemperature mireds time options)
+  unfolding commandEffect
+  move-to-color-temperature-does mireds time options t s z =
       let selected : ℕ = clamp (l .bounds .min) (l .bounds .max) (pos mireds) in
       record {
         task = _;
@@ -294,7 +328,10 @@ module _ (l : Lamp) (formed : lampForm l ≡ true) (hued : l .color .hue < 65536
               mireds = record { selected = selected; closest = closest-agrees (l .bounds .min) (l .bounds .max) mireds ordered; reaches = g .mireds };
             };
       }
-  does (Command.MoveColorTemperature mode rate min max options) t s z v =
+
+  move-color-temperature-does : (mode : MoveModeEnum) (rate min max : ℕ) (options : CommandOptions) → Asked (Command.MoveColorTemperature mode rate min max options)
+  unfolding commandEffect
+  move-color-temperature-does mode rate min max options t s z =
       record {
         task = _;
         is = refl;
@@ -312,7 +349,10 @@ module _ (l : Lamp) (formed : lampForm l ≡ true) (hued : l .color .hue < 65536
                   ∙ ap (λ (q : ℕ). moveTo mode least q (stepsMade rate (clock - begun)) (m .color .mireds)) f;
             };
       }
-  does (Command.StepColorTemperature mode size time min max options) t s z v =
+
+  step-color-temperature-does : (mode : StepModeEnum) (size time min max : ℕ) (options : CommandOptions) → Asked (Command.StepColorTemperature mode size time min max options)
+  unfolding commandEffect
+  step-color-temperature-does mode size time min max options t s z =
       let target : ℕ = clamp (lo (l .bounds) min) (hi (l .bounds) max) (pos (l .color .mireds) +ℤ stepWay mode size) in
       record {
         task = _;
@@ -329,8 +369,23 @@ module _ (l : Lamp) (formed : lampForm l ≡ true) (hued : l .color .hue < 65536
             let g = to-mireds target time m n begun b (omega (arith, w), omega (arith, w)) r clock lasts in
             record { hue = g .hue; saturation = g .saturation; mireds = subst (λ (to : ℕ). Reaches (m .color .mireds) to (milliseconds time) (clock - begun) (n .color .mireds)) e (g .mireds) };
       }
-  does (Command.ColorLoopSet flags action direction time startHue options) t s z v = absurd (true≢false (sym v))
-  does (Command.StopMoveStep options) t s z v = absurd (true≢false (sym v))
+
+  does : (c : Command) → moves c ≡ true → Asked c
+  does (Command.MoveToHue hue direction time options) v = move-to-hue-does hue direction time options
+  does (Command.MoveHue mode rate enhanced options) v = move-hue-does mode rate enhanced options
+  does (Command.StepHue mode size time options) v = step-hue-does mode size time options
+  does (Command.MoveToSaturation saturation time options) v = move-to-saturation-does saturation time options
+  does (Command.MoveSaturation mode rate options) v = move-saturation-does mode rate options
+  does (Command.StepSaturation mode size time options) v = step-saturation-does mode size time options
+  does (Command.MoveToHueAndSaturation hue saturation time enhanced enhancedHue options) v = move-to-hue-and-saturation-does hue saturation time enhanced enhancedHue options
+  does (Command.EnhancedMoveToHue hue direction time options) v = enhanced-move-to-hue-does hue direction time options
+  does (Command.EnhancedMoveHue mode rate options) v = enhanced-move-hue-does mode rate options
+  does (Command.EnhancedStepHue mode size time options) v = enhanced-step-hue-does mode size time options
+  does (Command.MoveToColorTemperature mireds time options) v = move-to-color-temperature-does mireds time options
+  does (Command.MoveColorTemperature mode rate min max options) v = move-color-temperature-does mode rate min max options
+  does (Command.StepColorTemperature mode size time min max options) v = step-color-temperature-does mode size time min max options
+  does (Command.ColorLoopSet flags action direction time startHue options) v = absurd (true≢false (sym v))
+  does (Command.StopMoveStep options) v = absurd (true≢false (sym v))
 
 module _ (l : Lamp) (c : Command) (onOff : OnOff) (clock : ℕ) where
   -- an accepted command has no cause of its own numbers
@@ -343,7 +398,7 @@ module _ (l : Lamp) (c : Command) (onOff : OnOff) (clock : ℕ) where
   pub receipt-agrees : l .color .hue < 65536 → TypedCommand c → moves c ≡ true → cause l (command c onOff clock) ≡ 0 → allowed l c onOff ≡ true → stopMode c ≡ false → Gives l c (answer l (command c onOff clock) .task)
   receipt-agrees h t v z a s =
       answer-both l (λ r. Gives l c (r .task)) (command c onOff clock)
-      (λ e. rw (s, a) (given (does (atClock l clock) (granted-ready l (command c onOff clock) z) h c t s (no-number s z) v)))
+      (λ e. rw (s, a) (given (does (atClock l clock) (granted-ready l (command c onOff clock) z) h c v t s (no-number s z))))
       (λ k. absurd (k z))
     where
       given : Gives (atClock l clock) c (commandEffect (atClock l clock) c .task) → Gives l c (commandEffect (atClock l clock) c .task)
