@@ -1,5 +1,5 @@
--- After ColorLoopSet the attributes are the text's, for every lamp and every field. A loop that turns is not changed by new
--- attributes, where the text's is.
+-- After ColorLoopSet the attributes are the text's, for every lamp and every field. A loop that turns is not changed
+-- by new attributes, where the text's is.
 -- Assumes nothing.
 use Prim.Native.Nat.{ℕ, _/_, _%_}
 use mathlib.Core.Bool.{Bool, true, false, cond}
@@ -43,7 +43,8 @@ abbrev pub loopTask : Turning → GivenTask
 loopTask t = GivenTask.Given (Task.ColorLoop (record { direction = t .direction; seconds = t .seconds }))
 
 module _ (l : Lamp) (told : List ℕ) where
-  deactivated-by : (t : Bool) → l .looping .active ≡ t → attributes (deactivated l told .lamp) ≡ deactivate (attributes l)
+  deactivated-by : (t : Bool) → l .looping .active ≡ t →
+      attributes (deactivated l told .lamp) ≡ deactivate (attributes l)
   unfolding deactivated
   deactivated-by true e = rw (e, hue-is-set (l .color) (l .looping .stored) true true (l .clock))
   deactivated-by false e = rw e
@@ -58,15 +59,18 @@ module _ (l : Lamp) (told : List ℕ) where
   acted-agrees ColorLoopActionEnum.ActivateFromColorLoopStartEnhancedHue = activated-agrees (l .looping .start)
   acted-agrees ColorLoopActionEnum.ActivateFromEnhancedCurrentHue = activated-agrees (l .color .hue)
 
-module _ (l : Lamp) (flags : ℕ) (action : ColorLoopActionEnum) (direction : ColorLoopDirectionEnum) (time startHue : ℕ) where
+module _ (l : Lamp) (flags : ℕ) (action : ColorLoopActionEnum) (direction : ColorLoopDirectionEnum)
+    (time startHue : ℕ) where
   changed : Lamp
   changed = withLoop l (l .color) (updated (l .looping) flags direction time startHue)
 
-  set-by-flag : (t : Bool) → eqb (flags / 1 % 2) 1 ≡ t → attributes (cond t (acted changed (updatedTold flags) action) (record { lamp = changed; told = updatedTold flags; task = GivenTask.Nothing }) .lamp) ≡ cond t (actedBy action (attributes changed)) (attributes changed)
+  set-by-flag : (t : Bool) → eqb (flags / 1 % 2) 1 ≡ t →
+      attributes (cond t (acted changed (updatedTold flags) action) (record { lamp = changed; told = updatedTold flags; task = GivenTask.Nothing }) .lamp) ≡ cond t (actedBy action (attributes changed)) (attributes changed)
   set-by-flag true e = acted-agrees changed (updatedTold flags) action
   set-by-flag false e = refl
 
-  set-agrees : attributes (loopSet l flags action direction time startHue .lamp) ≡ colorLoopSet flags action direction time startHue (attributes l)
+  set-agrees : attributes (loopSet l flags action direction time startHue .lamp)
+      ≡ colorLoopSet flags action direction time startHue (attributes l)
   unfolding loopSet colorLoopSet updatedBy hasFlag changed
   set-agrees = set-by-flag (eqb (flags / 1 % 2) 1) refl
 
@@ -81,43 +85,54 @@ module _ (l : Lamp) (flags : ℕ) (action : ColorLoopActionEnum) (direction : Co
   abbrev pub set : LoopAttributes
   set = colorLoopSet flags action direction time startHue (attributes l)
 
-  module _ (accepted : cause l setting ≡ 0) (leave : allowed l (Command.ColorLoopSet flags action direction time startHue options) onOff ≡ true) where
+  module _ (accepted : cause l setting ≡ 0)
+      (leave : allowed l (Command.ColorLoopSet flags action direction time startHue options) onOff ≡ true) where
     set-by : (P : Lamp → GivenTask → Type 0) →
-        P (loopSet (atClock l clock) flags action direction time startHue .lamp) (loopSet (atClock l clock) flags action direction time startHue .task) →
+        P (loopSet (atClock l clock) flags action direction time startHue .lamp)
+        (loopSet (atClock l clock) flags action direction time startHue .task) →
         P (answer l setting .lamp) (answer l setting .task)
     unfolding commandEffect
-    set-by P p = answer-both l (λ (a : Answer). P (a .lamp) (a .task)) setting (λ e. rw leave p) (λ k. absurd (k accepted))
+    set-by P p =
+        answer-both l (λ (a : Answer). P (a .lamp) (a .task)) setting (λ e. rw leave p) (λ k. absurd (k accepted))
 
     -- the attributes after the command are the text's
     pub loop-set-agrees : attributes (answer l setting .lamp) ≡ set
-    loop-set-agrees = set-by (λ m t. attributes m ≡ set) (set-agrees (atClock l clock) flags action direction time startHue)
+    loop-set-agrees =
+        set-by (λ m t. attributes m ≡ set) (set-agrees (atClock l clock) flags action direction time startHue)
 
     -- an activation gives the loop's task, with the direction and the time of the text's loop
-    pub loop-task-from-start : hasFlag flags updateAction ≡ true → action ≡ ColorLoopActionEnum.ActivateFromColorLoopStartEnhancedHue →
+    pub loop-task-from-start : hasFlag flags updateAction ≡ true →
+        action ≡ ColorLoopActionEnum.ActivateFromColorLoopStartEnhancedHue →
         answer l setting .task ≡ loopTask (turningBy set)
     unfolding loopSet activated colorLoopSet actedBy updatedBy hasFlag
     loop-task-from-start e a = set-by (λ m t. t ≡ loopTask (turningBy set)) (rw (a, e))
 
-    pub loop-task-from-current : hasFlag flags updateAction ≡ true → action ≡ ColorLoopActionEnum.ActivateFromEnhancedCurrentHue →
+    pub loop-task-from-current : hasFlag flags updateAction ≡ true →
+        action ≡ ColorLoopActionEnum.ActivateFromEnhancedCurrentHue →
         answer l setting .task ≡ loopTask (turningBy set)
     unfolding loopSet activated colorLoopSet actedBy updatedBy hasFlag
     loop-task-from-current e a = set-by (λ m t. t ≡ loopTask (turningBy set)) (rw (a, e))
 
     -- a deactivation of an active loop asks for a stop
-    pub loop-task-off : hasFlag flags updateAction ≡ true → action ≡ ColorLoopActionEnum.Deactivate → l .looping .active ≡ true →
+    pub loop-task-off : hasFlag flags updateAction ≡ true → action ≡ ColorLoopActionEnum.Deactivate →
+        l .looping .active ≡ true →
         answer l setting .task ≡ GivenTask.Given Task.Stop
     unfolding loopSet deactivated
     loop-task-off e a h = set-by (λ m t. t ≡ GivenTask.Given Task.Stop) (rw (a, e, h))
 
-    -- without the action flag nothing is given and what turns turns on as it did, where the text's loop follows the attributes
-    pub loop-not-followed : hasFlag flags updateAction ≡ false → (answer l setting .task ≡ GivenTask.Nothing) × (answer l setting .lamp .running ≡ l .running)
+    -- without the action flag nothing is given and what turns turns on as it did, where the text's loop follows the
+    -- attributes
+    pub loop-not-followed : hasFlag flags updateAction ≡ false →
+        (answer l setting .task ≡ GivenTask.Nothing) × (answer l setting .lamp .running ≡ l .running)
     unfolding loopSet
     loop-not-followed e = set-by (λ m t. (t ≡ GivenTask.Nothing) × (m .running ≡ l .running)) (rw e, rw e)
 
 -- the smallest: flag 2 alone, and another direction
-pub loop-follow-differs : (l : Lamp) (run : ColorLoopRun) (options : CommandOptions) (onOff : OnOff) (clock : ℕ) → l .running ≡ Running.ColorLoop run →
+pub loop-follow-differs : (l : Lamp) (run : ColorLoopRun) (options : CommandOptions) (onOff : OnOff) (clock : ℕ) →
+    l .running ≡ Running.ColorLoop run →
     cause l (setting l 2 ColorLoopActionEnum.Deactivate ColorLoopDirectionEnum.Decrement 0 0 options onOff clock) ≡ 0 →
-    allowed l (Command.ColorLoopSet 2 ColorLoopActionEnum.Deactivate ColorLoopDirectionEnum.Decrement 0 0 options) onOff ≡ true →
+    allowed l (Command.ColorLoopSet 2 ColorLoopActionEnum.Deactivate ColorLoopDirectionEnum.Decrement 0 0 options) onOff
+    ≡ true →
     (turningBy (set l 2 ColorLoopActionEnum.Deactivate ColorLoopDirectionEnum.Decrement 0 0 options onOff clock) .direction ≡ ColorLoopDirectionEnum.Decrement)
     × (answer l (setting l 2 ColorLoopActionEnum.Deactivate ColorLoopDirectionEnum.Decrement 0 0 options onOff clock) .lamp .running ≡ Running.ColorLoop run)
 unfolding colorLoopSet updatedBy hasFlag

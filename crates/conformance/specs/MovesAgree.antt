@@ -1,5 +1,5 @@
--- What a lamp shows in a move at a rate and in the colour loop is the text's, unit by unit (StepsAgree, LoopTurnAgrees): after every
--- accepted step, and from an accepted start on, as long as it runs and after.
+-- What a lamp shows in a move at a rate and in the colour loop is the text's, unit by unit (StepsAgree,
+-- LoopTurnAgrees): after every accepted step, and from an accepted start on, as long as it runs and after.
 -- Assumes nothing.
 use Prim.Native.Nat.{ℕ, _-_, _≤_, _<_}
 use mathlib.Core.Bool.{Bool, true, false, true≢false}
@@ -48,13 +48,15 @@ use Rattle.conformance.specs.StepsAgree.{units-up, units-down, move-agre
 -- ---- the setters
 
 -- they set the number that they are given, whether they tell or not
-saturation-by : (c : Color) (new : ℕ) (end : Bool) (clock : ℕ) (t : Bool) → eqb (c .saturation) new ≡ t → saturationSet c new end clock .saturation ≡ new
+saturation-by : (c : Color) (new : ℕ) (end : Bool) (clock : ℕ) (t : Bool) → eqb (c .saturation) new ≡ t →
+    saturationSet c new end clock .saturation ≡ new
 unfolding saturationSet
 saturation-by c new true clock true e = rw e
 saturation-by c new false clock true e = rw e (eqb-true (c .saturation) new e)
 saturation-by c new end clock false e = rw e
 
-mireds-by : (c : Color) (new : ℕ) (end : Bool) (clock : ℕ) (t : Bool) → eqb (c .mireds) new ≡ t → miredsSet c new end clock .mireds ≡ new
+mireds-by : (c : Color) (new : ℕ) (end : Bool) (clock : ℕ) (t : Bool) → eqb (c .mireds) new ≡ t →
+    miredsSet c new end clock .mireds ≡ new
 unfolding miredsSet
 mireds-by c new true clock true e = rw e
 mireds-by c new false clock true e = rw e (eqb-true (c .mireds) new e)
@@ -70,19 +72,23 @@ module _ (c : Color) (new : ℕ) (end : Bool) (clock : ℕ) where
   -- and leave the other two
   pub hue-saturation : (enhanced : Bool) → hueSet c new end enhanced clock .saturation ≡ c .saturation
   unfolding hueSet
-  hue-saturation enhanced = cond-both (λ (d : Color). d .saturation ≡ c .saturation) (same (c .hue) new end) _ _ (λ e. refl) (λ e. refl)
+  hue-saturation enhanced =
+      cond-both (λ (d : Color). d .saturation ≡ c .saturation) (same (c .hue) new end) _ _ (λ e. refl) (λ e. refl)
 
   pub hue-mireds : (enhanced : Bool) → hueSet c new end enhanced clock .mireds ≡ c .mireds
   unfolding hueSet
-  hue-mireds enhanced = cond-both (λ (d : Color). d .mireds ≡ c .mireds) (same (c .hue) new end) _ _ (λ e. refl) (λ e. refl)
+  hue-mireds enhanced =
+      cond-both (λ (d : Color). d .mireds ≡ c .mireds) (same (c .hue) new end) _ _ (λ e. refl) (λ e. refl)
 
   pub saturation-mireds : saturationSet c new end clock .mireds ≡ c .mireds
   unfolding saturationSet
-  saturation-mireds = cond-both (λ (d : Color). d .mireds ≡ c .mireds) (same (c .saturation) new end) _ _ (λ e. refl) (λ e. refl)
+  saturation-mireds =
+      cond-both (λ (d : Color). d .mireds ≡ c .mireds) (same (c .saturation) new end) _ _ (λ e. refl) (λ e. refl)
 
   pub mireds-saturation : miredsSet c new end clock .saturation ≡ c .saturation
   unfolding miredsSet
-  mireds-saturation = cond-both (λ (d : Color). d .saturation ≡ c .saturation) (same (c .mireds) new end) _ _ (λ e. refl) (λ e. refl)
+  mireds-saturation =
+      cond-both (λ (d : Color). d .saturation ≡ c .saturation) (same (c .mireds) new end) _ _ (λ e. refl) (λ e. refl)
 
 -- ---- one pass
 
@@ -91,28 +97,41 @@ abbrev pub turnMode : ColorLoopDirectionEnum → MoveModeEnum
 turnMode ColorLoopDirectionEnum.Increment = MoveModeEnum.Up
 turnMode ColorLoopDirectionEnum.Decrement = MoveModeEnum.Down
 
-turn-by : (direction : ColorLoopDirectionEnum) (elapsed seconds hue : ℕ) → hue < 65536 → movedHue hue (loopWay direction elapsed seconds) ≡ hueMoveTo (turnMode direction) enhancedHueMaximum (loopTurn elapsed seconds) hue
-turn-by ColorLoopDirectionEnum.Increment elapsed seconds hue h = moved-up hue (loopTurn elapsed seconds) ∙ sym (hue-units-up (loopTurn elapsed seconds) hue h)
-turn-by ColorLoopDirectionEnum.Decrement elapsed seconds hue h = moved-down hue (loopTurn elapsed seconds) ∙ sym (hue-units-down (loopTurn elapsed seconds) hue h)
+turn-by : (direction : ColorLoopDirectionEnum) (elapsed seconds hue : ℕ) → hue < 65536 →
+    movedHue hue (loopWay direction elapsed seconds)
+    ≡ hueMoveTo (turnMode direction) enhancedHueMaximum (loopTurn elapsed seconds) hue
+turn-by ColorLoopDirectionEnum.Increment elapsed seconds hue h =
+    moved-up hue (loopTurn elapsed seconds) ∙ sym (hue-units-up (loopTurn elapsed seconds) hue h)
+turn-by ColorLoopDirectionEnum.Decrement elapsed seconds hue h =
+    moved-down hue (loopTurn elapsed seconds) ∙ sym (hue-units-down (loopTurn elapsed seconds) hue h)
 
 module _ (x : Lamp) where
   hue-pass : (run : HueRun) → x .clock ≤ clockLimit → run .hue < 65536 →
-      huePass x run .lamp .color .hue ≡ hueMoveTo (run .task .direction) enhancedHueMaximum (stepsMade (run .task .rate) (x .clock - run .start)) (run .hue)
+      huePass x run .lamp .color .hue
+      ≡ hueMoveTo (run .task .direction) enhancedHueMaximum (stepsMade (run .task .rate) (x .clock - run .start))
+      (run .hue)
   unfolding huePass
   hue-pass run t h =
-      hue-is-set (x .color) (movedHue (run .hue) (wayAtRate (signed (run .task .direction) (run .task .rate)) (x .clock - run .start))) false (run .task .enhanced) (x .clock)
+      hue-is-set (x .color)
+      (movedHue (run .hue) (wayAtRate (signed (run .task .direction) (run .task .rate)) (x .clock - run .start))) false
+      (run .task .enhanced) (x .clock)
       ∙ hue-move-agrees (run .task .rate) (x .clock - run .start) (omega arith) (run .task .direction) (run .hue) h
 
   saturation-pass : (run : SaturationRun) → x .clock ≤ clockLimit → run .saturation ≤ 254 →
-      saturationPass x run .lamp .color .saturation ≡ moveTo (run .task .direction) 0 saturationMaximum (stepsMade (run .task .rate) (x .clock - run .start)) (run .saturation)
+      saturationPass x run .lamp .color .saturation
+      ≡ moveTo (run .task .direction) 0 saturationMaximum (stepsMade (run .task .rate) (x .clock - run .start))
+      (run .saturation)
   unfolding saturationPass
   saturation-pass run t h =
       let now : ℕ = saturationAt run (x .clock) in
       saturation-is-set (x .color) now (saturationDone (run .task .direction) now) (x .clock)
-      ∙ move-agrees (run .task .rate) (x .clock - run .start) (omega arith) (run .task .direction) 0 254 (run .saturation) (omega arith) h
+      ∙ move-agrees (run .task .rate) (x .clock - run .start) (omega arith) (run .task .direction) 0 254
+      (run .saturation) (omega arith) h
 
-  mireds-pass : (run : ColorTemperatureRun) (mode : MoveModeEnum) (rate : ℕ) → run .rate ≡ signed mode rate → x .clock ≤ clockLimit → run .lo ≤ run .mireds → run .mireds ≤ run .hi →
-      temperaturePass x run .lamp .color .mireds ≡ moveTo mode (run .lo) (run .hi) (stepsMade rate (x .clock - run .start)) (run .mireds)
+  mireds-pass : (run : ColorTemperatureRun) (mode : MoveModeEnum) (rate : ℕ) → run .rate ≡ signed mode rate →
+      x .clock ≤ clockLimit → run .lo ≤ run .mireds → run .mireds ≤ run .hi →
+      temperaturePass x run .lamp .color .mireds
+      ≡ moveTo mode (run .lo) (run .hi) (stepsMade rate (x .clock - run .start)) (run .mireds)
   unfolding temperaturePass
   mireds-pass run mode rate e t low high =
       let now : ℕ = miredsAt run (x .clock) in
@@ -121,10 +140,14 @@ module _ (x : Lamp) where
       ∙ move-agrees rate (x .clock - run .start) (omega arith) mode (run .lo) (run .hi) (run .mireds) low high
 
   loop-pass : (run : ColorLoopRun) → run .hue < 65536 →
-      loopPass x run .lamp .color .hue ≡ hueMoveTo (turnMode (run .task .direction)) enhancedHueMaximum (loopTurn (x .clock - run .start) (run .task .seconds)) (run .hue)
+      loopPass x run .lamp .color .hue
+      ≡ hueMoveTo (turnMode (run .task .direction)) enhancedHueMaximum
+      (loopTurn (x .clock - run .start) (run .task .seconds)) (run .hue)
   unfolding loopPass
   loop-pass run h =
-      hue-is-set (x .color) (movedHue (run .hue) (loopWay (run .task .direction) (x .clock - run .start) (run .task .seconds))) false true (x .clock)
+      hue-is-set (x .color)
+      (movedHue (run .hue) (loopWay (run .task .direction) (x .clock - run .start) (run .task .seconds))) false true
+      (x .clock)
       ∙ turn-by (run .task .direction) (x .clock - run .start) (run .task .seconds) (run .hue) h
 
 -- ---- an accepted step
@@ -132,29 +155,40 @@ module _ (x : Lamp) where
 module _ (l : Lamp) (clock : ℕ) (accepted : cause l (step clock) ≡ 0) where
   -- MoveHue, EnhancedMoveHue: it never ends, and wraps
   pub shown-hue-move : (run : HueRun) → l .running ≡ Running.HueMove run → run .hue < 65536 →
-      answer l (step clock) .lamp .color .hue ≡ hueMoveTo (run .task .direction) enhancedHueMaximum (stepsMade (run .task .rate) (clock - run .start)) (run .hue)
+      answer l (step clock) .lamp .color .hue
+      ≡ hueMoveTo (run .task .direction) enhancedHueMaximum (stepsMade (run .task .rate) (clock - run .start))
+      (run .hue)
   unfolding stepped
   shown-hue-move run e h =
       step-by l (Running.HueMove run) clock
-      (λ y. y .color .hue ≡ hueMoveTo (run .task .direction) enhancedHueMaximum (stepsMade (run .task .rate) (clock - run .start)) (run .hue))
+      (λ y. y .color .hue ≡ hueMoveTo (run .task .direction) enhancedHueMaximum
+      (stepsMade (run .task .rate) (clock - run .start)) (run .hue))
       e accepted (λ f. hue-pass (atClock l clock) run (form-clock (atClock l clock) f) h)
 
-  pub hue-move-goes-on : (run : HueRun) → l .running ≡ Running.HueMove run → answer l (step clock) .lamp .running ≡ Running.HueMove run
+  pub hue-move-goes-on : (run : HueRun) → l .running ≡ Running.HueMove run →
+      answer l (step clock) .lamp .running ≡ Running.HueMove run
   unfolding stepped huePass
-  hue-move-goes-on run e = step-by l (Running.HueMove run) clock (λ y. y .running ≡ Running.HueMove run) e accepted (λ f. refl)
+  hue-move-goes-on run e =
+      step-by l (Running.HueMove run) clock (λ y. y .running ≡ Running.HueMove run) e accepted (λ f. refl)
 
   -- MoveSaturation
   pub shown-saturation-move : (run : SaturationRun) → l .running ≡ Running.SaturationMove run → run .saturation ≤ 254 →
-      answer l (step clock) .lamp .color .saturation ≡ moveTo (run .task .direction) 0 saturationMaximum (stepsMade (run .task .rate) (clock - run .start)) (run .saturation)
+      answer l (step clock) .lamp .color .saturation
+      ≡ moveTo (run .task .direction) 0 saturationMaximum (stepsMade (run .task .rate) (clock - run .start))
+      (run .saturation)
   unfolding stepped
   shown-saturation-move run e h =
       step-by l (Running.SaturationMove run) clock
-      (λ y. y .color .saturation ≡ moveTo (run .task .direction) 0 saturationMaximum (stepsMade (run .task .rate) (clock - run .start)) (run .saturation))
+      (λ y. y .color .saturation ≡ moveTo (run .task .direction) 0 saturationMaximum
+      (stepsMade (run .task .rate) (clock - run .start)) (run .saturation))
       e accepted (λ f. saturation-pass (atClock l clock) run (form-clock (atClock l clock) f) h)
 
   -- MoveColorTemperature, from within its bounds
-  pub shown-mireds-move : (run : ColorTemperatureRun) (mode : MoveModeEnum) (rate : ℕ) → l .running ≡ Running.ColorTemperatureMove run → run .rate ≡ signed mode rate → run .lo ≤ run .mireds → run .mireds ≤ run .hi →
-      answer l (step clock) .lamp .color .mireds ≡ moveTo mode (run .lo) (run .hi) (stepsMade rate (clock - run .start)) (run .mireds)
+  pub shown-mireds-move : (run : ColorTemperatureRun) (mode : MoveModeEnum) (rate : ℕ) →
+      l .running ≡ Running.ColorTemperatureMove run → run .rate ≡ signed mode rate → run .lo ≤ run .mireds →
+      run .mireds ≤ run .hi →
+      answer l (step clock) .lamp .color .mireds
+      ≡ moveTo mode (run .lo) (run .hi) (stepsMade rate (clock - run .start)) (run .mireds)
   unfolding stepped
   shown-mireds-move run mode rate e r low high =
       step-by l (Running.ColorTemperatureMove run) clock
@@ -163,11 +197,14 @@ module _ (l : Lamp) (clock : ℕ) (accepted : cause l (step clock) ≡ 0) where
 
   -- the colour loop
   pub shown-loop : (run : ColorLoopRun) → l .running ≡ Running.ColorLoop run → run .hue < 65536 →
-      answer l (step clock) .lamp .color .hue ≡ hueMoveTo (turnMode (run .task .direction)) enhancedHueMaximum (loopTurn (clock - run .start) (run .task .seconds)) (run .hue)
+      answer l (step clock) .lamp .color .hue
+      ≡ hueMoveTo (turnMode (run .task .direction)) enhancedHueMaximum
+      (loopTurn (clock - run .start) (run .task .seconds)) (run .hue)
   unfolding stepped
   shown-loop run e h =
       step-by l (Running.ColorLoop run) clock
-      (λ y. y .color .hue ≡ hueMoveTo (turnMode (run .task .direction)) enhancedHueMaximum (loopTurn (clock - run .start) (run .task .seconds)) (run .hue))
+      (λ y. y .color .hue ≡ hueMoveTo (turnMode (run .task .direction)) enhancedHueMaximum
+      (loopTurn (clock - run .start) (run .task .seconds)) (run .hue))
       e accepted (λ f. loop-pass (atClock l clock) run h)
 
 -- ---- from an accepted start on
@@ -176,20 +213,25 @@ module _ (l : Lamp) (clock : ℕ) (accepted : cause l (step clock) ≡ 0) where
 steps-more : (rate e f : ℕ) → e ≤ f → stepsMade rate e ≤ stepsMade rate f
 steps-more rate e f h = omega (arith, mul-le-mul-left rate h)
 
-up-stays : (top k j n : ℕ) → n ≤ top → k ≤ j → moveTo MoveModeEnum.Up 0 top k n ≡ top → moveTo MoveModeEnum.Up 0 top j n ≡ top
+up-stays : (top k j n : ℕ) → n ≤ top → k ≤ j → moveTo MoveModeEnum.Up 0 top k n ≡ top →
+    moveTo MoveModeEnum.Up 0 top j n ≡ top
 up-stays top k j n h le e = omega (arith, units-up top k n h, units-up top j n h)
 
-down-stays : (low k j n : ℕ) → low ≤ n → k ≤ j → moveTo MoveModeEnum.Down low 0 k n ≡ low → moveTo MoveModeEnum.Down low 0 j n ≡ low
+down-stays : (low k j n : ℕ) → low ≤ n → k ≤ j → moveTo MoveModeEnum.Down low 0 k n ≡ low →
+    moveTo MoveModeEnum.Down low 0 j n ≡ low
 down-stays low k j n h le e = omega (arith, units-down low k n h, units-down low j n h)
 
-mireds-stay : (mode : MoveModeEnum) (rate lo hi k j n : ℕ) → lo ≤ n → n ≤ hi → k ≤ j → miredsDone (signed mode rate) lo hi (moveTo mode lo hi k n) ≡ true → moveTo mode lo hi j n ≡ moveTo mode lo hi k n
+mireds-stay : (mode : MoveModeEnum) (rate lo hi k j n : ℕ) → lo ≤ n → n ≤ hi → k ≤ j →
+    miredsDone (signed mode rate) lo hi (moveTo mode lo hi k n) ≡ true → moveTo mode lo hi j n ≡ moveTo mode lo hi k n
 mireds-stay MoveModeEnum.Stop rate lo hi k j n low high le e = refl
 mireds-stay MoveModeEnum.Up rate lo hi k j n low high le e =
     let z : moveTo MoveModeEnum.Up lo hi k n ≡ hi = mireds-up-done lo hi _ rate e in up-stays hi k j n high le z ∙ sym z
 mireds-stay MoveModeEnum.Down rate lo hi k j n low high le e =
-    let z : moveTo MoveModeEnum.Down lo hi k n ≡ lo = mireds-down-done lo hi _ rate e in down-stays lo k j n low le z ∙ sym z
+    let z : moveTo MoveModeEnum.Down lo hi k n ≡ lo = mireds-down-done lo hi _ rate e in down-stays lo k j n low le z
+    ∙ sym z
 
-saturation-stays : (mode : MoveModeEnum) (k j n : ℕ) → n ≤ 254 → k ≤ j → saturationDone mode (moveTo mode 0 254 k n) ≡ true → moveTo mode 0 254 j n ≡ moveTo mode 0 254 k n
+saturation-stays : (mode : MoveModeEnum) (k j n : ℕ) → n ≤ 254 → k ≤ j →
+    saturationDone mode (moveTo mode 0 254 k n) ≡ true → moveTo mode 0 254 j n ≡ moveTo mode 0 254 k n
 saturation-stays MoveModeEnum.Stop k j n h le e = refl
 saturation-stays MoveModeEnum.Up k j n h le e =
     let z : moveTo MoveModeEnum.Up 0 254 k n ≡ 254 = eqb-true _ 254 e in up-stays 254 k j n h le z ∙ sym z
@@ -206,13 +248,16 @@ module _ (m : Lamp) (begun : ℕ) where
     abbrev HueFollows : Lamp → Type 0
     HueFollows n =
         (n .running ≡ Running.HueMove hueRun)
-        × HueAlone (m .color) (n .color) (λ a b. b ≡ hueMoveTo (task .direction) enhancedHueMaximum (stepsMade (task .rate) (n .clock - begun)) a)
+        × HueAlone (m .color) (n .color)
+        (λ a b. b ≡ hueMoveTo (task .direction) enhancedHueMaximum (stepsMade (task .rate) (n .clock - begun)) a)
 
-    hue-follows : (x : Lamp) → x .clock ≤ clockLimit → x .color .saturation ≡ m .color .saturation → x .color .mireds ≡ m .color .mireds →
+    hue-follows : (x : Lamp) → x .clock ≤ clockLimit → x .color .saturation ≡ m .color .saturation →
+        x .color .mireds ≡ m .color .mireds →
         HueFollows (huePass x hueRun .lamp)
     unfolding huePass
     hue-follows x t s r =
-        let now : ℕ = movedHue (m .color .hue) (wayAtRate (signed (task .direction) (task .rate)) (x .clock - begun)) in (
+        let now : ℕ = movedHue (m .color .hue)
+        (wayAtRate (signed (task .direction) (task .rate)) (x .clock - begun)) in (
           refl,
           record {
             hue = hue-pass x hueRun t small;
@@ -222,7 +267,8 @@ module _ (m : Lamp) (begun : ℕ) where
         )
 
     pub hue-move-follows : (n : Lamp) → Ran m (Task.HueMove task) begun n → (clock : ℕ) → Lasts n clock →
-        HueAlone (m .color) (n .color) (λ a b. b ≡ hueMoveTo (task .direction) enhancedHueMaximum (stepsMade (task .rate) (clock - begun)) a)
+        HueAlone (m .color) (n .color)
+        (λ a b. b ≡ hueMoveTo (task .direction) enhancedHueMaximum (stepsMade (task .rate) (clock - begun)) a)
     unfolding started stepped
     hue-move-follows n r clock lasts =
         let (on, shows) =
@@ -241,26 +287,33 @@ module _ (m : Lamp) (begun : ℕ) where
     abbrev pub SaturationFollows : Lamp → Type 0
     SaturationFollows n =
         (clock : ℕ) → Lasts n clock →
-        SaturationAlone (m .color) (n .color) (λ a b. b ≡ moveTo (task .direction) 0 saturationMaximum (stepsMade (task .rate) (clock - begun)) a)
+        SaturationAlone (m .color) (n .color)
+        (λ a b. b ≡ moveTo (task .direction) 0 saturationMaximum (stepsMade (task .rate) (clock - begun)) a)
 
-    saturation-later : (x : Lamp) → x .clock ≤ clockLimit → (clock : ℕ) → Lasts (saturationPass x saturationRun .lamp) clock →
+    saturation-later : (x : Lamp) → x .clock ≤ clockLimit → (clock : ℕ) →
+        Lasts (saturationPass x saturationRun .lamp) clock →
         moveTo (task .direction) 0 254 (stepsMade (task .rate) (clock - begun)) (m .color .saturation)
         ≡ moveTo (task .direction) 0 254 (stepsMade (task .rate) (x .clock - begun)) (m .color .saturation)
     unfolding saturationPass
     saturation-later x t clock lasts =
         let now : ℕ = saturationAt saturationRun (x .clock) in
-        let e : now ≡ moveTo (task .direction) 0 254 (stepsMade (task .rate) (x .clock - begun)) (m .color .saturation) =
-        move-agrees (task .rate) (x .clock - begun) (omega arith) (task .direction) 0 254 (m .color .saturation) (omega arith) small
+        let e : now ≡ moveTo (task .direction) 0 254 (stepsMade (task .rate) (x .clock - begun))
+        (m .color .saturation) =
+        move-agrees (task .rate) (x .clock - begun) (omega arith) (task .direction) 0 254 (m .color .saturation)
+        (omega arith) small
         in
         ⊎-elim
         (λ c. rw c)
         (λ i.
-        saturation-stays (task .direction) (stepsMade (task .rate) (x .clock - begun)) (stepsMade (task .rate) (clock - begun)) (m .color .saturation) small
+        saturation-stays (task .direction) (stepsMade (task .rate) (x .clock - begun))
+        (stepsMade (task .rate) (clock - begun)) (m .color .saturation) small
         (steps-more (task .rate) (x .clock - begun) (clock - begun) (omega (arith, i .1)))
-        (ap (saturationDone (task .direction)) (sym e) ∙ idle-done (saturationDone (task .direction) now) (Running.SaturationMove saturationRun) refl (i .0)))
+        (ap (saturationDone (task .direction)) (sym e) ∙ idle-done (saturationDone (task .direction) now)
+        (Running.SaturationMove saturationRun) refl (i .0)))
         lasts
 
-    saturation-follows : (x : Lamp) → x .clock ≤ clockLimit → x .color .hue ≡ m .color .hue → x .color .mireds ≡ m .color .mireds →
+    saturation-follows : (x : Lamp) → x .clock ≤ clockLimit → x .color .hue ≡ m .color .hue →
+        x .color .mireds ≡ m .color .mireds →
         SaturationFollows (saturationPass x saturationRun .lamp)
     unfolding saturationPass
     saturation-follows x t h r clock lasts =
@@ -277,7 +330,8 @@ module _ (m : Lamp) (begun : ℕ) where
     saturation-move-follows n r =
         ran-by m (Task.SaturationMove task) begun SaturationFollows
         (λ f. saturation-follows (atClock m begun) (form-clock _ f) refl refl)
-        (λ x k f p. saturation-follows (atClock x k) (form-clock _ f) (p (x .clock) (inl refl) .hue) (p (x .clock) (inl refl) .mireds))
+        (λ x k f p. saturation-follows (atClock x k) (form-clock _ f) (p (x .clock) (inl refl) .hue)
+        (p (x .clock) (inl refl) .mireds))
         n r
 
   -- MoveColorTemperature
@@ -285,33 +339,48 @@ module _ (m : Lamp) (begun : ℕ) where
       (low : lower (m .bounds) min ≤ m .color .mireds) (high : m .color .mireds ≤ upper (m .bounds) max) where
     abbrev miredsRun : ColorTemperatureRun
     miredsRun =
-        record { start = begun; mireds = m .color .mireds; rate = signed mode rate; lo = lower (m .bounds) min; hi = upper (m .bounds) max }
+        record {
+          start = begun;
+          mireds = m .color .mireds;
+          rate = signed mode rate;
+          lo = lower (m .bounds) min;
+          hi = upper (m .bounds) max;
+        }
 
     abbrev miredsTask : Task
     miredsTask = Task.ColorTemperatureMove (record { rate = signed mode rate; min = min; max = max })
 
     -- so many units on
     abbrev miredsBy : ℕ → ℕ
-    miredsBy elapsed = moveTo mode (lower (m .bounds) min) (upper (m .bounds) max) (stepsMade rate elapsed) (m .color .mireds)
+    miredsBy elapsed =
+        moveTo mode (lower (m .bounds) min) (upper (m .bounds) max) (stepsMade rate elapsed) (m .color .mireds)
 
     abbrev MiredsFollow : Lamp → Type 0
-    MiredsFollow n = (clock : ℕ) → Lasts n clock → MiredsAlone (m .color) (n .color) (λ a b. b ≡ miredsBy (clock - begun))
+    MiredsFollow n =
+        (clock : ℕ) → Lasts n clock → MiredsAlone (m .color) (n .color) (λ a b. b ≡ miredsBy (clock - begun))
 
-    mireds-later : (x : Lamp) → x .clock ≤ clockLimit → (clock : ℕ) → Lasts (temperaturePass x miredsRun .lamp) clock → miredsBy (clock - begun) ≡ miredsBy (x .clock - begun)
+    mireds-later : (x : Lamp) → x .clock ≤ clockLimit → (clock : ℕ) → Lasts (temperaturePass x miredsRun .lamp) clock →
+        miredsBy (clock - begun) ≡ miredsBy (x .clock - begun)
     unfolding temperaturePass
     mireds-later x t clock lasts =
         let now : ℕ = miredsAt miredsRun (x .clock) in
-        let e : now ≡ miredsBy (x .clock - begun) = move-agrees rate (x .clock - begun) (omega arith) mode (lower (m .bounds) min) (upper (m .bounds) max) (m .color .mireds) low high in
+        let e : now ≡ miredsBy (x .clock - begun) =
+        move-agrees rate (x .clock - begun) (omega arith) mode (lower (m .bounds) min) (upper (m .bounds) max)
+        (m .color .mireds) low high
+        in
         ⊎-elim
         (λ c. rw c)
         (λ i.
-        mireds-stay mode rate (lower (m .bounds) min) (upper (m .bounds) max) (stepsMade rate (x .clock - begun)) (stepsMade rate (clock - begun)) (m .color .mireds) low high
+        mireds-stay mode rate (lower (m .bounds) min) (upper (m .bounds) max) (stepsMade rate (x .clock - begun))
+        (stepsMade rate (clock - begun)) (m .color .mireds) low high
         (steps-more rate (x .clock - begun) (clock - begun) (omega (arith, i .1)))
         (ap (miredsDone (signed mode rate) (lower (m .bounds) min) (upper (m .bounds) max)) (sym e)
-        ∙ idle-done (miredsDone (signed mode rate) (lower (m .bounds) min) (upper (m .bounds) max) now) (Running.ColorTemperatureMove miredsRun) refl (i .0)))
+        ∙ idle-done (miredsDone (signed mode rate) (lower (m .bounds) min) (upper (m .bounds) max) now)
+        (Running.ColorTemperatureMove miredsRun) refl (i .0)))
         lasts
 
-    mireds-follow : (x : Lamp) → x .clock ≤ clockLimit → x .color .hue ≡ m .color .hue → x .color .saturation ≡ m .color .saturation →
+    mireds-follow : (x : Lamp) → x .clock ≤ clockLimit → x .color .hue ≡ m .color .hue →
+        x .color .saturation ≡ m .color .saturation →
         MiredsFollow (temperaturePass x miredsRun .lamp)
     unfolding temperaturePass
     mireds-follow x t h s clock lasts =
@@ -324,7 +393,8 @@ module _ (m : Lamp) (begun : ℕ) where
         }
 
     -- where the bounds meet, it is done at once: no unit leads on
-    mireds-still : (k : ℕ) (mode : MoveModeEnum) → upper (m .bounds) max ≤ lower (m .bounds) min → m .color .mireds ≡ moveTo mode (lower (m .bounds) min) (upper (m .bounds) max) k (m .color .mireds)
+    mireds-still : (k : ℕ) (mode : MoveModeEnum) → upper (m .bounds) max ≤ lower (m .bounds) min →
+        m .color .mireds ≡ moveTo mode (lower (m .bounds) min) (upper (m .bounds) max) k (m .color .mireds)
     mireds-still k MoveModeEnum.Stop h = refl
     mireds-still k MoveModeEnum.Up h = omega (arith, units-up (upper (m .bounds) max) k (m .color .mireds) high)
     mireds-still k MoveModeEnum.Down h = omega (arith, units-down (lower (m .bounds) min) k (m .color .mireds) low)
@@ -337,9 +407,15 @@ module _ (m : Lamp) (begun : ℕ) where
         ran-by m miredsTask begun MiredsFollow
         (λ f.
         cond-both (λ (e : Effect). MiredsFollow (e .lamp)) (leb (upper (m .bounds) max) (lower (m .bounds) min)) _ _
-        (λ t clock lasts. record { hue = refl; saturation = refl; mireds = mireds-still (stepsMade rate (clock - begun)) mode (leb-true _ _ t) })
+        (λ t clock lasts. record {
+          hue = refl;
+          saturation = refl;
+          mireds = mireds-still
+              (stepsMade rate (clock - begun)) mode (leb-true _ _ t);
+        })
         (λ t. mireds-follow (atClock m begun) (form-clock _ f) refl refl))
-        (λ x k f p. mireds-follow (atClock x k) (form-clock _ f) (p (x .clock) (inl refl) .hue) (p (x .clock) (inl refl) .saturation))
+        (λ x k f p. mireds-follow (atClock x k) (form-clock _ f) (p (x .clock) (inl refl) .hue)
+        (p (x .clock) (inl refl) .saturation))
         n r
 
   -- the colour loop
@@ -350,9 +426,12 @@ module _ (m : Lamp) (begun : ℕ) where
     abbrev LoopFollows : Lamp → Type 0
     LoopFollows n =
         (n .running ≡ Running.ColorLoop loopRun)
-        × HueAlone (m .color) (n .color) (λ a b. b ≡ hueMoveTo (turnMode (task .direction)) enhancedHueMaximum (loopTurn (n .clock - begun) (task .seconds)) a)
+        × HueAlone (m .color) (n .color)
+        (λ a b. b ≡ hueMoveTo (turnMode (task .direction)) enhancedHueMaximum
+        (loopTurn (n .clock - begun) (task .seconds)) a)
 
-    loop-on : (x : Lamp) → x .color .saturation ≡ m .color .saturation → x .color .mireds ≡ m .color .mireds → LoopFollows (loopPass x loopRun .lamp)
+    loop-on : (x : Lamp) → x .color .saturation ≡ m .color .saturation → x .color .mireds ≡ m .color .mireds →
+        LoopFollows (loopPass x loopRun .lamp)
     unfolding loopPass
     loop-on x s r =
         let now : ℕ = movedHue (m .color .hue) (loopWay (task .direction) (x .clock - begun) (task .seconds)) in (
@@ -365,7 +444,8 @@ module _ (m : Lamp) (begun : ℕ) where
         )
 
     pub loop-follows : (n : Lamp) → Ran m (Task.ColorLoop task) begun n → (clock : ℕ) → Lasts n clock →
-        HueAlone (m .color) (n .color) (λ a b. b ≡ hueMoveTo (turnMode (task .direction)) enhancedHueMaximum (loopTurn (clock - begun) (task .seconds)) a)
+        HueAlone (m .color) (n .color)
+        (λ a b. b ≡ hueMoveTo (turnMode (task .direction)) enhancedHueMaximum (loopTurn (clock - begun) (task .seconds)) a)
     unfolding started stepped
     loop-follows n r clock lasts =
         let (on, shows) =

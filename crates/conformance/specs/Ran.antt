@@ -1,4 +1,5 @@
--- The lamps that an accepted start and accepted steps after it leave; what the start saves, and that the steps run it till nothing runs.
+-- The lamps that an accepted start and accepted steps after it leave; what the start saves, and that the steps run it
+-- till nothing runs.
 -- Assumes nothing.
 use Prim.Native.Nat.{ℕ, _-_, _≤_}
 use mathlib.Core.Bool.{Bool, true, false, true≢false}
@@ -33,16 +34,19 @@ use Rattle.commands.specs.Table.{step-7, step-8}
 -- a start, and steps after it
 pub data Ran (m : Lamp) (task : Task) (begun : ℕ) : Lamp → Type 0 where
   began : cause m (start task begun) ≡ 0 → Ran m task begun (answer m (start task begun) .lamp)
-  went : {x : Lamp} (clock : ℕ) → Ran m task begun x → cause x (step clock) ≡ 0 → Ran m task begun (answer x (step clock) .lamp)
+  went : {x : Lamp} (clock : ℕ) → Ran m task begun x → cause x (step clock) ≡ 0 →
+      Ran m task begun (answer x (step clock) .lamp)
 
 -- the clocks at which a lamp shows what it shows: its own, and every later one where nothing runs
 abbrev pub Lasts : Lamp → ℕ → Type 0
 Lasts n clock = (clock ≡ n .clock) ⊎ ((n .running ≡ Running.Idle) × (n .clock ≤ clock))
 
--- what a start saves: its clock, the numbers that the lamp has then, and the task; the target and the limits of mireds, worked out
+-- what a start saves: its clock, the numbers that the lamp has then, and the task; the target and the limits of
+-- mireds, worked out
 abbrev pub saved : Lamp → Task → ℕ → Running
 saved m (Task.HueSaturationMoveTo task) clock =
-    Running.HueSaturationMoveTo (record { start = clock; hue = m .color .hue; saturation = m .color .saturation; task = task })
+    Running.HueSaturationMoveTo
+    (record { start = clock; hue = m .color .hue; saturation = m .color .saturation; task = task })
 saved m (Task.HueMove task) clock = Running.HueMove (record { start = clock; hue = m .color .hue; task = task })
 saved m (Task.SaturationMove task) clock =
     Running.SaturationMove (record { start = clock; saturation = m .color .saturation; task = task })
@@ -75,13 +79,15 @@ unless-so end run = cond-both (OnOrIdle run) end _ _ (λ e. inr refl) (λ e. inl
 -- the numbers that the moves at a rate have come to
 abbrev pub saturationAt : SaturationRun → ℕ → ℕ
 saturationAt run clock =
-    broughtWithin 0 saturationLimit (run .saturation) (wayAtRate (signed (run .task .direction) (run .task .rate)) (clock - run .start))
+    broughtWithin 0 saturationLimit (run .saturation)
+    (wayAtRate (signed (run .task .direction) (run .task .rate)) (clock - run .start))
 
 abbrev pub miredsAt : ColorTemperatureRun → ℕ → ℕ
 miredsAt run clock = broughtWithin (run .lo) (run .hi) (run .mireds) (wayAtRate (run .rate) (clock - run .start))
 
 module _ (x : Lamp) where
-  move-to-so : (run : HueSaturationRun) (p : ℕ) → OnOrIdle (Running.HueSaturationMoveTo run) (hueSaturationPass x run p .lamp .running)
+  move-to-so : (run : HueSaturationRun) (p : ℕ) →
+      OnOrIdle (Running.HueSaturationMoveTo run) (hueSaturationPass x run p .lamp .running)
   unfolding hueSaturationPass
   move-to-so run p = unless-so (atEnd p) _
 
@@ -94,7 +100,8 @@ module _ (x : Lamp) where
   unfolding temperatureToPass
   mireds-to-so run p = unless-so (atEnd p) _
 
-  mireds-so : (run : ColorTemperatureRun) → OnOrIdle (Running.ColorTemperatureMove run) (temperaturePass x run .lamp .running)
+  mireds-so : (run : ColorTemperatureRun) →
+      OnOrIdle (Running.ColorTemperatureMove run) (temperaturePass x run .lamp .running)
   unfolding temperaturePass
   mireds-so run = unless-so (miredsDone (run .rate) (run .lo) (run .hi) (miredsAt run (x .clock))) _
 
@@ -155,10 +162,12 @@ step-by x run clock P e z h =
 -- what holds after the start, and after each step of what it saved, holds of every lamp that they leave
 module _ (m : Lamp) (task : Task) (begun : ℕ) (P : Lamp → Type 0)
     (first : lampForm (atClock m begun) ≡ true → P (started (atClock m begun) task .lamp))
-    (next : (x : Lamp) (clock : ℕ) → lampForm (atClock x clock) ≡ true → P x → P (stepped (atClock x clock) (saved m task begun) .lamp)) where
+    (next : (x : Lamp) (clock : ℕ) → lampForm (atClock x clock) ≡ true → P x → P
+    (stepped (atClock x clock) (saved m task begun) .lamp)) where
   ran-on : (n : Lamp) → Ran m task begun n → P n × OnOrIdle (saved m task begun) (n .running)
   ran-on n (began z) = (
-    answer-both m (λ a. P (a .lamp)) (start task begun) (λ e. first (granted-ready m (start task begun) z)) (λ k. absurd (k z)),
+    answer-both m (λ a. P (a .lamp)) (start task begun) (λ e. first (granted-ready m (start task begun) z))
+        (λ k. absurd (k z)),
     start-saves m task begun z,
   )
   ran-on n (went {x} clock r z) =

@@ -1,6 +1,6 @@
--- What a command asks of the hue, the saturation and the mireds: Matter Application Cluster Specification, Color Control, "Effect
--- on receipt" of the commands that move a number. Written from that text as known, what stands in quotes too: no copy was at hand.
--- A hue is EnhancedCurrentHue's; a time that has passed is in milliseconds.
+-- What a command asks of the hue, the saturation and the mireds: Matter Application Cluster Specification, Color
+-- Control, "Effect on receipt" of the commands that move a number. Written from that text as known, what stands in
+-- quotes too: no copy was at hand. A hue is EnhancedCurrentHue's; a time that has passed is in milliseconds.
 -- Assumes nothing.
 use Prim.Native.Nat.{ℕ, _*_, _≤_, _<_}
 use mathlib.Core.Bool.{Bool, true, false, cond}
@@ -74,13 +74,16 @@ pub record Each (Hue Saturation Mireds : Type 0) : Type 0 where
 
 -- one of them moves, and the others stay
 abbrev pub HueAlone : Color → Color → (ℕ → ℕ → Type 0) → Type 0
-HueAlone from now So = Each (So (from .hue) (now .hue)) (now .saturation ≡ from .saturation) (now .mireds ≡ from .mireds)
+HueAlone from now So =
+    Each (So (from .hue) (now .hue)) (now .saturation ≡ from .saturation) (now .mireds ≡ from .mireds)
 
 abbrev pub SaturationAlone : Color → Color → (ℕ → ℕ → Type 0) → Type 0
-SaturationAlone from now So = Each (now .hue ≡ from .hue) (So (from .saturation) (now .saturation)) (now .mireds ≡ from .mireds)
+SaturationAlone from now So =
+    Each (now .hue ≡ from .hue) (So (from .saturation) (now .saturation)) (now .mireds ≡ from .mireds)
 
 abbrev pub MiredsAlone : Color → Color → (ℕ → ℕ → Type 0) → Type 0
-MiredsAlone from now So = Each (now .hue ≡ from .hue) (now .saturation ≡ from .saturation) (So (from .mireds) (now .mireds))
+MiredsAlone from now So =
+    Each (now .hue ≡ from .hue) (now .saturation ≡ from .saturation) (So (from .mireds) (now .mireds))
 
 -- the commands that move a number
 abbrev pub moves : Command → Bool
@@ -100,9 +103,9 @@ moves (Command.StepColorTemperature mode size time min max options) = true
 moves (Command.ColorLoopSet flags action direction time startHue options) = false
 moves (Command.StopMoveStep options) = false
 
--- the device's bounds, the numbers on receipt, the command; the time since its movement began, the numbers then, and now. In the text
--- it begins on receipt. MoveToHueAndSaturation has no Direction field: the shortest path is our reading. The moves at a rate are not in
--- Stop mode
+-- the device's bounds, the numbers on receipt, the command; the time since its movement began, the numbers then, and
+-- now. In the text it begins on receipt. MoveToHueAndSaturation has no Direction field: the shortest path is our
+-- reading. The moves at a rate are not in Stop mode
 abbrev pub OnReceipt : Bounds → Color → Command → ℕ → Color → Color → Type 0
 OnReceipt bounds received (Command.MoveToHue hue direction time options) elapsed from now =
     HueAlone from now (Goes-to direction (received .hue) (places false hue) (milliseconds time) elapsed)
@@ -117,9 +120,10 @@ OnReceipt bounds received (Command.MoveSaturation mode rate options) elapsed fro
 OnReceipt bounds received (Command.StepSaturation mode size time options) elapsed from now =
     SaturationAlone from now
     (λ a b. Reaches a (stepTo mode 0 saturationMaximum size (received .saturation)) (milliseconds time) elapsed b)
-OnReceipt bounds received (Command.MoveToHueAndSaturation hue saturation time enhanced enhancedHue options) elapsed from now =
+OnReceipt bounds received (Command.MoveToHueAndSaturation hue saturation time enhanced enhancedHue o) elapsed from now =
     Each
-    (Goes-to DirectionEnum.Shortest (received .hue) (cond enhanced enhancedHue (places false hue)) (milliseconds time) elapsed (from .hue) (now .hue))
+    (Goes-to DirectionEnum.Shortest (received .hue) (cond enhanced enhancedHue (places false hue))
+    (milliseconds time) elapsed (from .hue) (now .hue))
     (Reaches (from .saturation) saturation (milliseconds time) elapsed (now .saturation))
     (now .mireds ≡ from .mireds)
 OnReceipt bounds received (Command.EnhancedMoveToHue hue direction time options) elapsed from now =
@@ -131,9 +135,11 @@ OnReceipt bounds received (Command.EnhancedStepHue mode size time options) elaps
 OnReceipt bounds received (Command.MoveToColorTemperature mireds time options) elapsed from now =
     MiredsAlone from now (Goes-near bounds mireds (milliseconds time) elapsed)
 OnReceipt bounds received (Command.MoveColorTemperature mode rate min max options) elapsed from now =
-    Within bounds min max (from .mireds) (λ least most. MiredsAlone from now (λ a b. b ≡ moveTo mode least most (stepsMade rate elapsed) a))
+    Within bounds min max (from .mireds)
+    (λ least most. MiredsAlone from now (λ a b. b ≡ moveTo mode least most (stepsMade rate elapsed) a))
 OnReceipt bounds received (Command.StepColorTemperature mode size time min max options) elapsed from now =
     Within bounds min max (received .mireds)
-    (λ least most. MiredsAlone from now (λ a b. Reaches a (stepTo mode least most size (received .mireds)) (milliseconds time) elapsed b))
+    (λ least most. MiredsAlone from now
+    (λ a b. Reaches a (stepTo mode least most size (received .mireds)) (milliseconds time) elapsed b))
 OnReceipt bounds received (Command.ColorLoopSet flags action direction time startHue options) elapsed from now = Unit
 OnReceipt bounds received (Command.StopMoveStep options) elapsed from now = Unit

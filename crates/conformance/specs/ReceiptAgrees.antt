@@ -1,5 +1,6 @@
--- Every command that moves a number does what the text asks of it, from its fields to the numbers that a lamp shows: the call is
--- accepted and gives a task in form, and every lamp on which that task is started, and stepped, shows what the text has then.
+-- Every command that moves a number does what the text asks of it, from its fields to the numbers that a lamp shows:
+-- the call is accepted and gives a task in form, and every lamp on which that task is started, and stepped, shows
+-- what the text has then.
 -- Assumes nothing.
 use Prim.Native.Nat.{ℕ, zero, suc, _-_, _*_, _%_, _≤_, _<_, min, max}
 use mathlib.Core.Bool.{Bool, true, false, not, cond, _&&_, _||_, true≢false}
@@ -64,7 +65,8 @@ pub record Gives (l : Lamp) (c : Command) (given : GivenTask) : Type 0 where
 -- ---- tasks in form
 
 time-form : (time : ℕ) → time < 65536 → timeForm (time * 100) ≡ true
-time-form time h = let z : time * 100 % 100 ≡ 0 = omega arith in rw (eq-eqb _ 0 z, le-leb (time * 100) 6553500 (omega arith))
+time-form time h =
+    let z : time * 100 % 100 ≡ 0 = omega arith in rw (eq-eqb _ 0 z, le-leb (time * 100) 6553500 (omega arith))
 
 small-way : (z : ℤ) → natAbs z ≤ 65535 → small z ≡ true
 small-way (pos n) h = rw (le-leb n 65535 h)
@@ -80,7 +82,8 @@ not-0 zero cause e = absurd (omega arith)
 not-0 (suc n) cause e = omega arith
 
 at-most : (n : ℕ) → causeIf (ltb 254 n) 1 ≡ 0 → n ≤ 254
-at-most n e = cond-both (λ (c : ℕ). c ≡ 0 → n ≤ 254) (ltb 254 n) 1 0 (λ t z. absurd (omega arith)) (λ t z. ltb-false 254 n t) e
+at-most n e =
+    cond-both (λ (c : ℕ). c ≡ 0 → n ≤ 254) (ltb 254 n) 1 0 (λ t z. absurd (omega arith)) (λ t z. ltb-false 254 n t) e
 
 at-most-second : (b : Bool) (n : ℕ) → causeIf (b || ltb 254 n) 1 ≡ 0 → n ≤ 254
 at-most-second true n e = absurd (omega arith)
@@ -90,15 +93,18 @@ step-most : (mode : StepModeEnum) (n size : ℕ) → n ≤ 254 → saturationSte
 step-most StepModeEnum.Up n size h = omega arith
 step-most StepModeEnum.Down n size h = omega arith
 
-hue-move-form : (mode : MoveModeEnum) (rate : ℕ) (enhanced : Bool) → isStop mode ≡ false → 0 < rate → rate ≤ 65535 → taskForm (hueMoveTask mode rate enhanced) ≡ true
+hue-move-form : (mode : MoveModeEnum) (rate : ℕ) (enhanced : Bool) → isStop mode ≡ false → 0 < rate → rate ≤ 65535 →
+    taskForm (hueMoveTask mode rate enhanced) ≡ true
 unfolding taskForm hueMoveForm
 hue-move-form mode rate enhanced s p q = all-of _ (lt-ltb 0 rate p, (le-leb rate 65535 q, (not-stop mode s, tt)))
 
-hue-form : (way : ℤ) (time : ℕ) (enhanced : Bool) → natAbs way ≤ 65535 → time < 65536 → taskForm (hueTask way TargetSaturation.Keep time enhanced) ≡ true
+hue-form : (way : ℤ) (time : ℕ) (enhanced : Bool) → natAbs way ≤ 65535 → time < 65536 →
+    taskForm (hueTask way TargetSaturation.Keep time enhanced) ≡ true
 unfolding taskForm moveToForm
 hue-form way time enhanced w t = all-of _ (time-form time t, (small-way way w, (refl, (refl, tt))))
 
-saturation-form : (saturation time : ℕ) → saturation ≤ 254 → time < 65536 → taskForm (saturationTask saturation time) ≡ true
+saturation-form : (saturation time : ℕ) → saturation ≤ 254 → time < 65536 →
+    taskForm (saturationTask saturation time) ≡ true
 unfolding taskForm moveToForm
 saturation-form saturation time s t = all-of _ (time-form time t, (refl, (le-leb saturation 254 s, (refl, tt))))
 
@@ -108,17 +114,20 @@ unfolding taskForm moveToForm
 both-form way saturation time enhanced w s t =
     all-of _ (time-form time t, (small-way way w, (le-leb saturation 254 s, (refl, tt))))
 
-saturation-move-form : (mode : MoveModeEnum) (rate : ℕ) → isStop mode ≡ false → 0 < rate → rate ≤ 255 → taskForm (Task.SaturationMove (record { direction = mode; rate = rate })) ≡ true
+saturation-move-form : (mode : MoveModeEnum) (rate : ℕ) → isStop mode ≡ false → 0 < rate → rate ≤ 255 →
+    taskForm (Task.SaturationMove (record { direction = mode; rate = rate })) ≡ true
 unfolding taskForm saturationMoveForm
 saturation-move-form mode rate s p q = all-of _ (lt-ltb 0 rate p, (le-leb rate 255 q, (not-stop mode s, tt)))
 
-rate-form : (mode : MoveModeEnum) (rate : ℕ) → isStop mode ≡ false → 0 < rate → rate ≤ 65535 → rateForm (signed mode rate) ≡ true
+rate-form : (mode : MoveModeEnum) (rate : ℕ) → isStop mode ≡ false → 0 < rate → rate ≤ 65535 →
+    rateForm (signed mode rate) ≡ true
 rate-form MoveModeEnum.Stop rate s p q = absurd (true≢false s)
 rate-form MoveModeEnum.Up rate s p q = rw (ne-eqb rate 0 (λ e. omega arith), small-way (pos rate) q)
 rate-form MoveModeEnum.Down zero s p q = absurd (omega arith)
 rate-form MoveModeEnum.Down (suc rate) s p q = rw (ne-eqb (suc rate) 0 (λ e. omega arith)) (small-way (negsuc rate) q)
 
-mireds-move-form : (mode : MoveModeEnum) (rate min max : ℕ) → isStop mode ≡ false → 0 < rate → rate ≤ 65535 → taskForm (Task.ColorTemperatureMove (record { rate = signed mode rate; min = min; max = max })) ≡ true
+mireds-move-form : (mode : MoveModeEnum) (rate min max : ℕ) → isStop mode ≡ false → 0 < rate → rate ≤ 65535 →
+    taskForm (Task.ColorTemperatureMove (record { rate = signed mode rate; min = min; max = max })) ≡ true
 unfolding taskForm
 mireds-move-form mode rate min max s p q = rate-form mode rate s p q
 
@@ -132,25 +141,32 @@ step-size : (mode : StepModeEnum) (size : ℕ) → natAbs (stepWay mode size) �
 step-size StepModeEnum.Up size = refl
 step-size StepModeEnum.Down size = abs-neg (pos size)
 
-step-goes : (mode : StepModeEnum) (size time elapsed from now : ℕ) → 0 < size → Goes-by (sense (stepWay mode size)) (natAbs (stepWay mode size)) time elapsed from now → Goes-by mode size time elapsed from now
+step-goes : (mode : StepModeEnum) (size time elapsed from now : ℕ) → 0 < size →
+    Goes-by (sense (stepWay mode size)) (natAbs (stepWay mode size)) time elapsed from now →
+    Goes-by mode size time elapsed from now
 step-goes StepModeEnum.Up size time elapsed from now h g = g
 step-goes StepModeEnum.Down zero time elapsed from now h g = absurd (omega arith)
 step-goes StepModeEnum.Down (suc size) time elapsed from now h g = g
 
 -- ---- the bounds of a mired move or step are the text's
 
-module _ (bounds : Bounds) (minimum maximum least most n : ℕ) (ends : Ends bounds minimum maximum least most) (allow : Allowed bounds minimum maximum n) where
+module _ (bounds : Bounds) (minimum maximum least most n : ℕ) (ends : Ends bounds minimum maximum least most)
+    (allow : Allowed bounds minimum maximum n) where
   in-bounds : (lo bounds minimum ≤ n) × (n ≤ hi bounds maximum)
   in-bounds = allowed-within bounds minimum maximum n allow
 
   least-is : lo bounds minimum ≡ least
   least-is =
-      let a : Allowed bounds minimum maximum (lo bounds minimum) = within-allowed bounds minimum maximum (lo bounds minimum) (omega arith) (omega (arith, in-bounds)) in
+      let a : Allowed bounds minimum maximum (lo bounds minimum) =
+      within-allowed bounds minimum maximum (lo bounds minimum) (omega arith) (omega (arith, in-bounds))
+      in
       omega (arith, ends .between (lo bounds minimum) a, allowed-within bounds minimum maximum least (ends .smallest))
 
   most-is : hi bounds maximum ≡ most
   most-is =
-      let a : Allowed bounds minimum maximum (hi bounds maximum) = within-allowed bounds minimum maximum (hi bounds maximum) (omega (arith, in-bounds)) (omega arith) in
+      let a : Allowed bounds minimum maximum (hi bounds maximum) =
+      within-allowed bounds minimum maximum (hi bounds maximum) (omega (arith, in-bounds)) (omega arith)
+      in
       omega (arith, ends .between (hi bounds maximum) a, allowed-within bounds minimum maximum most (ends .largest))
 
 -- ---- the commands
@@ -164,30 +180,51 @@ module _ (l : Lamp) (formed : lampForm l ≡ true) (hued : l .color .hue < 65536
   fair = form-saturation _ _ _ (form-color l formed)
 
   ordered : l .bounds .min ≤ l .bounds .max
-  ordered = omega (arith, form-above (l .color) (l .bounds) (l .clock) (form-color l formed), form-below (l .color) (l .bounds) (l .clock) (form-color l formed))
+  ordered =
+      omega (
+        arith,
+        form-above (l .color) (l .bounds) (l .clock) (form-color l formed),
+        form-below (l .color)
+            (l .bounds) (l .clock) (form-color l formed),
+      )
 
   -- where a command's task moves mireds to a target within the bounds
-  to-mireds : (target time : ℕ) (m n : Lamp) (begun : ℕ) → m .bounds ≡ l .bounds → (l .bounds .min ≤ target) × (target ≤ l .bounds .max) →
+  to-mireds : (target time : ℕ) (m n : Lamp) (begun : ℕ) → m .bounds ≡ l .bounds →
+      (l .bounds .min ≤ target) × (target ≤ l .bounds .max) →
       Ran m (temperatureTask target time) begun n → (clock : ℕ) → Lasts n clock →
       MiredsAlone (m .color) (n .color) (λ a y. Reaches a target (milliseconds time) (clock - begun) y)
   to-mireds target time m n begun b w r clock lasts =
       let f : colorForm (m .color) (m .bounds) begun ≡ true = form-color (atClock m begun) (ran-form r) in
-      let e : clamp (m .bounds .min) (m .bounds .max) (pos target) ≡ target = rw b (clamp-keeps (l .bounds .min) (l .bounds .max) target (w .0) (w .1)) in
+      let e : clamp (m .bounds .min) (m .bounds .max) (pos target) ≡ target =
+      rw b (clamp-keeps (l .bounds .min) (l .bounds .max) target (w .0) (w .1))
+      in
       let g = mireds-to-follow m begun _ (form-above _ _ _ f) (form-below _ _ _ f) n r clock lasts in
-      record { hue = g .hue; saturation = g .saturation; mireds = subst (λ (to : ℕ). Reaches (m .color .mireds) to (milliseconds time) (clock - begun) (n .color .mireds)) e (g .mireds) }
+      record {
+        hue = g .hue;
+        saturation = g .saturation;
+        mireds =
+            subst (λ (to : ℕ). Reaches (m .color .mireds) to (milliseconds time) (clock - begun) (n .color .mireds)) e
+            (g .mireds);
+      }
 
   -- where a command's task moves a hue to another
   goes-to : (to time : ℕ) (direction : DirectionEnum) (elapsed from now : ℕ) → to < 65536 →
-      Goes-by (sense (pathDelta (l .color .hue) to direction)) (natAbs (pathDelta (l .color .hue) to direction)) (milliseconds time) elapsed from now →
+      Goes-by (sense (pathDelta (l .color .hue) to direction)) (natAbs (pathDelta (l .color .hue) to direction))
+      (milliseconds time) elapsed from now →
       Goes-to direction (l .color .hue) to (milliseconds time) elapsed from now
   goes-to to time direction elapsed from now h g =
-      record { way = pathDelta (l .color .hue) to direction; goes = directions-agree (l .color .hue) to hued h direction; moves = g }
+      record {
+        way = pathDelta (l .color .hue) to direction;
+        goes = directions-agree (l .color .hue) to hued h direction;
+        moves = g;
+      }
 
   -- a command with good fields, in no Stop mode
   abbrev Asked : Command → Type 0
   Asked c = TypedCommand c → stopMode c ≡ false → numberCause c ≡ 0 → Gives l c (commandEffect l c .task)
 
-  move-to-hue-does : (hue : ℕ) (direction : DirectionEnum) (time : ℕ) (options : CommandOptions) → Asked (Command.MoveToHue hue direction time options)
+  move-to-hue-does : (hue : ℕ) (direction : DirectionEnum) (time : ℕ) (options : CommandOptions) →
+      Asked (Command.MoveToHue hue direction time options)
   unfolding commandEffect
   move-to-hue-does hue direction time options t s z =
       record {
@@ -196,10 +233,15 @@ module _ (l : Lamp) (formed : lampForm l ≡ true) (hued : l .color .hue < 65536
         inForm = hue-form _ _ _ (way-small (l .color .hue) (stored hue) direction) (t .1);
         follows = λ m n begun b k r clock lasts.
             let g = move-to-follows m begun _ k (fair-saturation r) n r clock lasts in
-            record { hue = goes-to (stored hue) time direction _ _ _ (omega (arith, t .0)) (g .hue); saturation = g .saturation; mireds = g .mireds };
+            record {
+              hue = goes-to (stored hue) time direction _ _ _ (omega (arith, t .0)) (g .hue);
+              saturation = g .saturation;
+              mireds = g .mireds;
+            };
       }
 
-  move-hue-does : (mode : MoveModeEnum) (rate : ℕ) (enhanced : Bool) (options : CommandOptions) → Asked (Command.MoveHue mode rate enhanced options)
+  move-hue-does : (mode : MoveModeEnum) (rate : ℕ) (enhanced : Bool) (options : CommandOptions) →
+      Asked (Command.MoveHue mode rate enhanced options)
   unfolding commandEffect
   move-hue-does mode rate true options t s z =
       record {
@@ -217,7 +259,8 @@ module _ (l : Lamp) (formed : lampForm l ≡ true) (hued : l .color .hue < 65536
         follows = λ m n begun b k r clock lasts. hue-move-follows m begun _ k n r clock lasts;
       }
 
-  step-hue-does : (mode : StepModeEnum) (size time : ℕ) (options : CommandOptions) → Asked (Command.StepHue mode size time options)
+  step-hue-does : (mode : StepModeEnum) (size time : ℕ) (options : CommandOptions) →
+      Asked (Command.StepHue mode size time options)
   unfolding commandEffect
   step-hue-does mode size time options t s z =
       let some : 0 < size = not-0 size 1 z in
@@ -227,10 +270,15 @@ module _ (l : Lamp) (formed : lampForm l ≡ true) (hued : l .color .hue < 65536
         inForm = hue-form _ _ _ (omega (arith, step-size mode (stored size), t .0)) (t .1);
         follows = λ m n begun b k r clock lasts.
             let g = move-to-follows m begun _ k (fair-saturation r) n r clock lasts in
-            record { hue = step-goes mode (stored size) _ _ _ _ (omega arith) (g .hue); saturation = g .saturation; mireds = g .mireds };
+            record {
+              hue = step-goes mode (stored size) _ _ _ _ (omega arith) (g .hue);
+              saturation = g .saturation;
+              mireds = g .mireds;
+            };
       }
 
-  move-to-saturation-does : (saturation time : ℕ) (options : CommandOptions) → Asked (Command.MoveToSaturation saturation time options)
+  move-to-saturation-does : (saturation time : ℕ) (options : CommandOptions) →
+      Asked (Command.MoveToSaturation saturation time options)
   unfolding commandEffect
   move-to-saturation-does saturation time options t s z =
       record {
@@ -240,7 +288,8 @@ module _ (l : Lamp) (formed : lampForm l ≡ true) (hued : l .color .hue < 65536
         follows = λ m n begun b k r clock lasts. move-to-follows m begun _ k (fair-saturation r) n r clock lasts;
       }
 
-  move-saturation-does : (mode : MoveModeEnum) (rate : ℕ) (options : CommandOptions) → Asked (Command.MoveSaturation mode rate options)
+  move-saturation-does : (mode : MoveModeEnum) (rate : ℕ) (options : CommandOptions) →
+      Asked (Command.MoveSaturation mode rate options)
   unfolding commandEffect
   move-saturation-does mode rate options t s z =
       record {
@@ -250,34 +299,55 @@ module _ (l : Lamp) (formed : lampForm l ≡ true) (hued : l .color .hue < 65536
         follows = λ m n begun b k r clock lasts. saturation-move-follows m begun _ (fair-saturation r) n r clock lasts;
       }
 
-  step-saturation-does : (mode : StepModeEnum) (size time : ℕ) (options : CommandOptions) → Asked (Command.StepSaturation mode size time options)
+  step-saturation-does : (mode : StepModeEnum) (size time : ℕ) (options : CommandOptions) →
+      Asked (Command.StepSaturation mode size time options)
   unfolding commandEffect
   step-saturation-does mode size time options t s z =
-      let e : saturationStep mode (l .color .saturation) size ≡ stepTo mode 0 saturationMaximum size (l .color .saturation) = saturation-step-agrees mode (l .color .saturation) size fair in
+      let e : saturationStep mode (l .color .saturation) size ≡ stepTo mode 0 saturationMaximum size
+      (l .color .saturation) =
+      saturation-step-agrees mode (l .color .saturation) size fair
+      in
       record {
         task = _;
         is = refl;
         inForm = saturation-form _ _ (step-most mode (l .color .saturation) size fair) (t .1);
         follows = λ m n begun b k r clock lasts.
             let g = move-to-follows m begun _ k (fair-saturation r) n r clock lasts in
-            record { hue = g .hue; saturation = subst (λ (to : ℕ). Reaches (m .color .saturation) to (milliseconds time) (clock - begun) (n .color .saturation)) e (g .saturation); mireds = g .mireds };
+            record {
+              hue = g .hue;
+              saturation =
+                  subst (λ (to : ℕ). Reaches (m .color .saturation) to (milliseconds time) (clock - begun)
+                  (n .color .saturation)) e (g .saturation);
+              mireds = g .mireds;
+            };
       }
 
-  move-to-hue-and-saturation-does : (hue saturation time : ℕ) (enhanced : Bool) (enhancedHue : ℕ) (options : CommandOptions) → Asked (Command.MoveToHueAndSaturation hue saturation time enhanced enhancedHue options)
+  move-to-hue-and-saturation-does : (hue saturation time : ℕ) (enhanced : Bool) (enhancedHue : ℕ)
+      (options : CommandOptions) →
+      Asked (Command.MoveToHueAndSaturation hue saturation time enhanced enhancedHue options)
   unfolding commandEffect
   move-to-hue-and-saturation-does hue saturation time enhanced enhancedHue options t s z =
       let to : ℕ = cond enhanced enhancedHue (stored hue) in
-      let h : to < 65536 = cond-both (λ n. n < 65536) enhanced enhancedHue (stored hue) (λ e. t .3) (λ e. omega (arith, t .0)) in
+      let h : to < 65536 =
+      cond-both (λ n. n < 65536) enhanced enhancedHue (stored hue) (λ e. t .3) (λ e. omega (arith, t .0))
+      in
       record {
         task = _;
         is = refl;
-        inForm = both-form _ _ _ _ (way-small (l .color .hue) to DirectionEnum.Shortest) (at-most-second (not enhanced && ltb 254 hue) saturation z) (t .2);
+        inForm =
+            both-form _ _ _ _ (way-small (l .color .hue) to DirectionEnum.Shortest)
+            (at-most-second (not enhanced && ltb 254 hue) saturation z) (t .2);
         follows = λ m n begun b k r clock lasts.
             let g = move-to-follows m begun _ k (fair-saturation r) n r clock lasts in
-            record { hue = goes-to to time DirectionEnum.Shortest _ _ _ h (g .hue); saturation = g .saturation; mireds = g .mireds };
+            record {
+              hue = goes-to to time DirectionEnum.Shortest _ _ _ h (g .hue);
+              saturation = g .saturation;
+              mireds = g .mireds;
+            };
       }
 
-  enhanced-move-to-hue-does : (hue : ℕ) (direction : DirectionEnum) (time : ℕ) (options : CommandOptions) → Asked (Command.EnhancedMoveToHue hue direction time options)
+  enhanced-move-to-hue-does : (hue : ℕ) (direction : DirectionEnum) (time : ℕ) (options : CommandOptions) →
+      Asked (Command.EnhancedMoveToHue hue direction time options)
   unfolding commandEffect
   enhanced-move-to-hue-does hue direction time options t s z =
       record {
@@ -286,10 +356,15 @@ module _ (l : Lamp) (formed : lampForm l ≡ true) (hued : l .color .hue < 65536
         inForm = hue-form _ _ _ (way-small (l .color .hue) hue direction) (t .1);
         follows = λ m n begun b k r clock lasts.
             let g = move-to-follows m begun _ k (fair-saturation r) n r clock lasts in
-            record { hue = goes-to hue time direction _ _ _ (t .0) (g .hue); saturation = g .saturation; mireds = g .mireds };
+            record {
+              hue = goes-to hue time direction _ _ _ (t .0) (g .hue);
+              saturation = g .saturation;
+              mireds = g .mireds;
+            };
       }
 
-  enhanced-move-hue-does : (mode : MoveModeEnum) (rate : ℕ) (options : CommandOptions) → Asked (Command.EnhancedMoveHue mode rate options)
+  enhanced-move-hue-does : (mode : MoveModeEnum) (rate : ℕ) (options : CommandOptions) →
+      Asked (Command.EnhancedMoveHue mode rate options)
   unfolding commandEffect
   enhanced-move-hue-does mode rate options t s z =
       record {
@@ -299,7 +374,8 @@ module _ (l : Lamp) (formed : lampForm l ≡ true) (hued : l .color .hue < 65536
         follows = λ m n begun b k r clock lasts. hue-move-follows m begun _ k n r clock lasts;
       }
 
-  enhanced-step-hue-does : (mode : StepModeEnum) (size time : ℕ) (options : CommandOptions) → Asked (Command.EnhancedStepHue mode size time options)
+  enhanced-step-hue-does : (mode : StepModeEnum) (size time : ℕ) (options : CommandOptions) →
+      Asked (Command.EnhancedStepHue mode size time options)
   unfolding commandEffect
   enhanced-step-hue-does mode size time options t s z =
       let some : 0 < size = not-0 size 1 z in
@@ -312,7 +388,8 @@ module _ (l : Lamp) (formed : lampForm l ≡ true) (hued : l .color .hue < 65536
             record { hue = step-goes mode size _ _ _ _ some (g .hue); saturation = g .saturation; mireds = g .mireds };
       }
 
-  move-to-color-temperature-does : (mireds time : ℕ) (options : CommandOptions) → Asked (Command.MoveToColorTemperature mireds time options)
+  move-to-color-temperature-does : (mireds time : ℕ) (options : CommandOptions) →
+      Asked (Command.MoveToColorTemperature mireds time options)
   unfolding commandEffect
   move-to-color-temperature-does mireds time options t s z =
       let selected : ℕ = clamp (l .bounds .min) (l .bounds .max) (pos mireds) in
@@ -321,15 +398,24 @@ module _ (l : Lamp) (formed : lampForm l ≡ true) (hued : l .color .hue < 65536
         is = refl;
         inForm = temperature-form _ _ (t .1);
         follows = λ m n begun b k r clock lasts.
-            let g = to-mireds selected time m n begun b (clamp-within (l .bounds .min) (l .bounds .max) (pos mireds) ordered) r clock lasts in
+            let g =
+            to-mireds selected time m n begun b
+            (clamp-within (l .bounds .min) (l .bounds .max) (pos mireds) ordered) r clock lasts
+            in
             record {
               hue = g .hue;
               saturation = g .saturation;
-              mireds = record { selected = selected; closest = closest-agrees (l .bounds .min) (l .bounds .max) mireds ordered; reaches = g .mireds };
+              mireds =
+                  record {
+                    selected = selected;
+                    closest = closest-agrees (l .bounds .min) (l .bounds .max) mireds ordered;
+                    reaches = g .mireds;
+                  };
             };
       }
 
-  move-color-temperature-does : (mode : MoveModeEnum) (rate min max : ℕ) (options : CommandOptions) → Asked (Command.MoveColorTemperature mode rate min max options)
+  move-color-temperature-does : (mode : MoveModeEnum) (rate min max : ℕ) (options : CommandOptions) →
+      Asked (Command.MoveColorTemperature mode rate min max options)
   unfolding commandEffect
   move-color-temperature-does mode rate min max options t s z =
       record {
@@ -337,20 +423,31 @@ module _ (l : Lamp) (formed : lampForm l ≡ true) (hued : l .color .hue < 65536
         is = refl;
         inForm = mireds-move-form mode rate _ _ s (not-0 rate 1 z) (omega (arith, t .0));
         follows = λ m n begun b k r clock lasts least most ends allow.
-            let e : lower (m .bounds) (asked (l .bounds .min) min) ≡ least = ap (λ (q : Bounds). lower q (asked (l .bounds .min) min)) b ∙ least-is (l .bounds) min max least most (m .color .mireds) ends allow in
-            let f : upper (m .bounds) (asked (l .bounds .max) max) ≡ most = ap (λ (q : Bounds). upper q (asked (l .bounds .max) max)) b ∙ most-is (l .bounds) min max least most (m .color .mireds) ends allow in
-            let g = mireds-move-follows m begun mode rate _ _ (omega (arith, e, ends .between (m .color .mireds) allow)) (omega (arith, f, ends .between (m .color .mireds) allow)) n r clock lasts in
+            let e : lower (m .bounds) (asked (l .bounds .min) min) ≡ least =
+            ap (λ (q : Bounds). lower q (asked (l .bounds .min) min)) b ∙ least-is (l .bounds) min max least most
+            (m .color .mireds) ends allow
+            in
+            let f : upper (m .bounds) (asked (l .bounds .max) max) ≡ most =
+            ap (λ (q : Bounds). upper q (asked (l .bounds .max) max)) b ∙ most-is (l .bounds) min max least most
+            (m .color .mireds) ends allow
+            in
+            let g =
+            mireds-move-follows m begun mode rate _ _ (omega (arith, e, ends .between (m .color .mireds) allow))
+            (omega (arith, f, ends .between (m .color .mireds) allow)) n r clock lasts
+            in
             record {
               hue = g .hue;
               saturation = g .saturation;
               mireds =
                   g .mireds
-                  ∙ ap (λ (q : ℕ). moveTo mode q (upper (m .bounds) (asked (l .bounds .max) max)) (stepsMade rate (clock - begun)) (m .color .mireds)) e
+                  ∙ ap (λ (q : ℕ). moveTo mode q (upper (m .bounds) (asked (l .bounds .max) max))
+                  (stepsMade rate (clock - begun)) (m .color .mireds)) e
                   ∙ ap (λ (q : ℕ). moveTo mode least q (stepsMade rate (clock - begun)) (m .color .mireds)) f;
             };
       }
 
-  step-color-temperature-does : (mode : StepModeEnum) (size time min max : ℕ) (options : CommandOptions) → Asked (Command.StepColorTemperature mode size time min max options)
+  step-color-temperature-does : (mode : StepModeEnum) (size time min max : ℕ) (options : CommandOptions) →
+      Asked (Command.StepColorTemperature mode size time min max options)
   unfolding commandEffect
   step-color-temperature-does mode size time min max options t s z =
       let target : ℕ = clamp (lo (l .bounds) min) (hi (l .bounds) max) (pos (l .color .mireds) +ℤ stepWay mode size) in
@@ -359,15 +456,28 @@ module _ (l : Lamp) (formed : lampForm l ≡ true) (hued : l .color .hue < 65536
         is = refl;
         inForm = temperature-form _ _ (t .1);
         follows = λ m n begun b k r clock lasts least most ends allow.
-            let i : (lo (l .bounds) min ≤ l .color .mireds) × (l .color .mireds ≤ hi (l .bounds) max) = allowed-within (l .bounds) min max (l .color .mireds) allow in
-            let w : (lo (l .bounds) min ≤ target) × (target ≤ hi (l .bounds) max) = clamp-within (lo (l .bounds) min) (hi (l .bounds) max) (pos (l .color .mireds) +ℤ stepWay mode size) (omega arith) in
+            let i : (lo (l .bounds) min ≤ l .color .mireds) × (l .color .mireds ≤ hi (l .bounds) max) =
+            allowed-within (l .bounds) min max (l .color .mireds) allow
+            in
+            let w : (lo (l .bounds) min ≤ target) × (target ≤ hi (l .bounds) max) =
+            clamp-within (lo (l .bounds) min) (hi (l .bounds) max) (pos (l .color .mireds) +ℤ stepWay mode size)
+            (omega arith)
+            in
             let e : target ≡ stepTo mode least most size (l .color .mireds) =
             mireds-step-agrees (lo (l .bounds) min) (hi (l .bounds) max) (l .color .mireds) size (i .0) (i .1) mode
-            ∙ ap (λ (q : ℕ). stepTo mode q (hi (l .bounds) max) size (l .color .mireds)) (least-is (l .bounds) min max least most (l .color .mireds) ends allow)
-            ∙ ap (λ (q : ℕ). stepTo mode least q size (l .color .mireds)) (most-is (l .bounds) min max least most (l .color .mireds) ends allow)
+            ∙ ap (λ (q : ℕ). stepTo mode q (hi (l .bounds) max) size (l .color .mireds))
+            (least-is (l .bounds) min max least most (l .color .mireds) ends allow)
+            ∙ ap (λ (q : ℕ). stepTo mode least q size (l .color .mireds))
+            (most-is (l .bounds) min max least most (l .color .mireds) ends allow)
             in
             let g = to-mireds target time m n begun b (omega (arith, w), omega (arith, w)) r clock lasts in
-            record { hue = g .hue; saturation = g .saturation; mireds = subst (λ (to : ℕ). Reaches (m .color .mireds) to (milliseconds time) (clock - begun) (n .color .mireds)) e (g .mireds) };
+            record {
+              hue = g .hue;
+              saturation = g .saturation;
+              mireds =
+                  subst (λ (to : ℕ). Reaches (m .color .mireds) to (milliseconds time) (clock - begun)
+                  (n .color .mireds)) e (g .mireds);
+            };
       }
 
   does : (c : Command) → moves c ≡ true → Asked c
@@ -377,13 +487,16 @@ module _ (l : Lamp) (formed : lampForm l ≡ true) (hued : l .color .hue < 65536
   does (Command.MoveToSaturation saturation time options) v = move-to-saturation-does saturation time options
   does (Command.MoveSaturation mode rate options) v = move-saturation-does mode rate options
   does (Command.StepSaturation mode size time options) v = step-saturation-does mode size time options
-  does (Command.MoveToHueAndSaturation hue saturation time enhanced enhancedHue options) v = move-to-hue-and-saturation-does hue saturation time enhanced enhancedHue options
+  does (Command.MoveToHueAndSaturation hue saturation time enhanced enhancedHue options) v =
+      move-to-hue-and-saturation-does hue saturation time enhanced enhancedHue options
   does (Command.EnhancedMoveToHue hue direction time options) v = enhanced-move-to-hue-does hue direction time options
   does (Command.EnhancedMoveHue mode rate options) v = enhanced-move-hue-does mode rate options
   does (Command.EnhancedStepHue mode size time options) v = enhanced-step-hue-does mode size time options
   does (Command.MoveToColorTemperature mireds time options) v = move-to-color-temperature-does mireds time options
-  does (Command.MoveColorTemperature mode rate min max options) v = move-color-temperature-does mode rate min max options
-  does (Command.StepColorTemperature mode size time min max options) v = step-color-temperature-does mode size time min max options
+  does (Command.MoveColorTemperature mode rate min max options) v =
+      move-color-temperature-does mode rate min max options
+  does (Command.StepColorTemperature mode size time min max options) v =
+      step-color-temperature-does mode size time min max options
   does (Command.ColorLoopSet flags action direction time startHue options) v = absurd (true≢false (sym v))
   does (Command.StopMoveStep options) v = absurd (true≢false (sym v))
 
@@ -395,11 +508,14 @@ module _ (l : Lamp) (c : Command) (onOff : OnOff) (clock : ℕ) where
       no-cause (numberCause c) _ (rw s at (no-cause (formOrClock l clock) (afterClock l c onOff) z .1)) .0
 
   -- an accepted command with leave to run, in no Stop mode, does what the text asks
-  pub receipt-agrees : l .color .hue < 65536 → TypedCommand c → moves c ≡ true → cause l (command c onOff clock) ≡ 0 → allowed l c onOff ≡ true → stopMode c ≡ false → Gives l c (answer l (command c onOff clock) .task)
+  pub receipt-agrees : l .color .hue < 65536 → TypedCommand c → moves c ≡ true → cause l (command c onOff clock) ≡ 0 →
+      allowed l c onOff ≡ true → stopMode c ≡ false → Gives l c (answer l (command c onOff clock) .task)
   receipt-agrees h t v z a s =
       answer-both l (λ r. Gives l c (r .task)) (command c onOff clock)
-      (λ e. rw (s, a) (given (does (atClock l clock) (granted-ready l (command c onOff clock) z) h c v t s (no-number s z))))
+      (λ e. rw (s, a) (given
+      (does (atClock l clock) (granted-ready l (command c onOff clock) z) h c v t s (no-number s z))))
       (λ k. absurd (k z))
     where
-      given : Gives (atClock l clock) c (commandEffect (atClock l clock) c .task) → Gives l c (commandEffect (atClock l clock) c .task)
+      given : Gives (atClock l clock) c (commandEffect (atClock l clock) c .task) →
+          Gives l c (commandEffect (atClock l clock) c .task)
       given g = record { task = g .task; is = g .is; inForm = g .inForm; follows = g .follows }
