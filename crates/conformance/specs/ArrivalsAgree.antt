@@ -7,18 +7,17 @@ use mathlib.Core.Logic.{_⊎_, inl, inr, ⊎-elim}
 use mathlib.Core.Path.{_≡_, refl, sym, ap, _∙_}
 use native.Mathlib.Nat.{zero-div}
 use native.Mathlib.Omega.{arith}
-use lib.Dec.{leb, eqb}
+use lib.Dec.{eqb}
 use lib.IntN.{ℤ, pos, negsuc, natAbs, _-ℤ_, _*ℤ_, *ℤ-zero}
 use lib.Signed.{quotZ}
 use borrow.Author.Tests.{eqb-true, leb-true}
-use Rattle.matter.specs.declared.Bounds.{Bounds}
 use Rattle.matter.specs.declared.StepModeEnum.{StepModeEnum}
 use Rattle.matter.specs.Laws.{and-left, and-right, cond-both}
 use Rattle.hue.specs.Hue.{movedHue}
-use Rattle.progress.specs.Laws.{permille-is, permille-full, permille-most, part-up, part-down, part-size, part-within, clamp-keeps, clamp-within}
+use Rattle.progress.specs.Laws.{permille-is, permille-full, permille-most, part-up, part-down, part-size, part-within, clamp-keeps}
 use Rattle.progress.specs.Progress.{permilleOf, partOf, clamp, broughtWithin}
 use Rattle.color.specs.declared.Color.{Color}
-use Rattle.color.specs.Kept.{form-saturation, form-above, form-below, saturation-hue, mireds-hue}
+use Rattle.color.specs.Kept.{saturation-hue, mireds-hue}
 use Rattle.tasks.specs.declared.ColorTemperatureMoveTo.{ColorTemperatureMoveTo}
 use Rattle.tasks.specs.declared.ColorTemperatureToRun.{ColorTemperatureToRun}
 use Rattle.tasks.specs.declared.HueDelta.{HueDelta}
@@ -31,8 +30,6 @@ use Rattle.tasks.specs.Runs.{runs}
 use Rattle.lamp.specs.declared.Lamp.{Lamp}
 use Rattle.lamp.specs.Answers.{atClock}
 use Rattle.lamp.specs.Calls.{noHueWay, noSaturationWay, startPermille, fullWritten, hueSaturationStart, temperatureToStart, started, stepped}
-use Rattle.lamp.specs.Form.{lampForm}
-use Rattle.lamp.specs.Kept.{form-color}
 use Rattle.lamp.specs.Passes.{atEnd, unless, remainingSet, hueNow, hueMoved, saturationNow, saturationMoved, hueSaturationPass, miredsNow, temperatureToPass}
 use Rattle.conformance.specs.MoveToAgrees.{hue-is-set}
 use Rattle.conformance.specs.MovesAgree.{saturation-is-set, mireds-is-set, hue-saturation, hue-mireds, saturation-mireds, mireds-saturation}

@@ -8,7 +8,7 @@ use mathlib.Core.Path.{_≡_, refl, sym, ap, _∙_}
 use native.Mathlib.Nat.{mul-le-mul-left}
 use native.Mathlib.Omega.{arith}
 use lib.Dec.{leb, eqb}
-use lib.IntN.{ℤ, negℤ, pos}
+use lib.IntN.{ℤ}
 use borrow.Author.Tests.{eqb-true, leb-true}
 use Rattle.matter.specs.declared.ColorLoopDirectionEnum.{ColorLoopDirectionEnum}
 use Rattle.matter.specs.declared.MoveModeEnum.{MoveModeEnum}
@@ -18,7 +18,7 @@ use Rattle.hue.specs.Hue.{movedHue}
 use Rattle.hue.specs.Laws.{moved-up, moved-down}
 use Rattle.progress.specs.Progress.{wayAtRate, broughtWithin, loopTurn, loopWay}
 use Rattle.color.specs.declared.Color.{Color}
-use Rattle.color.specs.Kept.{form-saturation, saturation-hue, mireds-hue}
+use Rattle.color.specs.Kept.{saturation-hue, mireds-hue}
 use Rattle.color.specs.Setters.{same, hueSet, saturationSet, miredsSet}
 use Rattle.tasks.specs.declared.ColorLoop.{ColorLoop}
 use Rattle.tasks.specs.declared.ColorLoopRun.{ColorLoopRun}
@@ -34,13 +34,12 @@ use Rattle.tasks.specs.Runs.{runs}
 use Rattle.lamp.specs.declared.Lamp.{Lamp}
 use Rattle.lamp.specs.Answers.{atClock}
 use Rattle.lamp.specs.Calls.{lower, upper, temperatureStart, started, stepped}
-use Rattle.lamp.specs.Form.{lampForm}
-use Rattle.lamp.specs.Kept.{form-clock, form-color}
+use Rattle.lamp.specs.Kept.{form-clock}
 use Rattle.lamp.specs.Passes.{Effect, signed, saturationDone, miredsDone, huePass, saturationPass, temperaturePass, loopPass}
 use Rattle.lamp.specs.Typed.{step}
 use Rattle.commands.specs.Answers.{cause, answer}
 use Rattle.conformance.specs.MoveToAgrees.{hue-is-set}
-use Rattle.conformance.specs.Ran.{Ran, Lasts, saved, saturationAt, miredsAt, step-by, ran-by, idle-done}
+use Rattle.conformance.specs.Ran.{Ran, Lasts, saturationAt, miredsAt, step-by, ran-by, idle-done}
 use Rattle.conformance.specs.Receipt.{HueAlone, SaturationAlone, MiredsAlone}
 use Rattle.conformance.specs.Steps.{enhancedHueMaximum, saturationMaximum, stepsMade, moveTo, hueMoveTo}
 use Rattle.conformance.specs.StepsAgree.{units-up, units-down, move-agrees, hue-move-agrees, hue-units-up, hue-units-down, mireds-up-done, mireds-down-done}

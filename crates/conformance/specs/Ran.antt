@@ -19,7 +19,6 @@ use Rattle.tasks.specs.declared.SaturationRun.{SaturationRun}
 use Rattle.tasks.specs.declared.Task.{Task}
 use Rattle.tasks.specs.Form.{taskForm}
 use Rattle.tasks.specs.Runs.{runs}
-use Rattle.lamp.specs.declared.Answer.{Answer}
 use Rattle.lamp.specs.declared.Lamp.{Lamp}
 use Rattle.lamp.specs.Answers.{atClock}
 use Rattle.lamp.specs.Calls.{lower, upper, hueSaturationStart, temperatureToStart, temperatureStart, started, stepped}

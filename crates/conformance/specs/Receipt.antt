@@ -104,8 +104,8 @@ moves (Command.ColorLoopSet flags action direction time startHue options) = fals
 moves (Command.StopMoveStep options) = false
 
 -- the device's bounds, the numbers on receipt, the command; the time since its movement began, the numbers then, and
--- now. In the text it begins on receipt. MoveToHueAndSaturation has no Direction field: the shortest path is our
--- reading. The moves at a rate are not in Stop mode
+-- now. In the text it begins on receipt. MoveToHueAndSaturation has no Direction field: the text does not fix its way,
+-- and recommends the shortest path. The moves at a rate are not in Stop mode
 abbrev pub OnReceipt : Bounds → Color → Command → ℕ → Color → Color → Type 0
 OnReceipt bounds received (Command.MoveToHue hue direction time options) elapsed from now =
     HueAlone from now (Goes-to direction (received .hue) (places false hue) (milliseconds time) elapsed)

@@ -7,10 +7,9 @@ use mathlib.Core.Bool.{Bool, true, false, not, cond, _&&_, _||_, true≢false}
 use mathlib.Core.Path.{_≡_, refl, sym, ap, subst, _∙_}
 use native.Mathlib.Nat.{mul-one}
 use native.Mathlib.Omega.{arith}
-use lib.Dec.{eqb, ltb, leb}
-use lib.IntN.{ℤ, pos, negsuc, negℤ, natAbs, _+ℤ_}
-use lib.Signed.{leZ}
-use borrow.Author.Tests.{eq-eqb, ne-eqb, eqb-false, lt-ltb, le-leb, ltb-false}
+use lib.Dec.{eqb, ltb}
+use lib.IntN.{ℤ, pos, negsuc, natAbs, _+ℤ_}
+use borrow.Author.Tests.{eq-eqb, ne-eqb, lt-ltb, le-leb, ltb-false}
 use Rattle.integers.proofs.Sizes.{abs-neg}
 use Rattle.matter.specs.declared.Bounds.{Bounds}
 use Rattle.matter.specs.declared.Command.{Command}
@@ -28,30 +27,29 @@ use Rattle.progress.specs.Progress.{clamp}
 use Rattle.color.specs.Form.{colorForm}
 use Rattle.color.specs.Kept.{form-saturation, form-above, form-below}
 use Rattle.tasks.specs.declared.GivenTask.{GivenTask}
-use Rattle.tasks.specs.declared.HueDelta.{HueDelta}
 use Rattle.tasks.specs.declared.TargetSaturation.{TargetSaturation}
 use Rattle.tasks.specs.declared.Task.{Task}
 use Rattle.tasks.specs.Form.{timeForm, small, rateForm, moves as modeMoves, moveToForm, hueMoveForm, saturationMoveForm, taskForm}
 use Rattle.lamp.specs.declared.Lamp.{Lamp}
-use Rattle.lamp.specs.Answers.{atClock, formOrClock}
+use Rattle.lamp.specs.Answers.{atClock, badClock, formOrClock}
 use Rattle.lamp.specs.Calls.{lower, upper}
 use Rattle.lamp.specs.Form.{lampForm}
 use Rattle.lamp.specs.Kept.{form-color, no-cause}
 use Rattle.lamp.specs.Passes.{signed}
-use Rattle.lamp.specs.Typed.{command}
+use Rattle.lamp.specs.Typed.{command, start}
 use Rattle.commands.specs.Answers.{allowed, commandCause, afterClock, cause, answer}
 use Rattle.commands.specs.Commands.{causeIf, isStop, stopMode, numberCause, asked, lo, hi, stored, hueTask, saturationTask, hueMoveTask, temperatureTask, stepWay, saturationStep, commandEffect}
 use Rattle.commands.specs.Kept.{answer-both, granted-ready}
+use Rattle.commands.specs.Table.{start-0}
 use Rattle.conformance.specs.ArrivalsAgree.{move-to-follows, mireds-to-follow}
-use Rattle.conformance.specs.Directions.{enhancedCircle}
 use Rattle.conformance.specs.DirectionsAgree.{directions-agree}
 use Rattle.conformance.specs.Limits.{Allowed}
 use Rattle.conformance.specs.LimitsAgree.{allowed-within, within-allowed, closest-agrees}
 use Rattle.conformance.specs.MovesAgree.{hue-move-follows, saturation-move-follows, mireds-move-follows}
 use Rattle.conformance.specs.Ran.{Ran, Lasts, ran-form}
-use Rattle.conformance.specs.Receipt.{places, Reaches, Goes-by, Goes-to, sense, Ends, MiredsAlone, moves, OnReceipt}
+use Rattle.conformance.specs.Receipt.{Reaches, Goes-by, Goes-to, sense, Ends, MiredsAlone, moves, OnReceipt}
 use Rattle.conformance.specs.Transition.{milliseconds}
-use Rattle.conformance.specs.Steps.{enhancedHueMaximum, saturationMaximum, stepsMade, stepTo, moveTo, hueMoveTo}
+use Rattle.conformance.specs.Steps.{saturationMaximum, stepsMade, stepTo, moveTo}
 use Rattle.conformance.specs.StepsAgree.{saturation-step-agrees, mireds-step-agrees}
 
 -- a task in form that does what the command asks, wherever and whenever it is started, while it runs and after
@@ -168,6 +166,17 @@ module _ (bounds : Bounds) (minimum maximum least most n : ℕ) (ends : Ends bou
       within-allowed bounds minimum maximum (hi bounds maximum) (omega (arith, in-bounds)) (omega arith)
       in
       omega (arith, ends .between (hi bounds maximum) a, allowed-within bounds minimum maximum most (ends .largest))
+
+-- and there are such, where any mireds are allowed
+pub ends-are : (bounds : Bounds) (minimum maximum n : ℕ) → Allowed bounds minimum maximum n →
+    Ends bounds minimum maximum (lo bounds minimum) (hi bounds maximum)
+ends-are bounds minimum maximum n allow =
+    let i : (lo bounds minimum ≤ n) × (n ≤ hi bounds maximum) = allowed-within bounds minimum maximum n allow in
+    record {
+      smallest = within-allowed bounds minimum maximum (lo bounds minimum) (omega arith) (omega arith);
+      largest = within-allowed bounds minimum maximum (hi bounds maximum) (omega arith) (omega arith);
+      between = allowed-within bounds minimum maximum;
+    }
 
 -- ---- the commands
 
@@ -519,3 +528,8 @@ module _ (l : Lamp) (c : Command) (onOff : OnOff) (clock : ℕ) where
       given : Gives (atClock l clock) c (commandEffect (atClock l clock) c .task) →
           Gives l c (commandEffect (atClock l clock) c .task)
       given g = record { task = g .task; is = g .is; inForm = g .inForm; follows = g .follows }
+
+-- and every lamp in form takes its start, at every clock that is not refused
+pub given-starts : (l m : Lamp) (c : Command) (given : GivenTask) (clock : ℕ) → (g : Gives l c given) →
+    lampForm m ≡ true → badClock m clock ≡ false → cause m (start (g .task) clock) ≡ 0
+given-starts l m c given clock g f b = start-0 m clock (g .task) f b (g .inForm)
