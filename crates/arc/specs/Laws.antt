@@ -10,7 +10,7 @@ use lib.Dec.{leb, leb·zero}
 use lib.IntN.{ℤ, pos, negsuc, natAbs}
 use lib.Signed.{leZ}
 use borrow.Author.Tests.{leb-true, leb-false, le-leb, lt-leb}
-use Rattle.matter.specs.declared.DirectionEnum.{DirectionEnum}
+use Rattle.matter.specs.declared.enums.DirectionEnum.{DirectionEnum}
 use Rattle.hue.specs.Hue.{distance, pathDelta, movedHue, shownHue}
 use Rattle.hue.specs.Laws.{moved-small, moved-up, moved-down, distance-is, way-small, arrives}
 use Rattle.arc.specs.declared.Band.{Band}

@@ -4,13 +4,13 @@ use Prim.Native.Nat.{ℕ}
 use mathlib.Core.Bool.{Bool}
 use mathlib.Core.List.{[], _∷_}
 use lib.Dec.{leb, eqb}
-use Rattle.matter.specs.declared.ColorModeEnum.{ColorModeEnum}
-use Rattle.matter.specs.declared.EnhancedColorModeEnum.{EnhancedColorModeEnum}
+use Rattle.matter.specs.declared.enums.ColorModeEnum.{ColorModeEnum}
+use Rattle.matter.specs.declared.enums.EnhancedColorModeEnum.{EnhancedColorModeEnum}
 use Rattle.matter.specs.All.{allTrue}
 use Rattle.matter.specs.Limits.{saturationLimit}
 use Rattle.matter.specs.Numbers.{colorModeNumber}
 use Rattle.matter.specs.Rules.{colorModeOf}
-use Rattle.matter.specs.declared.Bounds.{Bounds}
+use Rattle.matter.specs.declared.limits.Bounds.{Bounds}
 use Rattle.color.specs.declared.Color.{Color}
 
 -- the two modes agree: the one is the other's

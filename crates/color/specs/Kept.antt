@@ -8,9 +8,9 @@ use native.Mathlib.Omega.{arith}
 use lib.Dec.{leb}
 use lib.ListN.{length, length-append}
 use borrow.Author.Tests.{leb-true, le-leb}
-use Rattle.matter.specs.declared.Bounds.{Bounds}
-use Rattle.matter.specs.declared.ColorModeEnum.{ColorModeEnum}
-use Rattle.matter.specs.declared.EnhancedColorModeEnum.{EnhancedColorModeEnum}
+use Rattle.matter.specs.declared.limits.Bounds.{Bounds}
+use Rattle.matter.specs.declared.enums.ColorModeEnum.{ColorModeEnum}
+use Rattle.matter.specs.declared.enums.EnhancedColorModeEnum.{EnhancedColorModeEnum}
 use Rattle.matter.specs.Laws.{cond-both, leb-later, each, all-of}
 use Rattle.matter.specs.Limits.{saturationLimit}
 use Rattle.matter.specs.Typed.{Word}

@@ -4,7 +4,7 @@ use Prim.Native.Nat.{ℕ}
 use lib.IntN.{pos}
 use Rattle.matter.specs.Rules.{colorModeOf, defaultColorMode}
 use Rattle.progress.specs.Progress.{clamp}
-use Rattle.matter.specs.declared.Bounds.{Bounds}
+use Rattle.matter.specs.declared.limits.Bounds.{Bounds}
 use Rattle.color.specs.declared.Color.{Color}
 
 -- "Mireds start at 250 (hexadecimal 00FA) brought within the physical bounds, hue and saturation at 0", "the notice

@@ -14,7 +14,7 @@ use mir.Val.{SFits, toZ, ofZ}
 use mir.ValLaws.{toZ-ofZ}
 use mir.Facts.{toZ-pos}
 use Rattle.integers.proofs.Sizes.{small, abs-neg}
-use Rattle.matter.specs.declared.ColorLoopActionEnum.{ColorLoopActionEnum}
+use Rattle.matter.specs.declared.enums.ColorLoopActionEnum.{ColorLoopActionEnum}
 use Rattle.matter.specs.Flags.{hasFlag, updateDirection, updateTime, updateStartHue}
 use Rattle.notices.specs.declared.Notices.{Notices}
 use Rattle.notices.specs.Notices.{only, noted, pushed, pushedAll}
@@ -28,13 +28,6 @@ use Rattle.commands.specs.Commands.{CommandEffect, withLoop, activity, u
 use Rattle.commands.specs.Answers.{commandAccepted}
 use Rattle.commands.specs.Kept.{updated-few}
 use Rattle.commands.specs.Shared.{pushedAnswer}
-
--- a number that is 0 or not
-pub positive : (n : ℕ) → 0 < n → eqb n 0 ≡ false
-positive n h = ne-eqb n 0 (λ e. omega arith)
-
-pub none : (n : ℕ) → n ≤ 0 → eqb n 0 ≡ true
-none n h = eq-eqb n 0 (omega arith)
 
 -- sixteen bits and their negation, in 64
 pub plus-back : (n : ℕ) → n < 65536 → toZ w64 n ≡ pos n

@@ -5,14 +5,14 @@ use mathlib.Core.Bool.{Bool, true, false, not, cond, _&&_, _||_}
 use mathlib.Core.List.{List, [], _∷_, _++_}
 use lib.Dec.{ltb, eqb}
 use lib.IntN.{ℤ, pos, negℤ, _+ℤ_}
-use Rattle.matter.specs.declared.Bounds.{Bounds}
-use Rattle.matter.specs.declared.Command.{Command}
-use Rattle.matter.specs.declared.CommandOptions.{CommandOptions}
-use Rattle.matter.specs.declared.DirectionEnum.{DirectionEnum}
-use Rattle.matter.specs.declared.MoveModeEnum.{MoveModeEnum}
-use Rattle.matter.specs.declared.StepModeEnum.{StepModeEnum}
-use Rattle.matter.specs.declared.ColorLoopActionEnum.{ColorLoopActionEnum}
-use Rattle.matter.specs.declared.ColorLoopDirectionEnum.{ColorLoopDirectionEnum}
+use Rattle.matter.specs.declared.limits.Bounds.{Bounds}
+use Rattle.matter.specs.declared.commands.Command.{Command}
+use Rattle.matter.specs.declared.commands.CommandOptions.{CommandOptions}
+use Rattle.matter.specs.declared.enums.DirectionEnum.{DirectionEnum}
+use Rattle.matter.specs.declared.enums.MoveModeEnum.{MoveModeEnum}
+use Rattle.matter.specs.declared.enums.StepModeEnum.{StepModeEnum}
+use Rattle.matter.specs.declared.enums.ColorLoopActionEnum.{ColorLoopActionEnum}
+use Rattle.matter.specs.declared.enums.ColorLoopDirectionEnum.{ColorLoopDirectionEnum}
 use Rattle.matter.specs.Causes.{accepted, constraintError, invalidCommand}
 use Rattle.matter.specs.Flags.{hasFlag, updateAction, updateDirection, updateTime, updateStartHue}
 use Rattle.matter.specs.Limits.{hueLimit, saturationLimit}
@@ -28,8 +28,8 @@ use Rattle.tasks.specs.declared.TargetSaturation.{TargetSaturation}
 use Rattle.tasks.specs.declared.Task.{Task}
 use Rattle.lamp.specs.declared.Lamp.{Lamp}
 use Rattle.lamp.specs.declared.LoopSettings.{LoopSettings}
-use Rattle.lamp.specs.Calls.{lower, upper}
-use Rattle.lamp.specs.Passes.{signed}
+use Rattle.matter.specs.Bounds.{lower, upper}
+use Rattle.matter.specs.Rules.{signed}
 
 -- what an accepted command does: the lamp after it, what it tells, and the task it gives
 pub record CommandEffect : Type 0 where

@@ -11,8 +11,8 @@ use mathlib.Core.Path.{_≡_, refl}
 use native.Mathlib.Omega.{arith}
 use lib.Dec.{eqb, ltb}
 use lib.ListN.{length}
-use Rattle.matter.specs.declared.Command.{Command}
-use Rattle.matter.specs.declared.OnOff.{OnOff}
+use Rattle.matter.specs.declared.commands.Command.{Command}
+use Rattle.matter.specs.declared.enums.OnOff.{OnOff}
 use Rattle.matter.specs.Laws.{cond-both}
 use Rattle.matter.specs.Limits.{hueLimit, saturationLimit}
 use Rattle.notices.specs.Notices.{noted}

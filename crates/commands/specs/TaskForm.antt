@@ -10,11 +10,11 @@ use lib.Dec.{ltb, eqb}
 use lib.IntN.{ℤ, pos, negsuc, natAbs}
 use borrow.Author.Tests.{ltb-false, eqb-false, le-leb, lt-ltb, eq-eqb, ne-eqb}
 use Rattle.integers.proofs.Sizes.{abs-neg}
-use Rattle.matter.specs.declared.Command.{Command}
-use Rattle.matter.specs.declared.ColorLoopActionEnum.{ColorLoopActionEnum}
-use Rattle.matter.specs.declared.MoveModeEnum.{MoveModeEnum}
-use Rattle.matter.specs.declared.OnOff.{OnOff}
-use Rattle.matter.specs.declared.StepModeEnum.{StepModeEnum}
+use Rattle.matter.specs.declared.commands.Command.{Command}
+use Rattle.matter.specs.declared.enums.ColorLoopActionEnum.{ColorLoopActionEnum}
+use Rattle.matter.specs.declared.enums.MoveModeEnum.{MoveModeEnum}
+use Rattle.matter.specs.declared.enums.OnOff.{OnOff}
+use Rattle.matter.specs.declared.enums.StepModeEnum.{StepModeEnum}
 use Rattle.matter.specs.Flags.{hasFlag, updateAction}
 use Rattle.matter.specs.Laws.{cond-both, or-right, all-of}
 use Rattle.matter.specs.Limits.{hueLimit}
@@ -29,7 +29,7 @@ use Rattle.lamp.specs.declared.Lamp.{Lamp}
 use Rattle.lamp.specs.Answers.{atClock, badClock, formOrClock}
 use Rattle.lamp.specs.Form.{lampForm}
 use Rattle.lamp.specs.Kept.{form-color, no-cause}
-use Rattle.lamp.specs.Passes.{signed}
+use Rattle.matter.specs.Rules.{signed}
 use Rattle.lamp.specs.Typed.{command, start}
 use Rattle.commands.specs.Answers.{allowed, afterClock, commandCause, cause, answer}
 use Rattle.commands.specs.Commands.{CommandEffect, causeIf, isStop, stopMode, numberCause, crossed, stored, ms, hueTask, saturationTask, hueMoveTask, stepWay, saturationStep, acted, deactivated, activated, loopSet, commandEffect}

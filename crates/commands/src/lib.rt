@@ -7,12 +7,15 @@ use hue::hue_path_delta;
 use lamp::Answer;
 use lamp::Lamp;
 pub use loops::cmd_color_loop_set;
-use matter::Bounds;
+use matter::ACCEPTED;
+use matter::CONSTRAINT_ERROR;
+use matter::CROSSED_LIMITS;
 use matter::ColorLoopActionEnum;
 use matter::ColorLoopDirectionEnum;
 use matter::Command;
 use matter::CommandOptions;
 use matter::DirectionEnum;
+use matter::INVALID_COMMAND;
 use matter::MoveModeEnum;
 use matter::OnOff;
 use matter::StepModeEnum;
@@ -34,20 +37,14 @@ ghost use mathlib.Core.Bool.{cond};
 ghost use Rattle.commands.specs.Commands.{passOver, giving, isStop, causeIf, asked, lo, hi, hueTask, saturationTask, temperatureTask, saturationStep, stepWay, stored};
 ghost use Rattle.commands.specs.Answers.{commandAccepted, commandAnswer};
 ghost use Rattle.commands.specs.Shared.{options, taskAnswer};
-ghost use Rattle.lamp.specs.Passes.{signed};
-
-pub const CONSTRAINT_ERROR: u8 = 1;
-
-pub const INVALID_COMMAND: u8 = 2;
-
-pub const CROSSED_LIMITS: u8 = 3;
+ghost use Rattle.matter.specs.Rules.{signed};
 
 // The answer of an accepted command that gives a task.
 fn given(lamp: Lamp, task: Task) -> Answer
     ensures { λ r. ⌜ r ≡ commandAccepted (giving lamp task) ⌝ }
 {
     Answer {
-        number: lamp::ACCEPTED,
+        number: ACCEPTED,
         lamp: lamp,
         notices: Notices::new().push(TASK_GIVEN),
         task: GivenTask::Given(task),
@@ -60,7 +57,7 @@ pub(crate) fn passed_over(lamp: Lamp) -> Answer
     ensures { λ r. ⌜ r ≡ commandAccepted (passOver lamp) ⌝ }
 {
     Answer {
-        number: lamp::ACCEPTED,
+        number: ACCEPTED,
         lamp: lamp,
         notices: Notices::new(),
         task: GivenTask::Nothing,
@@ -83,14 +80,14 @@ fn answer_with(
     ensures { λ r. ⌜ r ≡ taskAnswer lamp stop number crossed task (options mask over) «on_off» clock ⌝ }
 {
     let cause = lamp.form_or_clock(clock);
-    if 0 < cause {
+    if cause != ACCEPTED {
         return lamp.refused(cause);
     }
     let at = lamp.at_clock(clock);
     if stop {
         return given(at, Task::Stop);
     }
-    if 0 < number {
+    if number != ACCEPTED {
         return lamp.refused(number);
     }
     if !should_continue(on_off, lamp.options, mask, over) {
@@ -126,45 +123,13 @@ fn limit_asked(physical: u16, n: u16) -> u16
     if n == 0 { physical } else { n }
 }
 
-fn lower(bounds: Bounds, n: u16) -> u16
-    ensures { λ r. ⌜ r ≡ lo bounds n ⌝ }
-{
-    let limit = limit_asked(bounds.min, n);
-    if limit < bounds.min {
-        bounds.min
-    } else {
-        limit
-    }
-}
-
-fn upper(bounds: Bounds, n: u16) -> u16
-    ensures { λ r. ⌜ r ≡ hi bounds n ⌝ }
-{
-    let limit = limit_asked(bounds.max, n);
-    if bounds.max < limit {
-        bounds.max
-    } else {
-        limit
-    }
-}
-
-// A step's size, and a rate, with its sign.
+// A step's size with its sign.
 fn step_way(mode: StepModeEnum, size: u16) -> i64
     ensures { λ r. ⌜ r ≡ stepWay mode size ⌝ }
 {
     match mode {
         StepModeEnum::Up => size as i64,
         StepModeEnum::Down => -(size as i64),
-    }
-}
-
-fn signed_rate(mode: MoveModeEnum, rate: u16) -> i64
-    ensures { λ r. ⌜ r ≡ signed mode rate ⌝ }
-{
-    match mode {
-        MoveModeEnum::Stop => 0,
-        MoveModeEnum::Up => rate as i64,
-        MoveModeEnum::Down => -(rate as i64),
     }
 }
 
@@ -598,7 +563,7 @@ pub fn cmd_move_color_temperature(
 {
     let number = number_if(rate == 0, INVALID_COMMAND);
     let task = Task::ColorTemperatureMove(ColorTemperatureMove {
-        rate: signed_rate(move_mode, rate),
+        rate: move_mode.signed(rate as u32),
         min: limit_asked(lamp.bounds.min, color_temperature_minimum_mireds),
         max: limit_asked(lamp.bounds.max, color_temperature_maximum_mireds),
     });
@@ -631,8 +596,8 @@ pub fn cmd_step_color_temperature(
 {
     let number = number_if(step_size == 0, INVALID_COMMAND);
     let bounds = lamp.bounds;
-    let low = lower(bounds, color_temperature_minimum_mireds);
-    let high = upper(bounds, color_temperature_maximum_mireds);
+    let low = bounds.lower_limit(limit_asked(bounds.min, color_temperature_minimum_mireds));
+    let high = bounds.upper_limit(limit_asked(bounds.max, color_temperature_maximum_mireds));
     let target = brought_within(low, high, lamp.color.mireds, step_way(step_mode, step_size));
     let task = temperature_task(target, transition_time_ds);
     answer_with(

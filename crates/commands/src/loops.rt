@@ -4,6 +4,7 @@ use crate::passed_over;
 use lamp::Answer;
 use lamp::Lamp;
 use lamp::LoopSettings;
+use matter::ACCEPTED;
 use matter::ColorLoopActionEnum;
 use matter::ColorLoopDirectionEnum;
 use matter::Command;
@@ -83,7 +84,7 @@ fn answer_of(lamp: Lamp, list: Notices, task: GivenTask) -> Answer
     ensures { λ r. ⌜ r ≡ record { number = 0; lamp = lamp; notices = list; task = task; wait = 0 } ⌝ }
 {
     Answer {
-        number: lamp::ACCEPTED,
+        number: ACCEPTED,
         lamp: lamp,
         notices: list,
         task: task,
@@ -207,7 +208,7 @@ pub fn cmd_color_loop_set(
     ensures { λ r. ⌜ r ≡ commandAnswer lamp (Command.ColorLoopSet «update_flags» action direction time «start_hue» (options «options_mask» «options_override»)) «on_off» clock ⌝ }
 {
     let cause = lamp.form_or_clock(clock);
-    if 0 < cause {
+    if cause != ACCEPTED {
         return lamp.refused(cause);
     }
     let at = lamp.at_clock(clock);

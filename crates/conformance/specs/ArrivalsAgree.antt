@@ -11,7 +11,7 @@ use lib.Dec.{eqb}
 use lib.IntN.{ℤ, pos, negsuc, natAbs, _-ℤ_, _*ℤ_, *ℤ-zero}
 use lib.Signed.{quotZ}
 use borrow.Author.Tests.{eqb-true, leb-true}
-use Rattle.matter.specs.declared.StepModeEnum.{StepModeEnum}
+use Rattle.matter.specs.declared.enums.StepModeEnum.{StepModeEnum}
 use Rattle.matter.specs.Laws.{and-left, and-right, cond-both}
 use Rattle.hue.specs.Hue.{movedHue}
 use Rattle.progress.specs.Laws.{permille-is, permille-full, permille-most, part-up, part-down, part-size, part-within, clamp-keeps}

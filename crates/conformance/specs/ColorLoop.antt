@@ -5,8 +5,8 @@
 use Prim.Native.Nat.{ℕ}
 use mathlib.Core.Bool.{Bool, true, false, cond}
 use lib.Dec.{eqb}
-use Rattle.matter.specs.declared.ColorLoopActionEnum.{ColorLoopActionEnum}
-use Rattle.matter.specs.declared.ColorLoopDirectionEnum.{ColorLoopDirectionEnum}
+use Rattle.matter.specs.declared.enums.ColorLoopActionEnum.{ColorLoopActionEnum}
+use Rattle.matter.specs.declared.enums.ColorLoopDirectionEnum.{ColorLoopDirectionEnum}
 use Rattle.conformance.specs.Options.{bit}
 
 -- the attributes that the command writes

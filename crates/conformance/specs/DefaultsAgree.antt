@@ -3,7 +3,7 @@
 use Prim.Native.Nat.{ℕ, _≤_}
 use mathlib.Core.Bool.{true, false}
 use mathlib.Core.Path.{_≡_, refl}
-use Rattle.matter.specs.declared.Bounds.{Bounds}
+use Rattle.matter.specs.declared.limits.Bounds.{Bounds}
 use Rattle.matter.specs.Flags.{hasFlag, xy}
 use Rattle.matter.specs.Numbers.{colorModeNumber, enhancedColorModeNumber, loopDirectionNumber}
 use Rattle.matter.specs.Rules.{defaultColorMode}

@@ -9,7 +9,7 @@ use lib.Dec.{leb, ltb}
 use lib.IntN.{ℤ, pos, negsuc, negℤ, natAbs}
 use borrow.Author.Tests.{leb-true, leb-false, ltb-true, ltb-false, le-leb, lt-leb, le-ltb}
 use Rattle.integers.proofs.Sizes.{abs-neg}
-use Rattle.matter.specs.declared.DirectionEnum.{DirectionEnum}
+use Rattle.matter.specs.declared.enums.DirectionEnum.{DirectionEnum}
 use Rattle.hue.specs.Hue.{distance, pathDelta}
 use Rattle.hue.specs.Laws.{distance-is, distance-small, way-small}
 use Rattle.conformance.specs.Directions.{enhancedCircle, plainCircle, Leads, GoesUp, GoesDown, Either, GoesShortest, GoesLongest, Goes, TieGoesUp}

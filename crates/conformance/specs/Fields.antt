@@ -6,8 +6,8 @@ use Prim.Native.Nat.{ℕ}
 use mathlib.Core.Bool.{Bool, true, false, cond, _&&_}
 use mathlib.Core.List.{List, [], _∷_}
 use lib.Dec.{leb, eqb}
-use Rattle.matter.specs.declared.Command.{Command}
-use Rattle.matter.specs.declared.MoveModeEnum.{MoveModeEnum}
+use Rattle.matter.specs.declared.commands.Command.{Command}
+use Rattle.matter.specs.declared.enums.MoveModeEnum.{MoveModeEnum}
 
 -- a number's smallest and largest
 abbrev pub between : ℕ → ℕ → ℕ → Bool

@@ -7,12 +7,12 @@ use mathlib.Core.Path.{_≡_, refl, sym, ap, _∙_}
 use native.Mathlib.Omega.{arith}
 use lib.Dec.{leb, ltb, eqb}
 use borrow.Author.Tests.{leb-true, leb-false, le-leb, lt-ltb, le-ltb, eqb-true, ne-eqb}
-use Rattle.matter.specs.declared.Command.{Command}
-use Rattle.matter.specs.declared.CommandOptions.{CommandOptions}
-use Rattle.matter.specs.declared.DirectionEnum.{DirectionEnum}
-use Rattle.matter.specs.declared.MoveModeEnum.{MoveModeEnum}
-use Rattle.matter.specs.declared.StepModeEnum.{StepModeEnum}
-use Rattle.matter.specs.declared.OnOff.{OnOff}
+use Rattle.matter.specs.declared.commands.Command.{Command}
+use Rattle.matter.specs.declared.commands.CommandOptions.{CommandOptions}
+use Rattle.matter.specs.declared.enums.DirectionEnum.{DirectionEnum}
+use Rattle.matter.specs.declared.enums.MoveModeEnum.{MoveModeEnum}
+use Rattle.matter.specs.declared.enums.StepModeEnum.{StepModeEnum}
+use Rattle.matter.specs.declared.enums.OnOff.{OnOff}
 use Rattle.lamp.specs.declared.Lamp.{Lamp}
 use Rattle.commands.specs.Commands.{isStop, stopMode, numberCause, crossed}
 use Rattle.commands.specs.Answers.{allowed, afterClock}

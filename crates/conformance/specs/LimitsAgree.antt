@@ -9,11 +9,11 @@ use native.Mathlib.Omega.{arith}
 use lib.Dec.{ltb, leb}
 use lib.IntN.{ℤ, pos}
 use borrow.Author.Tests.{leb-false, lt-leb, ltb-true, ltb-false, ne-eqb}
-use Rattle.matter.specs.declared.Bounds.{Bounds}
-use Rattle.matter.specs.declared.Command.{Command}
-use Rattle.matter.specs.declared.CommandOptions.{CommandOptions}
-use Rattle.matter.specs.declared.MoveModeEnum.{MoveModeEnum}
-use Rattle.matter.specs.declared.OnOff.{OnOff}
+use Rattle.matter.specs.declared.limits.Bounds.{Bounds}
+use Rattle.matter.specs.declared.commands.Command.{Command}
+use Rattle.matter.specs.declared.commands.CommandOptions.{CommandOptions}
+use Rattle.matter.specs.declared.enums.MoveModeEnum.{MoveModeEnum}
+use Rattle.matter.specs.declared.enums.OnOff.{OnOff}
 use Rattle.matter.specs.Laws.{cond-both}
 use Rattle.progress.specs.Progress.{clamp}
 use Rattle.tasks.specs.declared.ColorTemperatureMove.{ColorTemperatureMove}
@@ -25,9 +25,11 @@ use Rattle.tasks.specs.Form.{taskForm}
 use Rattle.lamp.specs.declared.Answer.{Answer}
 use Rattle.lamp.specs.declared.Lamp.{Lamp}
 use Rattle.lamp.specs.Answers.{atClock}
-use Rattle.lamp.specs.Calls.{done, started, temperatureStart, lower, upper}
+use Rattle.matter.specs.Bounds.{lower, upper}
+use Rattle.lamp.specs.Calls.{done, started, temperatureStart}
 use Rattle.lamp.specs.Kept.{start-ready}
-use Rattle.lamp.specs.Passes.{moved, signed, temperaturePass}
+use Rattle.matter.specs.Rules.{signed}
+use Rattle.lamp.specs.Passes.{moved, temperaturePass}
 use Rattle.lamp.specs.Typed.{Call, command, start}
 use Rattle.commands.specs.Answers.{cause, answer, allowed, commandDone}
 use Rattle.commands.specs.Commands.{CommandEffect, asked, lo, hi, stopMode, commandEffect}

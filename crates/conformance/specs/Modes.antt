@@ -3,9 +3,9 @@
 -- too: no copy was at hand.
 -- Assumes nothing.
 use mathlib.Core.Bool.{cond}
-use Rattle.matter.specs.declared.Command.{Command}
-use Rattle.matter.specs.declared.ColorModeEnum.{ColorModeEnum}
-use Rattle.matter.specs.declared.EnhancedColorModeEnum.{EnhancedColorModeEnum}
+use Rattle.matter.specs.declared.commands.Command.{Command}
+use Rattle.matter.specs.declared.enums.ColorModeEnum.{ColorModeEnum}
+use Rattle.matter.specs.declared.enums.EnhancedColorModeEnum.{EnhancedColorModeEnum}
 
 pub record Modes : Type 0 where
   pub color : ColorModeEnum

@@ -4,7 +4,7 @@
 use Prim.Native.Nat.{ℕ}
 use mathlib.Core.Path.{_≡_}
 use lib.IntN.{ℤ}
-use Rattle.matter.specs.declared.DirectionEnum.{DirectionEnum}
+use Rattle.matter.specs.declared.enums.DirectionEnum.{DirectionEnum}
 use Rattle.conformance.specs.Directions.{Goes}
 use Rattle.conformance.specs.Transition.{milliseconds}
 

@@ -8,9 +8,9 @@ use native.Mathlib.Omega.{arith}
 use lib.Dec.{eqb}
 use lib.IntN.{ℤ}
 use borrow.Author.Tests.{eqb-true}
-use Rattle.matter.specs.declared.CommandOptions.{CommandOptions}
-use Rattle.matter.specs.declared.Command.{Command}
-use Rattle.matter.specs.declared.DirectionEnum.{DirectionEnum}
+use Rattle.matter.specs.declared.commands.CommandOptions.{CommandOptions}
+use Rattle.matter.specs.declared.commands.Command.{Command}
+use Rattle.matter.specs.declared.enums.DirectionEnum.{DirectionEnum}
 use Rattle.matter.specs.Laws.{and-left, cond-both}
 use Rattle.hue.specs.Hue.{pathDelta, movedHue}
 use Rattle.hue.specs.Laws.{arrives}

@@ -10,8 +10,8 @@ use native.Mathlib.Omega.{arith}
 use lib.Dec.{leb, eqb}
 use lib.IntN.{ℤ}
 use borrow.Author.Tests.{eqb-true, leb-true}
-use Rattle.matter.specs.declared.ColorLoopDirectionEnum.{ColorLoopDirectionEnum}
-use Rattle.matter.specs.declared.MoveModeEnum.{MoveModeEnum}
+use Rattle.matter.specs.declared.enums.ColorLoopDirectionEnum.{ColorLoopDirectionEnum}
+use Rattle.matter.specs.declared.enums.MoveModeEnum.{MoveModeEnum}
 use Rattle.matter.specs.Laws.{cond-both}
 use Rattle.matter.specs.Limits.{clockLimit}
 use Rattle.hue.specs.Hue.{movedHue}
@@ -33,9 +33,11 @@ use Rattle.tasks.specs.declared.Task.{Task}
 use Rattle.tasks.specs.Runs.{runs}
 use Rattle.lamp.specs.declared.Lamp.{Lamp}
 use Rattle.lamp.specs.Answers.{atClock}
-use Rattle.lamp.specs.Calls.{lower, upper, temperatureStart, started, stepped}
+use Rattle.matter.specs.Bounds.{lower, upper}
+use Rattle.lamp.specs.Calls.{temperatureStart, started, stepped}
 use Rattle.lamp.specs.Kept.{form-clock}
-use Rattle.lamp.specs.Passes.{Effect, signed, saturationDone, miredsDone, huePass, saturationPass, temperaturePass, loopPass}
+use Rattle.matter.specs.Rules.{signed}
+use Rattle.lamp.specs.Passes.{Effect, saturationDone, miredsDone, huePass, saturationPass, temperaturePass, loopPass}
 use Rattle.lamp.specs.Typed.{step}
 use Rattle.commands.specs.Answers.{cause, answer}
 use Rattle.conformance.specs.MoveToAgrees.{hue-is-set}

@@ -21,10 +21,12 @@ use Rattle.tasks.specs.Form.{taskForm}
 use Rattle.tasks.specs.Runs.{runs}
 use Rattle.lamp.specs.declared.Lamp.{Lamp}
 use Rattle.lamp.specs.Answers.{atClock}
-use Rattle.lamp.specs.Calls.{lower, upper, hueSaturationStart, temperatureToStart, temperatureStart, started, stepped}
+use Rattle.matter.specs.Bounds.{lower, upper}
+use Rattle.lamp.specs.Calls.{hueSaturationStart, temperatureToStart, temperatureStart, started, stepped}
 use Rattle.lamp.specs.Form.{lampForm}
 use Rattle.lamp.specs.Kept.{start-ready}
-use Rattle.lamp.specs.Passes.{Effect, unless, atEnd, signed, saturationDone, miredsDone, hueSaturationPass, temperatureToPass, huePass, saturationPass, temperaturePass, loopPass}
+use Rattle.matter.specs.Rules.{signed}
+use Rattle.lamp.specs.Passes.{Effect, unless, atEnd, saturationDone, miredsDone, hueSaturationPass, temperatureToPass, huePass, saturationPass, temperaturePass, loopPass}
 use Rattle.lamp.specs.Typed.{start, step}
 use Rattle.commands.specs.Answers.{cause, answer}
 use Rattle.commands.specs.Kept.{answer-both, granted-ready}

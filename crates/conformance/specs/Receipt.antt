@@ -6,10 +6,10 @@ use Prim.Native.Nat.{ℕ, _*_, _≤_, _<_}
 use mathlib.Core.Bool.{Bool, true, false, cond}
 use mathlib.Core.Path.{_≡_}
 use lib.IntN.{ℤ, pos, negsuc, natAbs}
-use Rattle.matter.specs.declared.Bounds.{Bounds}
-use Rattle.matter.specs.declared.Command.{Command}
-use Rattle.matter.specs.declared.DirectionEnum.{DirectionEnum}
-use Rattle.matter.specs.declared.StepModeEnum.{StepModeEnum}
+use Rattle.matter.specs.declared.limits.Bounds.{Bounds}
+use Rattle.matter.specs.declared.commands.Command.{Command}
+use Rattle.matter.specs.declared.enums.DirectionEnum.{DirectionEnum}
+use Rattle.matter.specs.declared.enums.StepModeEnum.{StepModeEnum}
 use Rattle.color.specs.declared.Color.{Color}
 use Rattle.conformance.specs.Directions.{enhancedCircle, Goes}
 use Rattle.conformance.specs.Limits.{Allowed, Closest}

@@ -11,13 +11,13 @@ use lib.Dec.{eqb, ltb}
 use lib.IntN.{ℤ, pos, negsuc, natAbs, _+ℤ_}
 use borrow.Author.Tests.{eq-eqb, ne-eqb, lt-ltb, le-leb, ltb-false}
 use Rattle.integers.proofs.Sizes.{abs-neg}
-use Rattle.matter.specs.declared.Bounds.{Bounds}
-use Rattle.matter.specs.declared.Command.{Command}
-use Rattle.matter.specs.declared.CommandOptions.{CommandOptions}
-use Rattle.matter.specs.declared.DirectionEnum.{DirectionEnum}
-use Rattle.matter.specs.declared.MoveModeEnum.{MoveModeEnum}
-use Rattle.matter.specs.declared.OnOff.{OnOff}
-use Rattle.matter.specs.declared.StepModeEnum.{StepModeEnum}
+use Rattle.matter.specs.declared.limits.Bounds.{Bounds}
+use Rattle.matter.specs.declared.commands.Command.{Command}
+use Rattle.matter.specs.declared.commands.CommandOptions.{CommandOptions}
+use Rattle.matter.specs.declared.enums.DirectionEnum.{DirectionEnum}
+use Rattle.matter.specs.declared.enums.MoveModeEnum.{MoveModeEnum}
+use Rattle.matter.specs.declared.enums.OnOff.{OnOff}
+use Rattle.matter.specs.declared.enums.StepModeEnum.{StepModeEnum}
 use Rattle.matter.specs.Laws.{all-of, cond-both}
 use Rattle.matter.specs.Typed.{TypedCommand}
 use Rattle.hue.specs.Hue.{pathDelta}
@@ -32,10 +32,10 @@ use Rattle.tasks.specs.declared.Task.{Task}
 use Rattle.tasks.specs.Form.{timeForm, small, rateForm, moves as modeMoves, moveToForm, hueMoveForm, saturationMoveForm, taskForm}
 use Rattle.lamp.specs.declared.Lamp.{Lamp}
 use Rattle.lamp.specs.Answers.{atClock, badClock, formOrClock}
-use Rattle.lamp.specs.Calls.{lower, upper}
+use Rattle.matter.specs.Bounds.{lower, upper}
 use Rattle.lamp.specs.Form.{lampForm}
 use Rattle.lamp.specs.Kept.{form-color, no-cause}
-use Rattle.lamp.specs.Passes.{signed}
+use Rattle.matter.specs.Rules.{signed}
 use Rattle.lamp.specs.Typed.{command, start}
 use Rattle.commands.specs.Answers.{allowed, commandCause, afterClock, cause, answer}
 use Rattle.commands.specs.Commands.{causeIf, isStop, stopMode, numberCause, asked, lo, hi, stored, hueTask, saturationTask, hueMoveTask, temperatureTask, stepWay, saturationStep, commandEffect}

@@ -10,7 +10,7 @@ use lib.Dec.{ltb, eqb}
 use lib.IntN.{ℤ}
 use lib.ListN.{length, replicate}
 use borrow.Author.Tests.{leb-true, le-leb, lt-leb, ltb-true, ltb-false, lt-ltb, le-ltb, eqb-true, eqb-false, ne-eqb, not-true}
-use Rattle.matter.specs.declared.ColorModeEnum.{ColorModeEnum}
+use Rattle.matter.specs.declared.enums.ColorModeEnum.{ColorModeEnum}
 use Rattle.matter.specs.Limits.{saturationLimit}
 use Rattle.matter.specs.Laws.{and-left, and-right, or-left, or-right, cond-both}
 use Rattle.notices.specs.Notices.{only, filled}
@@ -34,7 +34,8 @@ use Rattle.lamp.specs.declared.Answer.{Answer}
 use Rattle.lamp.specs.declared.Lamp.{Lamp}
 use Rattle.lamp.specs.Answers.{atClock}
 use Rattle.lamp.specs.Calls.{done, stepped}
-use Rattle.lamp.specs.Passes.{Effect, unless, atEnd, signed, hueNow, hueMoved, hueMovedTold, saturationNow, saturationMoved, saturationMovedTold, leftWritten, miredsNow, saturationDone, miredsDone, hueSaturationPass, temperatureToPass, huePass, saturationPass, temperaturePass, loopPass}
+use Rattle.matter.specs.Rules.{signed}
+use Rattle.lamp.specs.Passes.{Effect, unless, atEnd, hueNow, hueMoved, hueMovedTold, saturationNow, saturationMoved, saturationMovedTold, leftWritten, miredsNow, saturationDone, miredsDone, hueSaturationPass, temperatureToPass, huePass, saturationPass, temperaturePass, loopPass}
 use Rattle.lamp.specs.Typed.{step}
 use Rattle.commands.specs.Answers.{cause, answer}
 use Rattle.conformance.specs.MoveToAgrees.{hue-is-set, saturation-is-set, mireds-is-set}

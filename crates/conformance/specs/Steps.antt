@@ -5,8 +5,8 @@
 use Prim.Native.Nat.{ℕ, zero, suc, _+_, _-_, _*_, _/_}
 use mathlib.Core.Bool.{cond}
 use lib.Dec.{leb, eqb}
-use Rattle.matter.specs.declared.MoveModeEnum.{MoveModeEnum}
-use Rattle.matter.specs.declared.StepModeEnum.{StepModeEnum}
+use Rattle.matter.specs.declared.enums.MoveModeEnum.{MoveModeEnum}
+use Rattle.matter.specs.declared.enums.StepModeEnum.{StepModeEnum}
 
 -- so many times
 abbrev pub times : ℕ → (ℕ → ℕ) → ℕ → ℕ

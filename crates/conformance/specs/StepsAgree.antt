@@ -10,13 +10,14 @@ use lib.Dec.{leb, ltb, eqb}
 use lib.IntN.{pos, negsuc, negℤ, _+ℤ_}
 use borrow.Author.Tests.{leb-true, leb-false, ltb-true, ltb-false, eqb-true, eqb-false, ne-eqb}
 use Rattle.integers.proofs.Signs.{neg-mul, neg-quot}
-use Rattle.matter.specs.declared.MoveModeEnum.{MoveModeEnum}
-use Rattle.matter.specs.declared.StepModeEnum.{StepModeEnum}
+use Rattle.matter.specs.declared.enums.MoveModeEnum.{MoveModeEnum}
+use Rattle.matter.specs.declared.enums.StepModeEnum.{StepModeEnum}
 use Rattle.matter.specs.Limits.{clockLimit}
 use Rattle.hue.specs.Hue.{movedHue, shownHue}
 use Rattle.hue.specs.Laws.{moved-up, moved-down}
 use Rattle.progress.specs.Progress.{wayAtRate, clamp, broughtWithin}
-use Rattle.lamp.specs.Passes.{signed, saturationDone, miredsDone}
+use Rattle.matter.specs.Rules.{signed}
+use Rattle.lamp.specs.Passes.{saturationDone, miredsDone}
 use Rattle.commands.specs.Commands.{stepWay, saturationStep, stored}
 use Rattle.conformance.specs.Steps.{enhancedHueMaximum, hueMaximum, saturationMaximum, times, unitUp, unitDown, hueUp, hueDown, stepsMade, stepTo, moveTo, hueStepTo, hueMoveTo}
 

@@ -4,7 +4,7 @@ use mathlib.Core.Bool.{true}
 use mathlib.Core.List.{List, _++_}
 use mathlib.Core.Path.{_≡_, sym, _∙_, ap}
 use lib.Dec.{lit<}
-use Rattle.matter.specs.declared.DirectionEnum.{DirectionEnum}
+use Rattle.matter.specs.declared.enums.DirectionEnum.{DirectionEnum}
 use Rattle.hue.specs.Hue.{movedHue}
 use Rattle.hue.specs.Laws.{moved-up}
 use Rattle.arc.specs.Laws.{typed-shown}

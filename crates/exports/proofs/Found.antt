@@ -7,14 +7,14 @@ use mathlib.Core.Path.{_≡_, refl, ap, _∙_}
 use native.Mathlib.Omega.{arith}
 use lib.Dec.{eqb, leb, ltb}
 use borrow.Author.Tests.{leb-false, ltb-true, ne-eqb}
-use Rattle.matter.specs.declared.DirectionFound.{DirectionFound}
-use Rattle.matter.specs.declared.MoveModeFound.{MoveModeFound}
-use Rattle.matter.specs.declared.StepModeFound.{StepModeFound}
-use Rattle.matter.specs.declared.ColorLoopActionFound.{ColorLoopActionFound}
-use Rattle.matter.specs.declared.ColorLoopDirectionFound.{ColorLoopDirectionFound}
-use Rattle.matter.specs.declared.ColorModeFound.{ColorModeFound}
-use Rattle.matter.specs.declared.EnhancedColorModeFound.{EnhancedColorModeFound}
-use Rattle.matter.specs.declared.OnOffFound.{OnOffFound}
+use Rattle.matter.specs.declared.enums.DirectionFound.{DirectionFound}
+use Rattle.matter.specs.declared.enums.MoveModeFound.{MoveModeFound}
+use Rattle.matter.specs.declared.enums.StepModeFound.{StepModeFound}
+use Rattle.matter.specs.declared.enums.ColorLoopActionFound.{ColorLoopActionFound}
+use Rattle.matter.specs.declared.enums.ColorLoopDirectionFound.{ColorLoopDirectionFound}
+use Rattle.matter.specs.declared.enums.ColorModeFound.{ColorModeFound}
+use Rattle.matter.specs.declared.enums.EnhancedColorModeFound.{EnhancedColorModeFound}
+use Rattle.matter.specs.declared.enums.OnOffFound.{OnOffFound}
 use Rattle.matter.specs.Laws.{and-left, and-right}
 use Rattle.matter.specs.Numbers.{caseNumbered, directionNumber, directions, directionFound, moveModeNumber, moveModes, moveModeFound, stepModeNumber, stepModes, stepModeFound, loopActionNumber, loopActions, loopActionFound, loopDirectionNumber, loopDirections, loopDirectionFound, colorModeNumber, colorModes, colorModeFound, enhancedColorModeNumber, enhancedColorModes, enhancedColorModeFound, onOffNumber, onOffs, onOffFound}
 use Rattle.exports.specs.Words.{capped}

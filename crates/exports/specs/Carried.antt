@@ -12,7 +12,7 @@ use lib.IntN.{pos, negℤ}
 use lib.ListN.{length}
 use lib.Signed.{mag}
 use borrow.Author.Tests.{ltb-false}
-use Rattle.matter.specs.declared.Bounds.{Bounds}
+use Rattle.matter.specs.declared.limits.Bounds.{Bounds}
 use Rattle.matter.specs.Laws.{cond-both}
 use Rattle.matter.specs.Limits.{clockLimit}
 use Rattle.matter.specs.Typed.{Byte, Clock, TypedBounds, TypedOptions, TypedCommand}

@@ -4,22 +4,22 @@
 use Prim.Native.Nat.{ℕ}
 use mathlib.Core.Bool.{Bool, true, false}
 use Rattle.matter.specs.Numbers.{directionFound, moveModeFound, stepModeFound, loopActionFound, loopDirectionFound, colorModeFound, enhancedColorModeFound, onOffFound}
-use Rattle.matter.specs.declared.DirectionEnum.{DirectionEnum}
-use Rattle.matter.specs.declared.DirectionFound.{DirectionFound}
-use Rattle.matter.specs.declared.MoveModeEnum.{MoveModeEnum}
-use Rattle.matter.specs.declared.MoveModeFound.{MoveModeFound}
-use Rattle.matter.specs.declared.StepModeEnum.{StepModeEnum}
-use Rattle.matter.specs.declared.StepModeFound.{StepModeFound}
-use Rattle.matter.specs.declared.ColorLoopActionEnum.{ColorLoopActionEnum}
-use Rattle.matter.specs.declared.ColorLoopActionFound.{ColorLoopActionFound}
-use Rattle.matter.specs.declared.ColorLoopDirectionEnum.{ColorLoopDirectionEnum}
-use Rattle.matter.specs.declared.ColorLoopDirectionFound.{ColorLoopDirectionFound}
-use Rattle.matter.specs.declared.ColorModeEnum.{ColorModeEnum}
-use Rattle.matter.specs.declared.ColorModeFound.{ColorModeFound}
-use Rattle.matter.specs.declared.EnhancedColorModeEnum.{EnhancedColorModeEnum}
-use Rattle.matter.specs.declared.EnhancedColorModeFound.{EnhancedColorModeFound}
-use Rattle.matter.specs.declared.OnOff.{OnOff}
-use Rattle.matter.specs.declared.OnOffFound.{OnOffFound}
+use Rattle.matter.specs.declared.enums.DirectionEnum.{DirectionEnum}
+use Rattle.matter.specs.declared.enums.DirectionFound.{DirectionFound}
+use Rattle.matter.specs.declared.enums.MoveModeEnum.{MoveModeEnum}
+use Rattle.matter.specs.declared.enums.MoveModeFound.{MoveModeFound}
+use Rattle.matter.specs.declared.enums.StepModeEnum.{StepModeEnum}
+use Rattle.matter.specs.declared.enums.StepModeFound.{StepModeFound}
+use Rattle.matter.specs.declared.enums.ColorLoopActionEnum.{ColorLoopActionEnum}
+use Rattle.matter.specs.declared.enums.ColorLoopActionFound.{ColorLoopActionFound}
+use Rattle.matter.specs.declared.enums.ColorLoopDirectionEnum.{ColorLoopDirectionEnum}
+use Rattle.matter.specs.declared.enums.ColorLoopDirectionFound.{ColorLoopDirectionFound}
+use Rattle.matter.specs.declared.enums.ColorModeEnum.{ColorModeEnum}
+use Rattle.matter.specs.declared.enums.ColorModeFound.{ColorModeFound}
+use Rattle.matter.specs.declared.enums.EnhancedColorModeEnum.{EnhancedColorModeEnum}
+use Rattle.matter.specs.declared.enums.EnhancedColorModeFound.{EnhancedColorModeFound}
+use Rattle.matter.specs.declared.enums.OnOff.{OnOff}
+use Rattle.matter.specs.declared.enums.OnOffFound.{OnOffFound}
 
 -- DirectionEnum
 abbrev pub directionCase : DirectionFound → DirectionEnum

@@ -11,15 +11,15 @@ use lib.Dec.{eqb, leb, leb·suc-zero}
 use lib.IntN.{ℤ, pos, negsuc, negℤ, natAbs}
 use lib.Signed.{leZ}
 use borrow.Author.Tests.{leb-true, le-leb}
-use Rattle.matter.specs.declared.DirectionEnum.{DirectionEnum}
-use Rattle.matter.specs.declared.MoveModeEnum.{MoveModeEnum}
-use Rattle.matter.specs.declared.StepModeEnum.{StepModeEnum}
-use Rattle.matter.specs.declared.ColorLoopActionEnum.{ColorLoopActionEnum}
-use Rattle.matter.specs.declared.ColorLoopDirectionEnum.{ColorLoopDirectionEnum}
-use Rattle.matter.specs.declared.ColorModeEnum.{ColorModeEnum}
-use Rattle.matter.specs.declared.EnhancedColorModeEnum.{EnhancedColorModeEnum}
-use Rattle.matter.specs.declared.OnOff.{OnOff}
-use Rattle.matter.specs.declared.Bounds.{Bounds}
+use Rattle.matter.specs.declared.enums.DirectionEnum.{DirectionEnum}
+use Rattle.matter.specs.declared.enums.MoveModeEnum.{MoveModeEnum}
+use Rattle.matter.specs.declared.enums.StepModeEnum.{StepModeEnum}
+use Rattle.matter.specs.declared.enums.ColorLoopActionEnum.{ColorLoopActionEnum}
+use Rattle.matter.specs.declared.enums.ColorLoopDirectionEnum.{ColorLoopDirectionEnum}
+use Rattle.matter.specs.declared.enums.ColorModeEnum.{ColorModeEnum}
+use Rattle.matter.specs.declared.enums.EnhancedColorModeEnum.{EnhancedColorModeEnum}
+use Rattle.matter.specs.declared.enums.OnOff.{OnOff}
+use Rattle.matter.specs.declared.limits.Bounds.{Bounds}
 use Rattle.matter.specs.Laws.{and-left, and-right, each}
 use Rattle.matter.specs.Laws as by-number
 use Rattle.matter.specs.Numbers.{directionNumber, moveModeNumber, stepModeNumber, loopActionNumber, loopDirectionNumber, colorModeNumber, enhancedColorModeNumber, onOffNumber}

@@ -7,7 +7,7 @@ use mathlib.Core.List.{List, [], _∷_}
 use lib.Dec.{eqb, ltb, leb}
 use lib.ListN.{length, getD}
 use Rattle.matter.specs.Numbers.{directionFound}
-use Rattle.matter.specs.declared.DirectionFound.{DirectionFound}
+use Rattle.matter.specs.declared.enums.DirectionFound.{DirectionFound}
 use Rattle.fade_line.specs.declared.reader.Asked.{Asked}
 
 -- "reads one line": what stands before the first newline, or all of the input

@@ -9,9 +9,9 @@ use native.Mathlib.Nat.{add-zero, add-suc}
 use native.Mathlib.Omega.{arith}
 use lib.Dec.{eqb, leb}
 use borrow.Author.Tests.{eqb-true, eqb-false, leb-false, leb-true, le-leb}
-use Rattle.matter.specs.declared.Bounds.{Bounds}
-use Rattle.matter.specs.declared.Command.{Command}
-use Rattle.matter.specs.declared.OnOff.{OnOff}
+use Rattle.matter.specs.declared.limits.Bounds.{Bounds}
+use Rattle.matter.specs.declared.commands.Command.{Command}
+use Rattle.matter.specs.declared.enums.OnOff.{OnOff}
 use Rattle.matter.specs.Causes.{accepted}
 use Rattle.matter.specs.Laws.{cond-both, and-left, or-left}
 use Rattle.hue.specs.Hue.{pathDelta}

@@ -23,8 +23,10 @@ use Rattle.tasks.specs.declared.ColorLoopRun.{ColorLoopRun}
 use Rattle.lamp.specs.declared.Lamp.{Lamp}
 use Rattle.lamp.specs.declared.Answer.{Answer}
 use Rattle.lamp.specs.Answers.{atClock, refusal}
-use Rattle.lamp.specs.Passes.{Effect, waiting, atEnd, saturationDone, miredsDone, signed, hueSaturationPass, huePass, saturationPass, temperatureToPass, temperaturePass, loopPass}
-use Rattle.lamp.specs.Calls.{done, started, stepped, startCause, stepCause, startAnswer, stepAnswer, hueSaturationStart, temperatureToStart, temperatureStart, lower, upper}
+use Rattle.matter.specs.Rules.{signed}
+use Rattle.lamp.specs.Passes.{Effect, waiting, atEnd, saturationDone, miredsDone, hueSaturationPass, huePass, saturationPass, temperatureToPass, temperaturePass, loopPass}
+use Rattle.matter.specs.Bounds.{lower, upper}
+use Rattle.lamp.specs.Calls.{done, started, stepped, startCause, stepCause, startAnswer, stepAnswer, hueSaturationStart, temperatureToStart, temperatureStart}
 use Rattle.lamp.specs.Kept.{form-clock, start-ready, step-ready, choose-both, started-few, stepped-few}
 use Rattle.fade_run.specs.declared.Fade.{Fade}
 use Rattle.fade_line.specs.declared.writer.Line.{Line}

@@ -10,7 +10,7 @@ use lib.IntN.{ℤ, pos, negsuc, negℤ, natAbs, _+ℤ_, _-ℤ_}
 use lib.Signed.{remZ}
 use borrow.Author.Tests.{ltb-true, ltb-false}
 use Rattle.integers.proofs.Sizes.{abs-neg}
-use Rattle.matter.specs.declared.DirectionEnum.{DirectionEnum}
+use Rattle.matter.specs.declared.enums.DirectionEnum.{DirectionEnum}
 use Rattle.hue.specs.Hue.{modulo, distance, chosen, pathDelta, movedHue}
 
 -- ---- sums of the document

@@ -11,7 +11,7 @@ use lib.Dec.{eqb}
 use lib.Signed.{leZ}
 use borrow.Author.Tests.{leb-true}
 use Rattle.integers.proofs.Sizes.{abs-neg, abs-difference}
-use Rattle.matter.specs.declared.MoveModeEnum.{MoveModeEnum}
+use Rattle.matter.specs.declared.enums.MoveModeEnum.{MoveModeEnum}
 use Rattle.matter.specs.Laws.{and-left, and-right}
 use Rattle.notices.specs.declared.Notices.{Notices}
 use Rattle.notices.specs.Notices.{pushed, pushedAll}
@@ -19,7 +19,7 @@ use Rattle.notices.specs.Laws.{pushed-append, pushed-behind}
 use Rattle.progress.specs.Progress.{limited}
 use Rattle.progress.specs.Laws.{limited-same}
 use Rattle.tasks.specs.Form.{small, rateForm}
-use Rattle.lamp.specs.Passes.{signed}
+use Rattle.matter.specs.Rules.{signed}
 
 -- ---- integers within ±65,535
 

@@ -6,8 +6,9 @@ use mathlib.Core.List.{List, [], _++_}
 use lib.Dec.{leb, eqb}
 use lib.IntN.{pos, natAbs}
 use lib.Signed.{leZ}
-use Rattle.matter.specs.declared.Bounds.{Bounds}
+use Rattle.matter.specs.declared.limits.Bounds.{Bounds}
 use Rattle.matter.specs.Causes.{accepted, clockRefused, taskOutOfForm, stepWhileIdle, lampOutOfForm}
+use Rattle.matter.specs.Bounds.{lower, upper}
 use Rattle.notices.specs.Notices.{only, noted}
 use Rattle.notices.specs.Names.{RemainingTime}
 use Rattle.progress.specs.Progress.{permilleOf, clamp}
@@ -69,13 +70,6 @@ temperatureToStart l task =
     (temperatureToPass (remainingSet l w)
     (record { start = l .clock; mireds = l .color .mireds; task = record { target = target; ms = task .ms } })
     (startPermille (task .ms) (eqb target (l .color .mireds))))
-
--- "lo is the larger minimum, hi the smaller maximum"
-abbrev pub lower : Bounds → ℕ → ℕ
-lower bounds asked = max asked (bounds .min)
-
-abbrev pub upper : Bounds → ℕ → ℕ
-upper bounds asked = min asked (bounds .max)
 
 -- "A temperature move with lo ≥ hi is done at once: the lamp is idle, and nothing else but the clock changes"
 unfoldable pub temperatureStart : Lamp → ColorTemperatureMove → Effect

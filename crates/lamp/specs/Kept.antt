@@ -11,7 +11,7 @@ use lib.Dec.{leb, ltb, eqb}
 use lib.IntN.{pos}
 use lib.ListN.{length, length-append}
 use borrow.Author.Tests.{leb-true, leb-false, le-leb, lt-ltb, ltb-true, ltb-false, eqb-true, eqb-false, not-false}
-use Rattle.matter.specs.declared.Bounds.{Bounds}
+use Rattle.matter.specs.declared.limits.Bounds.{Bounds}
 use Rattle.matter.specs.Laws.{and-left, and-right, cond-both, leb-later, each, all-of}
 use Rattle.matter.specs.Limits.{clockLimit, saturationLimit}
 use Rattle.notices.specs.Laws.{only-one}
@@ -40,9 +40,11 @@ use Rattle.tasks.specs.Form.{timeForm, rateForm, saturationForm, moveToForm, wi
 use Rattle.lamp.specs.declared.Lamp.{Lamp}
 use Rattle.lamp.specs.declared.Answer.{Answer}
 use Rattle.lamp.specs.Answers.{atClock, badClock, formOrClock, refusal}
-use Rattle.lamp.specs.Calls.{fullWritten, startPermille, hueSaturationStart, temperatureToStart, lower, upper, temperatureStart, started, stepped, choose, startCause, stepCause, startAnswer, stepAnswer, haltAnswer}
+use Rattle.matter.specs.Bounds.{lower, upper}
+use Rattle.lamp.specs.Calls.{fullWritten, startPermille, hueSaturationStart, temperatureToStart, temperatureStart, started, stepped, choose, startCause, stepCause, startAnswer, stepAnswer, haltAnswer}
 use Rattle.lamp.specs.Form.{lampForm}
-use Rattle.lamp.specs.Passes.{Effect, unless, atEnd, signed, saturationDone, miredsDone, hueMoved, hueMovedTold, saturationMoved, saturationMovedTold, leftWritten, miredsNow, hueSaturationPass, temperatureToPass, huePass, saturationPass, temperaturePass, loopPass}
+use Rattle.matter.specs.Rules.{signed}
+use Rattle.lamp.specs.Passes.{Effect, unless, atEnd, saturationDone, miredsDone, hueMoved, hueMovedTold, saturationMoved, saturationMovedTold, leftWritten, miredsNow, hueSaturationPass, temperatureToPass, huePass, saturationPass, temperaturePass, loopPass}
 
 -- ---- the parts of form
 

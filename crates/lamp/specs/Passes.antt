@@ -7,8 +7,9 @@ use mathlib.Core.List.{List, [], _∷_, _++_}
 use lib.Dec.{leb, eqb}
 use lib.IntN.{ℤ, pos, negℤ, _-ℤ_}
 use lib.Signed.{ltZ}
-use Rattle.matter.specs.declared.Bounds.{Bounds}
-use Rattle.matter.specs.declared.MoveModeEnum.{MoveModeEnum}
+use Rattle.matter.specs.declared.limits.Bounds.{Bounds}
+use Rattle.matter.specs.declared.enums.MoveModeEnum.{MoveModeEnum}
+use Rattle.matter.specs.Rules.{signed}
 use Rattle.matter.specs.Limits.{saturationLimit}
 use Rattle.notices.specs.Notices.{only}
 use Rattle.notices.specs.Names.{RemainingTime, deviceHueSaturation, deviceMireds}
@@ -131,12 +132,6 @@ temperatureToPass l run permille =
     }
 
 -- ---- moves at a rate: "rate × elapsed / 1000 [..]. moves at a rate always 100"
-
--- a rate with the sign of its direction
-abbrev pub signed : MoveModeEnum → ℕ → ℤ
-signed MoveModeEnum.Stop rate = pos 0
-signed MoveModeEnum.Up rate = pos rate
-signed MoveModeEnum.Down rate = negℤ (pos rate)
 
 -- one pass of hue_move_transition: "A hue move never ends"
 unfoldable pub huePass : Lamp → HueRun → Effect

@@ -2,8 +2,8 @@
 -- theorems over every list of calls. They are no part of form.
 -- Assumes nothing.
 use Prim.Native.Nat.{ℕ}
-use Rattle.matter.specs.declared.Command.{Command}
-use Rattle.matter.specs.declared.OnOff.{OnOff}
+use Rattle.matter.specs.declared.commands.Command.{Command}
+use Rattle.matter.specs.declared.enums.OnOff.{OnOff}
 use Rattle.matter.specs.Typed.{Byte, Word, Clock, TypedBounds, TypedCommand}
 use Rattle.tasks.specs.declared.Task.{Task}
 use Rattle.tasks.specs.Typed.{TypedTask, TypedRunning}

@@ -29,10 +29,12 @@ use Rattle.tasks.specs.declared.Task.{Task}
 use Rattle.tasks.specs.Typed.{TypedTask, TypedRunning}
 use Rattle.lamp.specs.declared.Lamp.{Lamp}
 use Rattle.lamp.specs.Answers.{atClock}
-use Rattle.lamp.specs.Calls.{fullWritten, lower, upper, hueSaturationStart, temperatureToStart, temperatureStart, started, stepped}
+use Rattle.matter.specs.Bounds.{lower, upper}
+use Rattle.lamp.specs.Calls.{fullWritten, hueSaturationStart, temperatureToStart, temperatureStart, started, stepped}
 use Rattle.lamp.specs.Form.{lampForm}
 use Rattle.lamp.specs.Kept.{form-clock, form-color}
-use Rattle.lamp.specs.Passes.{Effect, moved, remainingSet, unless, atEnd, signed, saturationDone, miredsDone, hueMoved, saturationMoved, hueSaturationPass, temperatureToPass, huePass, saturationPass, temperaturePass, loopPass}
+use Rattle.matter.specs.Rules.{signed}
+use Rattle.lamp.specs.Passes.{Effect, moved, remainingSet, unless, atEnd, saturationDone, miredsDone, hueMoved, saturationMoved, hueSaturationPass, temperatureToPass, huePass, saturationPass, temperaturePass, loopPass}
 use Rattle.lamp.specs.Typed.{TypedLamp}
 
 -- ---- what a start or step changes

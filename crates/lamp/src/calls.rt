@@ -1,13 +1,15 @@
 // Starts, steps and halts: document 01, leaf 6, and halt. Each takes the lamp and hands it back inside its answer.
 // Carried over from project-chip/rs-matter, commit 43f61585a4 (Apache-2.0, see NOTICE), and changed.
-use crate::ACCEPTED;
 use crate::Answer;
-use crate::CLOCK_REFUSED;
-use crate::LAMP_OUT_OF_FORM;
 use crate::Lamp;
 use crate::passes::Passed;
+use matter::ACCEPTED;
 use matter::Bounds;
 use matter::CLOCK_LIMIT;
+use matter::CLOCK_REFUSED;
+use matter::LAMP_OUT_OF_FORM;
+use matter::STEP_WHILE_IDLE;
+use matter::TASK_OUT_OF_FORM;
 use notices::Notices;
 use notices::REMAINING_TIME;
 use progress::brought_within;
@@ -32,12 +34,9 @@ ghost use mathlib.Core.Bool.{true};
 ghost use mathlib.Core.List.{[]};
 ghost use Rattle.notices.specs.Notices.{noted};
 ghost use Rattle.tasks.specs.Form.{moveToForm, rateForm, taskForm, runningForm};
-ghost use Rattle.lamp.specs.Calls.{noHueWay, noSaturationWay, startPermille, lower, upper, hueSaturationStart, temperatureToStart, temperatureStart, started, stepped, startAnswer, stepAnswer, haltAnswer};
+ghost use Rattle.matter.specs.Bounds.{lower, upper};
+ghost use Rattle.lamp.specs.Calls.{noHueWay, noSaturationWay, startPermille, hueSaturationStart, temperatureToStart, temperatureStart, started, stepped, startAnswer, stepAnswer, haltAnswer};
 ghost use Rattle.lamp.specs.Passed.{passedOf, answerOf};
-
-pub const TASK_OUT_OF_FORM: u8 = 6;
-
-pub const STEP_WHILE_IDLE: u8 = 7;
 
 fn no_hue_way(delta: HueDelta) -> bool
     ensures { λ r. ⌜ r ≡ noHueWay delta ⌝ }
@@ -62,27 +61,6 @@ fn start_permille(ms: u32, no_way: bool) -> u16
     ensures { λ r. ⌜ r ≡ startPermille ms «no_way» ⌝ }
 {
     if (ms == 0) | no_way { 1000 } else { 0 }
-}
-
-// The limits of a mired move: the larger minimum and the smaller maximum.
-fn lower_limit(bounds: Bounds, asked: u16) -> u16
-    ensures { λ r. ⌜ r ≡ lower bounds asked ⌝ }
-{
-    if asked < bounds.min {
-        bounds.min
-    } else {
-        asked
-    }
-}
-
-fn upper_limit(bounds: Bounds, asked: u16) -> u16
-    ensures { λ r. ⌜ r ≡ upper bounds asked ⌝ }
-{
-    if bounds.max < asked {
-        bounds.max
-    } else {
-        asked
-    }
 }
 
 // The answer of an accepted start or step.
@@ -155,8 +133,8 @@ impl Lamp {
         ensures { λ r. ⌜ r ≡ passedOf (noted []) (temperatureStart self task) ⌝ }
     {
         let bounds = self.bounds;
-        let lo = lower_limit(bounds, task.min);
-        let hi = upper_limit(bounds, task.max);
+        let lo = bounds.lower_limit(task.min);
+        let hi = bounds.upper_limit(task.max);
         if hi <= lo {
             return Passed {
                 lamp: Lamp {
@@ -253,7 +231,7 @@ impl Lamp {
         ensures { λ r. ⌜ r ≡ startAnswer self task clock ⌝ }
     {
         let cause = self.form_or_clock(clock);
-        if 0 < cause {
+        if cause != ACCEPTED {
             return self.refused(cause);
         }
         if !task.in_form() {
@@ -284,7 +262,7 @@ impl Lamp {
         ensures { λ r. ⌜ r ≡ haltAnswer self clock ⌝ }
     {
         let number = self.form_or_clock(clock);
-        if 0 < number {
+        if number != ACCEPTED {
             return self.refused(number);
         }
         Answer {

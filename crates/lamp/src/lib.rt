@@ -5,9 +5,13 @@ mod calls;
 mod passes;
 
 use color::Color;
+use matter::ACCEPTED;
 use matter::Bounds;
 use matter::CLOCK_LIMIT;
+use matter::CLOCK_REFUSED;
+use matter::CROSSED_BOUNDS;
 use matter::ColorLoopDirectionEnum;
+use matter::LAMP_OUT_OF_FORM;
 use notices::Notices;
 use remaining_time::RemainingTime;
 use tasks::GivenTask;
@@ -16,15 +20,6 @@ ghost use mathlib.Core.Path.{_≡_};
 ghost use Rattle.lamp.specs.Form.{lampForm};
 ghost use Rattle.lamp.specs.Making.{freshLamp, making, madeValues, makingValues};
 ghost use Rattle.lamp.specs.Answers.{atClock, formOrClock, refusal};
-
-// The causes of a refusal that a lamp as such can give, by document 01's numbers.
-pub const ACCEPTED: u8 = 0;
-
-pub const CLOCK_REFUSED: u8 = 4;
-
-pub const CROSSED_BOUNDS: u8 = 5;
-
-pub const LAMP_OUT_OF_FORM: u8 = 8;
 
 // ColorLoopActive, ColorLoopDirection, ColorLoopTime, ColorLoopStartEnhancedHue, ColorLoopStoredEnhancedHue.
 pub struct LoopSettings {

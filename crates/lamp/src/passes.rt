@@ -36,7 +36,8 @@ ghost use Prim.Native.Nat.{_-_};
 ghost use lib.IntN.{pos, _-ℤ_};
 ghost use Rattle.color.specs.Setters.{answered};
 ghost use Rattle.tasks.specs.Form.{deltaForm, moveToForm, hueMoveForm, saturationMoveForm, rateForm};
-ghost use Rattle.lamp.specs.Passes.{atEnd, hueMoved, hueMovedTold, saturationNow, saturationMoved, saturationMovedTold, miredsNow, signed, saturationDone, miredsDone, unless, waiting, hueSaturationPass, temperatureToPass, huePass, saturationPass, temperaturePass, loopPass};
+ghost use Rattle.matter.specs.Rules.{signed};
+ghost use Rattle.lamp.specs.Passes.{atEnd, hueMoved, hueMovedTold, saturationNow, saturationMoved, saturationMovedTold, miredsNow, saturationDone, miredsDone, unless, waiting, hueSaturationPass, temperatureToPass, huePass, saturationPass, temperaturePass, loopPass};
 ghost use Rattle.lamp.specs.Passed.{passedOf};
 
 // What a pass leaves: the lamp, the list with what it tells, and the wait.
@@ -51,17 +52,6 @@ fn way_between(start: u16, target: u16) -> i64
     ensures { λ r. ⌜ r ≡ pos target -ℤ pos start ⌝ }
 {
     (target as i64) - (start as i64)
-}
-
-// A rate with the sign of its direction.
-fn signed_rate(direction: MoveModeEnum, rate: u32) -> i64
-    ensures { λ r. ⌜ r ≡ signed direction rate ⌝ }
-{
-    match direction {
-        MoveModeEnum::Stop => 0,
-        MoveModeEnum::Up => rate as i64,
-        MoveModeEnum::Down => -(rate as i64),
-    }
 }
 
 // What is left running, and the wait for it: nothing at an end.
@@ -271,7 +261,7 @@ impl Lamp {
     {
         let task = run.task;
         let direction = task.direction;
-        let rate = signed_rate(direction, task.rate);
+        let rate = direction.signed(task.rate);
         let now = moved_hue(run.hue, way_at_rate(rate, elapsed(run.start, self.clock)));
         let old = self.color;
         let set = old.set_hue(
@@ -301,7 +291,7 @@ impl Lamp {
     {
         let task = run.task;
         let direction = task.direction;
-        let rate = signed_rate(direction, task.rate);
+        let rate = direction.signed(task.rate);
         let now = moved_saturation(
             run.saturation,
             way_at_rate(rate, elapsed(run.start, self.clock)),

@@ -9,22 +9,22 @@ use lib.Dec.{eqb, leb}
 use borrow.Author.Tests.{eqb-true, leb-true, le-leb}
 use Rattle.matter.specs.All.{allTrue, allFrom}
 use Rattle.matter.specs.Numbers.{caseNumbered, directionNumber, directionFound, moveModeNumber, moveModeFound, stepModeNumber, stepModeFound, loopActionNumber, loopActionFound, loopDirectionNumber, loopDirectionFound, colorModeNumber, colorModeFound, enhancedColorModeNumber, enhancedColorModeFound, onOffNumber, onOffFound}
-use Rattle.matter.specs.declared.DirectionEnum.{DirectionEnum}
-use Rattle.matter.specs.declared.DirectionFound.{DirectionFound}
-use Rattle.matter.specs.declared.MoveModeEnum.{MoveModeEnum}
-use Rattle.matter.specs.declared.MoveModeFound.{MoveModeFound}
-use Rattle.matter.specs.declared.StepModeEnum.{StepModeEnum}
-use Rattle.matter.specs.declared.StepModeFound.{StepModeFound}
-use Rattle.matter.specs.declared.ColorLoopActionEnum.{ColorLoopActionEnum}
-use Rattle.matter.specs.declared.ColorLoopActionFound.{ColorLoopActionFound}
-use Rattle.matter.specs.declared.ColorLoopDirectionEnum.{ColorLoopDirectionEnum}
-use Rattle.matter.specs.declared.ColorLoopDirectionFound.{ColorLoopDirectionFound}
-use Rattle.matter.specs.declared.ColorModeEnum.{ColorModeEnum}
-use Rattle.matter.specs.declared.ColorModeFound.{ColorModeFound}
-use Rattle.matter.specs.declared.EnhancedColorModeEnum.{EnhancedColorModeEnum}
-use Rattle.matter.specs.declared.EnhancedColorModeFound.{EnhancedColorModeFound}
-use Rattle.matter.specs.declared.OnOff.{OnOff}
-use Rattle.matter.specs.declared.OnOffFound.{OnOffFound}
+use Rattle.matter.specs.declared.enums.DirectionEnum.{DirectionEnum}
+use Rattle.matter.specs.declared.enums.DirectionFound.{DirectionFound}
+use Rattle.matter.specs.declared.enums.MoveModeEnum.{MoveModeEnum}
+use Rattle.matter.specs.declared.enums.MoveModeFound.{MoveModeFound}
+use Rattle.matter.specs.declared.enums.StepModeEnum.{StepModeEnum}
+use Rattle.matter.specs.declared.enums.StepModeFound.{StepModeFound}
+use Rattle.matter.specs.declared.enums.ColorLoopActionEnum.{ColorLoopActionEnum}
+use Rattle.matter.specs.declared.enums.ColorLoopActionFound.{ColorLoopActionFound}
+use Rattle.matter.specs.declared.enums.ColorLoopDirectionEnum.{ColorLoopDirectionEnum}
+use Rattle.matter.specs.declared.enums.ColorLoopDirectionFound.{ColorLoopDirectionFound}
+use Rattle.matter.specs.declared.enums.ColorModeEnum.{ColorModeEnum}
+use Rattle.matter.specs.declared.enums.ColorModeFound.{ColorModeFound}
+use Rattle.matter.specs.declared.enums.EnhancedColorModeEnum.{EnhancedColorModeEnum}
+use Rattle.matter.specs.declared.enums.EnhancedColorModeFound.{EnhancedColorModeFound}
+use Rattle.matter.specs.declared.enums.OnOff.{OnOff}
+use Rattle.matter.specs.declared.enums.OnOffFound.{OnOffFound}
 
 -- ---- both parts of a conjunction that holds
 

@@ -4,5 +4,6 @@ pub mod Flags
 pub mod Rules
 pub mod Causes
 pub mod All
+pub mod Bounds
 pub mod Typed
 pub mod Laws

@@ -1,10 +1,12 @@
--- Leave to run (document 01, leaf 3), and which mode goes with which (leaf 4).
+-- Leave to run (document 01, leaf 3), a rate with its sign, and which mode goes with which (leaf 4).
 -- Assumes nothing.
 use Prim.Native.Nat.{ℕ}
 use mathlib.Core.Bool.{Bool, true, cond}
-use Rattle.matter.specs.declared.OnOff.{OnOff}
-use Rattle.matter.specs.declared.ColorModeEnum.{ColorModeEnum}
-use Rattle.matter.specs.declared.EnhancedColorModeEnum.{EnhancedColorModeEnum}
+use lib.IntN.{ℤ, pos, negℤ}
+use Rattle.matter.specs.declared.enums.MoveModeEnum.{MoveModeEnum}
+use Rattle.matter.specs.declared.enums.OnOff.{OnOff}
+use Rattle.matter.specs.declared.enums.ColorModeEnum.{ColorModeEnum}
+use Rattle.matter.specs.declared.enums.EnhancedColorModeEnum.{EnhancedColorModeEnum}
 use Rattle.matter.specs.Flags.{hasFlag, executeIfOff, xy, hueAndSaturation, colorTemperature}
 
 -- leave to run: "No handler, or lamp on: yes. Lamp off: if the options mask has ExecuteIfOff (bit 0), the override's
@@ -13,6 +15,12 @@ abbrev pub leave : OnOff → ℕ → ℕ → ℕ → Bool
 leave OnOff.NoHandler options mask over = true
 leave OnOff.On options mask over = true
 leave OnOff.Off options mask over = cond (hasFlag mask executeIfOff) (hasFlag over executeIfOff) (hasFlag options executeIfOff)
+
+-- a rate with the sign of its direction
+abbrev pub signed : MoveModeEnum → ℕ → ℤ
+signed MoveModeEnum.Stop rate = pos 0
+signed MoveModeEnum.Up rate = pos rate
+signed MoveModeEnum.Down rate = negℤ (pos rate)
 
 -- the ColorMode that matches an EnhancedColorMode: the same, and the enhanced hue is a hue
 abbrev pub colorModeOf : EnhancedColorModeEnum → ColorModeEnum

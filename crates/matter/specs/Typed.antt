@@ -2,9 +2,9 @@
 -- every command that a program holds has them.
 -- Assumes nothing.
 use Prim.Native.Nat.{ℕ, _<_, _^_}
-use Rattle.matter.specs.declared.Bounds.{Bounds}
-use Rattle.matter.specs.declared.Command.{Command}
-use Rattle.matter.specs.declared.CommandOptions.{CommandOptions}
+use Rattle.matter.specs.declared.limits.Bounds.{Bounds}
+use Rattle.matter.specs.declared.commands.Command.{Command}
+use Rattle.matter.specs.declared.commands.CommandOptions.{CommandOptions}
 
 abbrev pub Byte : ℕ → Type 0
 Byte n = n < 2 ^ 8

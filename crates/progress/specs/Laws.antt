@@ -14,7 +14,7 @@ use lib.Ieee.Nearest.{div-mono}
 use borrow.Author.Tests.{leb-true, leb-false, ltb-false, ne-eqb, le-leb, lt-leb, le-ltb}
 use Rattle.integers.proofs.Sizes.{abs-mul, abs-quot}
 use Rattle.integers.proofs.Signs.{neg-mul, neg-quot}
-use Rattle.matter.specs.declared.ColorLoopDirectionEnum.{ColorLoopDirectionEnum}
+use Rattle.matter.specs.declared.enums.ColorLoopDirectionEnum.{ColorLoopDirectionEnum}
 use Rattle.matter.specs.Limits.{clockLimit}
 use Rattle.progress.specs.Progress.{permilleOf, limited, partOf, wayAtRate, loopMs, snapped, loopTurn, loopWay, tenthsOf, clamp}
 

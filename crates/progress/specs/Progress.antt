@@ -6,7 +6,7 @@ use mathlib.Core.Bool.{cond, _&&_}
 use lib.Dec.{leb, eqb}
 use lib.IntN.{ℤ, pos, negℤ, natAbs, _+ℤ_, _*ℤ_}
 use lib.Signed.{quotZ, ltZ}
-use Rattle.matter.specs.declared.ColorLoopDirectionEnum.{ColorLoopDirectionEnum}
+use Rattle.matter.specs.declared.enums.ColorLoopDirectionEnum.{ColorLoopDirectionEnum}
 use Rattle.matter.specs.Limits.{clockLimit}
 
 -- "permille = elapsed × 1000 / time, rounded down, at most 1000"; at time 0 the end is there at once

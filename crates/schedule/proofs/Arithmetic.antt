@@ -12,7 +12,7 @@ use lib.IntN.{ℤ, pos, negsuc, negℤ, natAbs}
 use lib.Signed.{leZ}
 use borrow.Author.Tests.{leb-true, leb-false, le-leb, lt-leb}
 use Rattle.integers.proofs.Sizes.{abs-neg}
-use Rattle.matter.specs.declared.DirectionEnum.{DirectionEnum}
+use Rattle.matter.specs.declared.enums.DirectionEnum.{DirectionEnum}
 use Rattle.hue.specs.Hue.{distance, pathDelta, movedHue}
 use Rattle.hue.specs.Laws.{moved-small, moved-up, moved-down, distance-is, way-small, arrives}
 use Rattle.progress.specs.Progress.{permilleOf, partOf, tenthsOf}

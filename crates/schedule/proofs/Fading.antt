@@ -8,7 +8,7 @@ use native.Mathlib.Nat.{sub-self, zero-div, le-refl}
 use native.Mathlib.Omega.{arith}
 use lib.Dec.{leb, eqb}
 use borrow.Author.Tests.{leb-true, ne-eqb, not-true}
-use Rattle.matter.specs.declared.OnOff.{OnOff}
+use Rattle.matter.specs.declared.enums.OnOff.{OnOff}
 use Rattle.matter.specs.Flags.{hasFlag, executeIfOff}
 use Rattle.matter.specs.Rules.{leave}
 use Rattle.progress.specs.Progress.{permilleOf}

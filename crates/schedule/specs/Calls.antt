@@ -4,7 +4,7 @@ use Prim.Native.Nat.{ℕ, suc, _+_}
 use mathlib.Core.Bool.{Bool, true, false, not, cond, _&&_, _||_}
 use mathlib.Core.List.{List, [], _∷_}
 use lib.Dec.{leb, eqb}
-use Rattle.matter.specs.declared.Bounds.{Bounds}
+use Rattle.matter.specs.declared.limits.Bounds.{Bounds}
 use Rattle.matter.specs.Causes.{accepted}
 use Rattle.tasks.specs.Runs.{runs}
 use Rattle.lamp.specs.declared.Lamp.{Lamp}

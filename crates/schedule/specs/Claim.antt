@@ -9,7 +9,7 @@ use mathlib.Core.Path.{_≡_}
 use lib.Dec.{eqb}
 use lib.IntN.{pos, natAbs}
 use lib.Signed.{leZ}
-use Rattle.matter.specs.declared.OnOff.{OnOff}
+use Rattle.matter.specs.declared.enums.OnOff.{OnOff}
 use Rattle.matter.specs.Flags.{hasFlag, executeIfOff}
 use Rattle.hue.specs.Hue.{distance}
 use Rattle.tasks.specs.declared.GivenTask.{GivenTask}

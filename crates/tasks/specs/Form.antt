@@ -7,10 +7,10 @@ use mathlib.Core.List.{[], _∷_}
 use lib.Dec.{leb, ltb, eqb}
 use lib.IntN.{ℤ, pos, negℤ, natAbs}
 use lib.Signed.{leZ}
-use Rattle.matter.specs.declared.MoveModeEnum.{MoveModeEnum}
+use Rattle.matter.specs.declared.enums.MoveModeEnum.{MoveModeEnum}
 use Rattle.matter.specs.All.{allTrue}
 use Rattle.matter.specs.Limits.{saturationLimit}
-use Rattle.matter.specs.declared.Bounds.{Bounds}
+use Rattle.matter.specs.declared.limits.Bounds.{Bounds}
 use Rattle.tasks.specs.declared.HueDelta.{HueDelta}
 use Rattle.tasks.specs.declared.TargetSaturation.{TargetSaturation}
 use Rattle.tasks.specs.declared.HueSaturationMoveTo.{HueSaturationMoveTo}

@@ -1,7 +1,6 @@
 -- The looks in their order: 8 and 4, Stop mode, the numbers, off, crossed limits.
 -- Assumes nothing.
-use Rattle.commands.proofs.Laws.{positive, none}
-use borrow.Author.Tests.{not-true, not-false}
+use borrow.Author.Tests.{not-true, not-false, eq-eqb, ne-eqb}
 use Rattle.commands.specs.Shared.{taskAnswer}
 use borrow.Author.Needs.{needs}
 use Rattle.commands.proofs.answer_with.Statement.{statement}
@@ -15,7 +14,7 @@ refused-requires c κs = search needs
 
 returns : tie.Need-returns
 unfolding taskAnswer
-returns c = simp (← c .before .before .form-or-clock .ensures, positive _ (c .before .if1 .taken)) (c .refused .ensures)
+returns c = simp (← c .before .before .form-or-clock .ensures, ne-eqb _ 0 (c .before .if1 .taken)) (c .refused .ensures)
 
 at-clock-requires : tie.Need-at-clock-requires
 at-clock-requires c κs = search needs
@@ -29,7 +28,7 @@ returns-2 c =
     let at-clock = c .before .before in
     let at-if1 = at-clock .before in
     let at-form-or-clock = at-if1 .before in
-    simp (← at-form-or-clock .form-or-clock .ensures, none _ (at-if1 .if1 .left), c .before .if2 .taken, c .given .ensures, at-clock .at-clock .ensures)
+    simp (← at-form-or-clock .form-or-clock .ensures, eq-eqb _ 0 (at-if1 .if1 .left), c .before .if2 .taken, c .given .ensures, at-clock .at-clock .ensures)
 
 refused-requires-2 : tie.Need-refused-requires-2
 refused-requires-2 c κs = search needs
@@ -40,7 +39,7 @@ returns-3 c =
     let at-if2 = c .before .before in
     let at-if1 = at-if2 .before .before in
     let at-form-or-clock = at-if1 .before in
-    simp (← at-form-or-clock .form-or-clock .ensures, none _ (at-if1 .if1 .left), at-if2 .if2 .left, positive _ (c .before .if3 .taken)) (c .refused2 .ensures)
+    simp (← at-form-or-clock .form-or-clock .ensures, eq-eqb _ 0 (at-if1 .if1 .left), at-if2 .if2 .left, ne-eqb _ 0 (c .before .if3 .taken)) (c .refused2 .ensures)
 
 should-continue-requires : tie.Need-should-continue-requires
 should-continue-requires c κs = search needs
@@ -57,7 +56,7 @@ returns-4 c =
     let at-clock = at-if2 .before in
     let at-if1 = at-clock .before in
     let at-form-or-clock = at-if1 .before in
-    simp (← at-form-or-clock .form-or-clock .ensures, none _ (at-if1 .if1 .left), at-if2 .if2 .left, none _ (at-if3 .if3 .left), ← at-should-continue .should-continue .ensures, not-true (at-should-continue .should-continue .result) (c .before .if4 .taken), c .passed-over .ensures, at-clock .at-clock .ensures)
+    simp (← at-form-or-clock .form-or-clock .ensures, eq-eqb _ 0 (at-if1 .if1 .left), at-if2 .if2 .left, eq-eqb _ 0 (at-if3 .if3 .left), ← at-should-continue .should-continue .ensures, not-true (at-should-continue .should-continue .result) (c .before .if4 .taken), c .passed-over .ensures, at-clock .at-clock .ensures)
 
 refused-requires-3 : tie.Need-refused-requires-3
 refused-requires-3 c κs = search needs
@@ -71,7 +70,7 @@ returns-5 c =
     let at-if2 = at-if3 .before in
     let at-if1 = at-if2 .before .before in
     let at-form-or-clock = at-if1 .before in
-    simp (← at-form-or-clock .form-or-clock .ensures, none _ (at-if1 .if1 .left), at-if2 .if2 .left, none _ (at-if3 .if3 .left), ← at-should-continue .should-continue .ensures, not-false (at-should-continue .should-continue .result) (at-if4 .if4 .left), c .before .if5 .taken) (c .refused3 .ensures)
+    simp (← at-form-or-clock .form-or-clock .ensures, eq-eqb _ 0 (at-if1 .if1 .left), at-if2 .if2 .left, eq-eqb _ 0 (at-if3 .if3 .left), ← at-should-continue .should-continue .ensures, not-false (at-should-continue .should-continue .result) (at-if4 .if4 .left), c .before .if5 .taken) (c .refused3 .ensures)
 
 given-requires-2 : tie.Need-given-requires-2
 given-requires-2 c κs = search needs
@@ -86,7 +85,7 @@ returns-6 c =
     let at-clock = at-if2 .before in
     let at-if1 = at-clock .before in
     let at-form-or-clock = at-if1 .before in
-    simp (← at-form-or-clock .form-or-clock .ensures, none _ (at-if1 .if1 .left), at-if2 .if2 .left, none _ (at-if3 .if3 .left), ← at-should-continue .should-continue .ensures, not-false (at-should-continue .should-continue .result) (at-if4 .if4 .left), c .before .if5 .left, c .given2 .ensures, at-clock .at-clock .ensures)
+    simp (← at-form-or-clock .form-or-clock .ensures, eq-eqb _ 0 (at-if1 .if1 .left), at-if2 .if2 .left, eq-eqb _ 0 (at-if3 .if3 .left), ← at-should-continue .should-continue .ensures, not-false (at-should-continue .should-continue .result) (at-if4 .if4 .left), c .before .if5 .left, c .given2 .ensures, at-clock .at-clock .ensures)
 
 pub answer-with-spec : {M : Type 1} → statement M
 answer-with-spec =

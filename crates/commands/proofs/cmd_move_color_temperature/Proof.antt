@@ -12,8 +12,8 @@ use Rattle.commands.proofs.cmd_move_color_temperature.Tie as tie
 number-if-requires : tie.Need-number-if-requires
 number-if-requires c κs = search needs
 
-signed-rate-requires : tie.Need-signed-rate-requires
-signed-rate-requires c κs = search needs
+signed-requires : tie.Need-signed-requires
+signed-requires c κs = search needs
 
 limit-asked-requires : tie.Need-limit-asked-requires
 limit-asked-requires c κs = search needs
@@ -32,16 +32,16 @@ unfolding commandAnswer commandCause commandEffect taskAnswer
 returns c =
     let at-limit-asked2 = c .before .before in
     let at-limit-asked = at-limit-asked2 .before in
-    let at-signed-rate = at-limit-asked .before in
-    let at-number-if = at-signed-rate .before in
-    simp (c .answer-with .ensures, c .before .stops .ensures, at-limit-asked2 .limit-asked2 .ensures, at-limit-asked .limit-asked .ensures, toZ-ofZ w64 (at-signed-rate .signed-rate .result) (sfits-of (at-signed-rate .signed-rate .ok)), at-number-if .number-if .ensures) (simp (at-signed-rate .signed-rate .ensures))
+    let at-signed = at-limit-asked .before in
+    let at-number-if = at-signed .before in
+    simp (c .answer-with .ensures, c .before .stops .ensures, at-limit-asked2 .limit-asked2 .ensures, at-limit-asked .limit-asked .ensures, toZ-ofZ w64 (at-signed .signed .result) (sfits-of (at-signed .signed .ok)), at-number-if .number-if .ensures) (simp (at-signed .signed .ensures))
 
 pub cmd-move-color-temperature-spec : {M : Type 1} → statement M
 cmd-move-color-temperature-spec =
     tie.close
     (tie.spec
     number-if-requires
-    signed-rate-requires
+    signed-requires
     limit-asked-requires
     limit-asked-requires-2
     stops-requires

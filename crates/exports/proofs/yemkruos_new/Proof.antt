@@ -4,7 +4,7 @@ use Prim.Native.Nat.{ℕ}
 use mathlib.Core.Path.{_≡_, sym, ap, _∙_}
 use mathlib.Core.List.{List}
 use lib.ListN.{length}
-use Rattle.matter.specs.declared.Bounds.{Bounds}
+use Rattle.matter.specs.declared.limits.Bounds.{Bounds}
 use Rattle.lamp.specs.declared.Made.{Made}
 use Rattle.lamp.specs.Making.{making}
 use Rattle.exports.specs.Exported.{Left, unreadableLamp, laid, made}

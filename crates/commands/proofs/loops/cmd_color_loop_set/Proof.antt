@@ -2,8 +2,7 @@
 -- Assumes nothing.
 use Rattle.commands.specs.Answers.{commandAnswer, commandCause}
 use Rattle.commands.specs.Commands.{commandEffect}
-use Rattle.commands.proofs.Laws.{positive, none}
-use borrow.Author.Tests.{not-true, not-false}
+use borrow.Author.Tests.{not-true, not-false, eq-eqb, ne-eqb}
 use borrow.Author.Needs.{needs}
 use Rattle.commands.proofs.loops.cmd_color_loop_set.Statement.{statement}
 use Rattle.commands.proofs.loops.cmd_color_loop_set.Tie as tie
@@ -16,7 +15,7 @@ refused-requires c κs = search needs
 
 returns : tie.Need-returns
 unfolding commandAnswer commandCause commandEffect
-returns c = simp (← c .before .before .form-or-clock .ensures, positive _ (c .before .if1 .taken)) (c .refused .ensures)
+returns c = simp (← c .before .before .form-or-clock .ensures, ne-eqb _ 0 (c .before .if1 .taken)) (c .refused .ensures)
 
 at-clock-requires : tie.Need-at-clock-requires
 at-clock-requires c κs = search needs
@@ -34,7 +33,7 @@ returns-2 c =
     let at-clock = at-should-continue .before in
     let at-if1 = at-clock .before in
     let at-form-or-clock = at-if1 .before in
-    simp (← at-form-or-clock .form-or-clock .ensures, none _ (at-if1 .if1 .left), ← at-should-continue .should-continue .ensures, not-true (at-should-continue .should-continue .result) (c .before .if2 .taken), c .passed-over .ensures, at-clock .at-clock .ensures)
+    simp (← at-form-or-clock .form-or-clock .ensures, eq-eqb _ 0 (at-if1 .if1 .left), ← at-should-continue .should-continue .ensures, not-true (at-should-continue .should-continue .result) (c .before .if2 .taken), c .passed-over .ensures, at-clock .at-clock .ensures)
 
 set-loop-requires : tie.Need-set-loop-requires
 set-loop-requires c κs = search needs
@@ -46,7 +45,7 @@ returns-3 c =
     let at-clock = at-should-continue .before in
     let at-if1 = at-clock .before in
     let at-form-or-clock = at-if1 .before in
-    simp (← at-form-or-clock .form-or-clock .ensures, none _ (at-if1 .if1 .left), ← at-should-continue .should-continue .ensures, not-false (at-should-continue .should-continue .result) (c .before .if2 .left), c .set-loop .ensures, at-clock .at-clock .ensures)
+    simp (← at-form-or-clock .form-or-clock .ensures, eq-eqb _ 0 (at-if1 .if1 .left), ← at-should-continue .should-continue .ensures, not-false (at-should-continue .should-continue .result) (c .before .if2 .left), c .set-loop .ensures, at-clock .at-clock .ensures)
 
 pub cmd-color-loop-set-spec : {M : Type 1} → statement M
 cmd-color-loop-set-spec =

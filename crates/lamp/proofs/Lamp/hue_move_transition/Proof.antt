@@ -19,8 +19,8 @@ small-rate : (c : tie.Start) → c .args .run .task .rate ≤ 65535
 unfolding hueMoveForm
 small-rate c = leb-true (c .args .run .task .rate) _ (each _ (c .pre) .1 .0)
 
-signed-rate-requires : tie.Need-signed-rate-requires
-signed-rate-requires c κs = search needs
+signed-requires : tie.Need-signed-requires
+signed-requires c κs = search needs
 
 elapsed-requires : tie.Need-elapsed-requires
 elapsed-requires c κs = search needs
@@ -46,13 +46,13 @@ returns c =
     let k4 = k3 .before in
     let k5 = k4 .before in
     let run = k5 .before .before .args .run in
-    rw (c .push .ensures, k1 .set-hue .ensures, k2 .moved-hue .ensures, toZ-ofZ w64 (k3 .way-at-rate .result) (sfits-of (k3 .way-at-rate .ok)), k3 .way-at-rate .ensures, k4 .elapsed .ensures, toZ-ofZ w64 (k5 .signed-rate .result) (sfits-of (k5 .signed-rate .ok)), k5 .signed-rate .ensures, signed-same (run .task .direction) (run .task .rate) (omega (arith, small-rate (k5 .before .before))), pushed-behind)
+    rw (c .push .ensures, k1 .set-hue .ensures, k2 .moved-hue .ensures, toZ-ofZ w64 (k3 .way-at-rate .result) (sfits-of (k3 .way-at-rate .ok)), k3 .way-at-rate .ensures, k4 .elapsed .ensures, toZ-ofZ w64 (k5 .signed .result) (sfits-of (k5 .signed .ok)), k5 .signed .ensures, signed-same (run .task .direction) (run .task .rate) (omega (arith, small-rate (k5 .before .before))), pushed-behind)
 
 pub hue-move-transition-spec : {M : Type 1} → statement M
 hue-move-transition-spec =
     tie.close
     (tie.spec
-    signed-rate-requires
+    signed-requires
     elapsed-requires
     way-at-rate-requires
     moved-hue-requires

@@ -1,7 +1,7 @@
 -- The clock is looked at first, then the bounds; else the fresh lamp. What each case says is a law.
 use mathlib.Core.Path.{_≡_, ap, _∙_}
 use Prim.Native.Nat.{ℕ}
-use Rattle.matter.specs.declared.Bounds.{Bounds}
+use Rattle.matter.specs.declared.limits.Bounds.{Bounds}
 use Rattle.lamp.specs.declared.Made.{Made}
 use Rattle.lamp.specs.Making.{making, madeValues, makingValues}
 use Rattle.lamp.specs.Laws.{made-values}

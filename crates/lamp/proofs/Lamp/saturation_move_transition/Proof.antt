@@ -19,8 +19,8 @@ small-rate : (c : tie.Start) → c .args .run .task .rate ≤ 255
 unfolding saturationMoveForm
 small-rate c = leb-true (c .args .run .task .rate) _ (each _ (c .pre) .1 .0)
 
-signed-rate-requires : tie.Need-signed-rate-requires
-signed-rate-requires c κs = search needs
+signed-requires : tie.Need-signed-requires
+signed-requires c κs = search needs
 
 elapsed-requires : tie.Need-elapsed-requires
 elapsed-requires c κs = search needs
@@ -58,13 +58,13 @@ returns c =
     let k7 = k6 .before in
     let k8 = k7 .before in
     let run = k8 .before .before .args .run in
-    rw (c .wait-unless .ensures, k1 .push .ensures, k2 .running-unless .ensures, k3 .set-saturation .ensures, k4 .saturation-done .ensures, k5 .moved-saturation .ensures, toZ-ofZ w64 (k6 .way-at-rate .result) (sfits-of (k6 .way-at-rate .ok)), k6 .way-at-rate .ensures, k7 .elapsed .ensures, toZ-ofZ w64 (k8 .signed-rate .result) (sfits-of (k8 .signed-rate .ok)), k8 .signed-rate .ensures, signed-same (run .task .direction) (run .task .rate) (omega (arith, small-rate (k8 .before .before))), pushed-behind)
+    rw (c .wait-unless .ensures, k1 .push .ensures, k2 .running-unless .ensures, k3 .set-saturation .ensures, k4 .saturation-done .ensures, k5 .moved-saturation .ensures, toZ-ofZ w64 (k6 .way-at-rate .result) (sfits-of (k6 .way-at-rate .ok)), k6 .way-at-rate .ensures, k7 .elapsed .ensures, toZ-ofZ w64 (k8 .signed .result) (sfits-of (k8 .signed .ok)), k8 .signed .ensures, signed-same (run .task .direction) (run .task .rate) (omega (arith, small-rate (k8 .before .before))), pushed-behind)
 
 pub saturation-move-transition-spec : {M : Type 1} → statement M
 saturation-move-transition-spec =
     tie.close
     (tie.spec
-    signed-rate-requires
+    signed-requires
     elapsed-requires
     way-at-rate-requires
     moved-saturation-requires
