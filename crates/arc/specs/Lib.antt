@@ -1,3 +1,1 @@
 pub mod Arc
-pub mod Laws
-pub mod Examples

@@ -1,4 +1,3 @@
 pub mod Setters
 pub mod Form
 pub mod Making
-pub mod Kept

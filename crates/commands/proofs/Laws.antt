@@ -18,15 +18,15 @@ use Rattle.matter.specs.declared.enums.ColorLoopActionEnum.{ColorLoopActionEnum
 use Rattle.matter.specs.Flags.{hasFlag, updateDirection, updateTime, updateStartHue}
 use Rattle.notices.specs.declared.Notices.{Notices}
 use Rattle.notices.specs.Notices.{only, noted, pushed, pushedAll}
-use Rattle.notices.specs.Laws.{only-one, pushed-append, pushed-behind, pushed-all-noted}
+use Rattle.notices.proofs.Laws.{only-one, pushed-append, pushed-behind, pushed-all-noted}
 use Rattle.color.specs.Setters.{hueSet, hueTold}
-use Rattle.color.specs.Kept.{hue-few}
+use Rattle.color.proofs.Kept.{hue-few}
 use Rattle.tasks.specs.declared.GivenTask.{GivenTask}
 use Rattle.tasks.specs.declared.Task.{Task}
 use Rattle.lamp.specs.declared.Lamp.{Lamp}
 use Rattle.commands.specs.Commands.{CommandEffect, withLoop, activity, updatedTold, deactivated, activated, acted}
 use Rattle.commands.specs.Answers.{commandAccepted}
-use Rattle.commands.specs.Kept.{updated-few}
+use Rattle.commands.proofs.Kept.{updated-few}
 use Rattle.commands.specs.Shared.{pushedAnswer}
 
 -- sixteen bits and their negation, in 64

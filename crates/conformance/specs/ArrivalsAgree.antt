@@ -12,12 +12,12 @@ use lib.IntN.{ℤ, pos, negsuc, natAbs, _-ℤ_, _*ℤ_, *ℤ-zero}
 use lib.Signed.{quotZ}
 use borrow.Author.Tests.{eqb-true, leb-true}
 use Rattle.matter.specs.declared.enums.StepModeEnum.{StepModeEnum}
-use Rattle.matter.specs.Laws.{and-left, and-right, cond-both}
+use Rattle.matter.proofs.Laws.{and-left, and-right, cond-both}
 use Rattle.hue.specs.Hue.{movedHue}
-use Rattle.progress.specs.Laws.{permille-is, permille-full, permille-most, part-up, part-down, part-size, part-within, clamp-keeps}
+use Rattle.progress.proofs.Laws.{permille-is, permille-full, permille-most, part-up, part-down, part-size, part-within, clamp-keeps}
 use Rattle.progress.specs.Progress.{permilleOf, partOf, clamp, broughtWithin}
 use Rattle.color.specs.declared.Color.{Color}
-use Rattle.color.specs.Kept.{saturation-hue, mireds-hue}
+use Rattle.color.proofs.Kept.{saturation-hue, mireds-hue}
 use Rattle.tasks.specs.declared.ColorTemperatureMoveTo.{ColorTemperatureMoveTo}
 use Rattle.tasks.specs.declared.ColorTemperatureToRun.{ColorTemperatureToRun}
 use Rattle.tasks.specs.declared.HueDelta.{HueDelta}

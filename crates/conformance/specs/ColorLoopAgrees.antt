@@ -22,7 +22,7 @@ use Rattle.lamp.specs.Answers.{atClock}
 use Rattle.lamp.specs.Typed.{Call, command}
 use Rattle.commands.specs.Answers.{allowed, cause, answer}
 use Rattle.commands.specs.Commands.{withLoop, updated, updatedTold, deactivated, activated, acted, loopSet, commandEffect}
-use Rattle.commands.specs.Kept.{answer-both}
+use Rattle.commands.proofs.Kept.{answer-both}
 use Rattle.conformance.specs.MoveToAgrees.{hue-is-set}
 use Rattle.conformance.specs.ColorLoop.{LoopAttributes, updatedBy, activateFrom, deactivate, actedBy, colorLoopSet, Turning, turningBy}
 

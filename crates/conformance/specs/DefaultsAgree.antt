@@ -7,7 +7,7 @@ use Rattle.matter.specs.declared.limits.Bounds.{Bounds}
 use Rattle.matter.specs.Flags.{hasFlag, xy}
 use Rattle.matter.specs.Numbers.{colorModeNumber, enhancedColorModeNumber, loopDirectionNumber}
 use Rattle.matter.specs.Rules.{defaultColorMode}
-use Rattle.progress.specs.Laws.{clamp-keeps}
+use Rattle.progress.proofs.Laws.{clamp-keeps}
 use Rattle.lamp.specs.Making.{freshLamp}
 use Rattle.conformance.specs.Defaults.{defaultCurrentHue, defaultCurrentSaturation, defaultRemainingTime, defaultColorTemperatureMireds, defaultColorModeNumber, defaultColorLoopDirection, defaultColorLoopTime, defaultColorLoopStartEnhancedHue, defaultColorLoopStoredEnhancedHue}
 

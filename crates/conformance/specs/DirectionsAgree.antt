@@ -11,7 +11,7 @@ use borrow.Author.Tests.{leb-true, leb-false, ltb-true, ltb-false, le-leb, lt-le
 use Rattle.integers.proofs.Sizes.{abs-neg}
 use Rattle.matter.specs.declared.enums.DirectionEnum.{DirectionEnum}
 use Rattle.hue.specs.Hue.{distance, pathDelta}
-use Rattle.hue.specs.Laws.{distance-is, distance-small, way-small}
+use Rattle.hue.proofs.Laws.{distance-is, distance-small, way-small}
 use Rattle.conformance.specs.Directions.{enhancedCircle, plainCircle, Leads, GoesUp, GoesDown, Either, GoesShortest, GoesLongest, Goes, TieGoesUp}
 
 -- a sum on the circle is the sum, or a circle less

@@ -14,7 +14,7 @@ use Rattle.matter.specs.declared.commands.Command.{Command}
 use Rattle.matter.specs.declared.commands.CommandOptions.{CommandOptions}
 use Rattle.matter.specs.declared.enums.MoveModeEnum.{MoveModeEnum}
 use Rattle.matter.specs.declared.enums.OnOff.{OnOff}
-use Rattle.matter.specs.Laws.{cond-both}
+use Rattle.matter.proofs.Laws.{cond-both}
 use Rattle.progress.specs.Progress.{clamp}
 use Rattle.tasks.specs.declared.ColorTemperatureMove.{ColorTemperatureMove}
 use Rattle.tasks.specs.declared.ColorTemperatureRun.{ColorTemperatureRun}
@@ -27,13 +27,13 @@ use Rattle.lamp.specs.declared.Lamp.{Lamp}
 use Rattle.lamp.specs.Answers.{atClock}
 use Rattle.matter.specs.Bounds.{lower, upper}
 use Rattle.lamp.specs.Calls.{done, started, temperatureStart}
-use Rattle.lamp.specs.Kept.{start-ready}
+use Rattle.lamp.proofs.Kept.{start-ready}
 use Rattle.matter.specs.Rules.{signed}
 use Rattle.lamp.specs.Passes.{moved, temperaturePass}
 use Rattle.lamp.specs.Typed.{Call, command, start}
 use Rattle.commands.specs.Answers.{cause, answer, allowed, commandDone}
 use Rattle.commands.specs.Commands.{CommandEffect, asked, lo, hi, stopMode, commandEffect}
-use Rattle.commands.specs.Kept.{answer-both}
+use Rattle.commands.proofs.Kept.{answer-both}
 use Rattle.conformance.specs.Limits.{Allowed, Closest}
 
 module _ (bounds : Bounds) where

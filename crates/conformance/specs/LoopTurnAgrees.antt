@@ -8,7 +8,7 @@ use native.Mathlib.Omega.{arith}
 use borrow.Author.Tests.{ne-eqb}
 use Rattle.matter.specs.Limits.{clockLimit}
 use Rattle.progress.specs.Progress.{loopMs, snapped, loopTurn}
-use Rattle.progress.specs.Laws.{snapped-kept, snapped-below, snapped-near}
+use Rattle.progress.proofs.Laws.{snapped-kept, snapped-below, snapped-near}
 use Rattle.conformance.specs.LoopTurn.{turned}
 
 module _ (elapsed seconds : ℕ) (timely : elapsed ≤ clockLimit) (some : 0 < seconds) where

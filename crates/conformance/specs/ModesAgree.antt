@@ -29,7 +29,7 @@ use Rattle.lamp.specs.Passes.{atEnd, hueNow, hueMoved, saturationNow, saturatio
 use Rattle.lamp.specs.Typed.{command}
 use Rattle.commands.specs.Answers.{cause, answer, isLoopSet, commandDone}
 use Rattle.commands.specs.Commands.{commandEffect}
-use Rattle.commands.specs.Kept.{quiet-command}
+use Rattle.commands.proofs.Kept.{quiet-command}
 use Rattle.conformance.specs.Modes.{Modes, hueModes, enhancedHueModes, temperatureModes, saturationModes, received}
 
 abbrev pub modesOf : Color → Modes

@@ -11,9 +11,9 @@ use borrow.Author.Tests.{eqb-true}
 use Rattle.matter.specs.declared.commands.CommandOptions.{CommandOptions}
 use Rattle.matter.specs.declared.commands.Command.{Command}
 use Rattle.matter.specs.declared.enums.DirectionEnum.{DirectionEnum}
-use Rattle.matter.specs.Laws.{and-left, cond-both}
+use Rattle.matter.proofs.Laws.{and-left, cond-both}
 use Rattle.hue.specs.Hue.{pathDelta, movedHue}
-use Rattle.hue.specs.Laws.{arrives}
+use Rattle.hue.proofs.Laws.{arrives}
 use Rattle.color.specs.declared.Color.{Color}
 use Rattle.color.specs.Setters.{same, hueSet, saturationSet, miredsSet}
 use Rattle.tasks.specs.declared.GivenTask.{GivenTask}

@@ -12,13 +12,13 @@ use lib.IntN.{ℤ}
 use borrow.Author.Tests.{eqb-true, leb-true}
 use Rattle.matter.specs.declared.enums.ColorLoopDirectionEnum.{ColorLoopDirectionEnum}
 use Rattle.matter.specs.declared.enums.MoveModeEnum.{MoveModeEnum}
-use Rattle.matter.specs.Laws.{cond-both}
+use Rattle.matter.proofs.Laws.{cond-both}
 use Rattle.matter.specs.Limits.{clockLimit}
 use Rattle.hue.specs.Hue.{movedHue}
-use Rattle.hue.specs.Laws.{moved-up, moved-down}
+use Rattle.hue.proofs.Laws.{moved-up, moved-down}
 use Rattle.progress.specs.Progress.{wayAtRate, broughtWithin, loopTurn, loopWay}
 use Rattle.color.specs.declared.Color.{Color}
-use Rattle.color.specs.Kept.{saturation-hue, mireds-hue}
+use Rattle.color.proofs.Kept.{saturation-hue, mireds-hue}
 use Rattle.color.specs.Setters.{same, hueSet, saturationSet, miredsSet}
 use Rattle.tasks.specs.declared.ColorLoop.{ColorLoop}
 use Rattle.tasks.specs.declared.ColorLoopRun.{ColorLoopRun}
@@ -35,7 +35,7 @@ use Rattle.lamp.specs.declared.Lamp.{Lamp}
 use Rattle.lamp.specs.Answers.{atClock}
 use Rattle.matter.specs.Bounds.{lower, upper}
 use Rattle.lamp.specs.Calls.{temperatureStart, started, stepped}
-use Rattle.lamp.specs.Kept.{form-clock}
+use Rattle.lamp.proofs.Kept.{form-clock}
 use Rattle.matter.specs.Rules.{signed}
 use Rattle.lamp.specs.Passes.{Effect, saturationDone, miredsDone, huePass, saturationPass, temperaturePass, loopPass}
 use Rattle.lamp.specs.Typed.{step}

@@ -8,7 +8,7 @@ use mathlib.Core.Path.{_≡_, refl, sym, ap, subst, _∙_}
 use native.Mathlib.Omega.{arith}
 use lib.Dec.{leb}
 use lib.IntN.{pos}
-use Rattle.matter.specs.Laws.{cond-both}
+use Rattle.matter.proofs.Laws.{cond-both}
 use Rattle.matter.specs.Limits.{saturationLimit}
 use Rattle.progress.specs.Progress.{wayAtRate, clamp, broughtWithin}
 use Rattle.tasks.specs.declared.ColorTemperatureRun.{ColorTemperatureRun}
@@ -24,13 +24,13 @@ use Rattle.lamp.specs.Answers.{atClock}
 use Rattle.matter.specs.Bounds.{lower, upper}
 use Rattle.lamp.specs.Calls.{hueSaturationStart, temperatureToStart, temperatureStart, started, stepped}
 use Rattle.lamp.specs.Form.{lampForm}
-use Rattle.lamp.specs.Kept.{start-ready}
+use Rattle.lamp.proofs.Kept.{start-ready}
 use Rattle.matter.specs.Rules.{signed}
 use Rattle.lamp.specs.Passes.{Effect, unless, atEnd, saturationDone, miredsDone, hueSaturationPass, temperatureToPass, huePass, saturationPass, temperaturePass, loopPass}
 use Rattle.lamp.specs.Typed.{start, step}
 use Rattle.commands.specs.Answers.{cause, answer}
-use Rattle.commands.specs.Kept.{answer-both, granted-ready}
-use Rattle.commands.specs.Table.{step-7, step-8}
+use Rattle.commands.proofs.Kept.{answer-both, granted-ready}
+use Rattle.commands.proofs.Table.{step-7, step-8}
 
 -- a start, and steps after it
 pub data Ran (m : Lamp) (task : Task) (begun : ℕ) : Lamp → Type 0 where

@@ -18,14 +18,14 @@ use Rattle.matter.specs.declared.enums.DirectionEnum.{DirectionEnum}
 use Rattle.matter.specs.declared.enums.MoveModeEnum.{MoveModeEnum}
 use Rattle.matter.specs.declared.enums.OnOff.{OnOff}
 use Rattle.matter.specs.declared.enums.StepModeEnum.{StepModeEnum}
-use Rattle.matter.specs.Laws.{all-of, cond-both}
+use Rattle.matter.proofs.Laws.{all-of, cond-both}
 use Rattle.matter.specs.Typed.{TypedCommand}
 use Rattle.hue.specs.Hue.{pathDelta}
-use Rattle.hue.specs.Laws.{way-small}
-use Rattle.progress.specs.Laws.{clamp-keeps, clamp-within}
+use Rattle.hue.proofs.Laws.{way-small}
+use Rattle.progress.proofs.Laws.{clamp-keeps, clamp-within}
 use Rattle.progress.specs.Progress.{clamp}
 use Rattle.color.specs.Form.{colorForm}
-use Rattle.color.specs.Kept.{form-saturation, form-above, form-below}
+use Rattle.color.proofs.Kept.{form-saturation, form-above, form-below}
 use Rattle.tasks.specs.declared.GivenTask.{GivenTask}
 use Rattle.tasks.specs.declared.TargetSaturation.{TargetSaturation}
 use Rattle.tasks.specs.declared.Task.{Task}
@@ -34,13 +34,13 @@ use Rattle.lamp.specs.declared.Lamp.{Lamp}
 use Rattle.lamp.specs.Answers.{atClock, badClock, formOrClock}
 use Rattle.matter.specs.Bounds.{lower, upper}
 use Rattle.lamp.specs.Form.{lampForm}
-use Rattle.lamp.specs.Kept.{form-color, no-cause}
+use Rattle.lamp.proofs.Kept.{form-color, no-cause}
 use Rattle.matter.specs.Rules.{signed}
 use Rattle.lamp.specs.Typed.{command, start}
 use Rattle.commands.specs.Answers.{allowed, commandCause, afterClock, cause, answer}
 use Rattle.commands.specs.Commands.{causeIf, isStop, stopMode, numberCause, asked, lo, hi, stored, hueTask, saturationTask, hueMoveTask, temperatureTask, stepWay, saturationStep, commandEffect}
-use Rattle.commands.specs.Kept.{answer-both, granted-ready}
-use Rattle.commands.specs.Table.{start-0}
+use Rattle.commands.proofs.Kept.{answer-both, granted-ready}
+use Rattle.commands.proofs.Table.{start-0}
 use Rattle.conformance.specs.ArrivalsAgree.{move-to-follows, mireds-to-follow}
 use Rattle.conformance.specs.DirectionsAgree.{directions-agree}
 use Rattle.conformance.specs.Limits.{Allowed}

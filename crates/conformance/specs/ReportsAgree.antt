@@ -12,7 +12,7 @@ use lib.ListN.{length, replicate}
 use borrow.Author.Tests.{leb-true, le-leb, lt-leb, ltb-true, ltb-false, lt-ltb, le-ltb, eqb-true, eqb-false, ne-eqb, not-true}
 use Rattle.matter.specs.declared.enums.ColorModeEnum.{ColorModeEnum}
 use Rattle.matter.specs.Limits.{saturationLimit}
-use Rattle.matter.specs.Laws.{and-left, and-right, or-left, or-right, cond-both}
+use Rattle.matter.proofs.Laws.{and-left, and-right, or-left, or-right, cond-both}
 use Rattle.notices.specs.Notices.{only, filled}
 use Rattle.notices.specs.Names.{CurrentHue, EnhancedCurrentHue, CurrentSaturation, ColorTemperatureMireds, ColorMode, EnhancedColorMode, RemainingTime, markedDirty, scenesTold, deviceHueSaturation, deviceMireds}
 use Rattle.color.specs.declared.Color.{Color}

@@ -13,13 +13,13 @@ use lib.Dec.{leb, eqb}
 use lib.IntN.{ℤ, pos, negsuc, natAbs, _-ℤ_}
 use borrow.Author.Tests.{eqb-true, eq-eqb, ne-eqb, leb-true, leb-false, lt-leb}
 use Rattle.matter.specs.declared.limits.Bounds.{Bounds}
-use Rattle.matter.specs.Laws.{and-left, and-right, cond-both, each}
+use Rattle.matter.proofs.Laws.{and-left, and-right, cond-both, each}
 use Rattle.hue.specs.Hue.{movedHue}
 use Rattle.progress.specs.Progress.{permilleOf, partOf, clamp}
-use Rattle.progress.specs.Laws.{permille-is, permille-full, permille-short, permille-most, part-up}
+use Rattle.progress.proofs.Laws.{permille-is, permille-full, permille-short, permille-most, part-up}
 use Rattle.remaining_time.specs.RemainingTime.{newTenths}
 use Rattle.color.specs.declared.Color.{Color}
-use Rattle.color.specs.Kept.{form-saturation, form-above, form-below}
+use Rattle.color.proofs.Kept.{form-saturation, form-above, form-below}
 use Rattle.tasks.specs.declared.ColorTemperatureMoveTo.{ColorTemperatureMoveTo}
 use Rattle.tasks.specs.declared.ColorTemperatureToRun.{ColorTemperatureToRun}
 use Rattle.tasks.specs.declared.HueDelta.{HueDelta}
@@ -35,12 +35,12 @@ use Rattle.lamp.specs.declared.Lamp.{Lamp}
 use Rattle.lamp.specs.Answers.{atClock}
 use Rattle.lamp.specs.Calls.{started, stepped, hueSaturationStart, temperatureToStart, startPermille, noHueWay, noSaturationWay, fullWritten}
 use Rattle.lamp.specs.Form.{lampForm}
-use Rattle.lamp.specs.Kept.{form-color, form-running, start-ready}
+use Rattle.lamp.proofs.Kept.{form-color, form-running, start-ready}
 use Rattle.lamp.specs.Passes.{atEnd, unless, hueMoved, saturationMoved, saturationNow, miredsNow, hueNow, remainingSet, hueSaturationPass, temperatureToPass}
 use Rattle.lamp.specs.Typed.{Call, start, step}
 use Rattle.commands.specs.Answers.{cause, answer, granted}
-use Rattle.commands.specs.Kept.{answer-both, granted-ready}
-use Rattle.commands.specs.Table.{step-7, step-8}
+use Rattle.commands.proofs.Kept.{answer-both, granted-ready}
+use Rattle.commands.proofs.Table.{step-7, step-8}
 use Rattle.conformance.specs.Limits.{Closest}
 use Rattle.conformance.specs.LimitsAgree.{closest-agrees, closest-only}
 use Rattle.conformance.specs.MoveToAgrees.{hue-is-set, hue-leaves, saturation-is-set, saturation-leaves, mireds-is-set, mireds-leaves}

@@ -14,7 +14,7 @@ use Rattle.matter.specs.declared.enums.MoveModeEnum.{MoveModeEnum}
 use Rattle.matter.specs.declared.enums.StepModeEnum.{StepModeEnum}
 use Rattle.matter.specs.Limits.{clockLimit}
 use Rattle.hue.specs.Hue.{movedHue, shownHue}
-use Rattle.hue.specs.Laws.{moved-up, moved-down}
+use Rattle.hue.proofs.Laws.{moved-up, moved-down}
 use Rattle.progress.specs.Progress.{wayAtRate, clamp, broughtWithin}
 use Rattle.matter.specs.Rules.{signed}
 use Rattle.lamp.specs.Passes.{saturationDone, miredsDone}

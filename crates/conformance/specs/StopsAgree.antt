@@ -22,7 +22,7 @@ use Rattle.lamp.specs.Passes.{unless, atEnd, hueSaturationPass}
 use Rattle.lamp.specs.Typed.{command, halt}
 use Rattle.commands.specs.Answers.{allowed, cause, answer}
 use Rattle.commands.specs.Commands.{commandEffect}
-use Rattle.commands.specs.Kept.{answer-both}
+use Rattle.commands.proofs.Kept.{answer-both}
 use Rattle.conformance.specs.Stops.{Terminated, NoTimeLeft, turnsAfterStop, loopTurns}
 
 -- StopMoveStep with leave to run asks for a stop (every Stop mode does: `options-passed-by` in OptionsAgree)

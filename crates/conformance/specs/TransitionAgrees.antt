@@ -10,11 +10,11 @@ use lib.Dec.{leb, ltb}
 use lib.IntN.{ℤ, pos, negsuc, negℤ, natAbs, _-ℤ_}
 use borrow.Author.Tests.{ltb-true, ltb-false, leb-true, leb-false, le-leb, lt-leb}
 use Rattle.matter.specs.declared.enums.StepModeEnum.{StepModeEnum}
-use Rattle.matter.specs.Laws.{cond-both}
+use Rattle.matter.proofs.Laws.{cond-both}
 use Rattle.hue.specs.Hue.{movedHue}
 use Rattle.integers.proofs.Sizes.{abs-neg}
 use Rattle.progress.specs.Progress.{permilleOf, partOf, broughtWithin}
-use Rattle.progress.specs.Laws.{permille-is, permille-full, permille-short, part-down, part-size, part-within, part-whole}
+use Rattle.progress.proofs.Laws.{permille-is, permille-full, permille-short, part-down, part-size, part-within, part-whole}
 use Rattle.commands.specs.Commands.{stepWay}
 use Rattle.conformance.specs.Limits.{away}
 use Rattle.conformance.specs.Steps.{enhancedHueMaximum, hueStepTo}

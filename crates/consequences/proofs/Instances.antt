@@ -6,15 +6,15 @@ use mathlib.Core.Path.{_≡_, sym, _∙_, ap}
 use lib.Dec.{lit<}
 use Rattle.matter.specs.declared.enums.DirectionEnum.{DirectionEnum}
 use Rattle.hue.specs.Hue.{movedHue}
-use Rattle.hue.specs.Laws.{moved-up}
-use Rattle.arc.specs.Laws.{typed-shown}
-use Rattle.arc.specs.Examples.{green}
+use Rattle.hue.proofs.Laws.{moved-up}
+use Rattle.arc.proofs.Laws.{typed-shown}
+use Rattle.arc.proofs.Examples.{green}
 use Rattle.lamp.specs.Typed.{Call}
 use Rattle.schedule.specs.Calls.{idle, steps}
 use Rattle.schedule.specs.Fades.{begun, later}
 use Rattle.consequences.specs.Together.{ShowSame}
 use Rattle.consequences.specs.NeverThrough.{Avoids}
-use Rattle.consequences.specs.Examples.{redToCyan, alone, among, movedTo50, asked, same-clocks, off-by-50, alike, premised, premised-but-hue}
+use Rattle.consequences.proofs.Examples.{redToCyan, alone, among, movedTo50, asked, same-clocks, off-by-50, alike, premised, premised-but-hue}
 use Rattle.consequences.proofs.NeverThrough.{never-through-asked}
 use Rattle.consequences.proofs.OffTarget.{off-target}
 use Rattle.consequences.proofs.Together.{after-each}

@@ -7,7 +7,7 @@ use mathlib.Core.Path.{_≡_, refl}
 use Rattle.lamp.specs.declared.Lamp.{Lamp}
 use Rattle.lamp.specs.Form.{lampForm}
 use Rattle.lamp.specs.Typed.{Call, TypedLamp, TypedCall}
-use Rattle.commands.specs.Kept.{form-kept, typed-kept}
+use Rattle.commands.proofs.Kept.{form-kept, typed-kept}
 use Rattle.schedule.specs.Calls.{next, after, TypedCalls}
 use Rattle.schedule.specs.Schedule.{target}
 use Rattle.schedule.specs.Claim.{fed, KeptFade}

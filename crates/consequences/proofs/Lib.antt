@@ -3,3 +3,4 @@ pub mod NeverThrough
 pub mod OffTarget
 pub mod Together
 pub mod Instances
+pub mod Examples

@@ -7,7 +7,7 @@ use lib.IntN.{ℤ, pos, negsuc, natAbs}
 use lib.Signed.{leZ}
 use Rattle.hue.specs.Hue.{distance}
 use Rattle.arc.specs.Arc.{OnArc}
-use Rattle.arc.specs.Laws.{arc-up, arc-down, none-inside}
+use Rattle.arc.proofs.Laws.{arc-up, arc-down, none-inside}
 use Rattle.schedule.specs.Schedule.{target, wayFrom}
 use Rattle.schedule.specs.Fades.{found, later}
 use Rattle.consequences.specs.NeverThrough.{StaysOnArc, NeverThrough, NeverThroughAsked}

@@ -13,9 +13,9 @@ use lib.Dec.{leb, eqb}
 use lib.IntN.{ℤ, pos, negsuc, negℤ, _-ℤ_, +ℤ-assoc}
 use borrow.Author.Tests.{leb-true, not-true}
 use Rattle.hue.specs.Hue.{modulo, movedHue}
-use Rattle.hue.specs.Laws.{moved-up, moved-down, arrives}
+use Rattle.hue.proofs.Laws.{moved-up, moved-down, arrives}
 use Rattle.progress.specs.Progress.{partOf}
-use Rattle.progress.specs.Laws.{permille-most, part-whole}
+use Rattle.progress.proofs.Laws.{permille-most, part-whole}
 use Rattle.tasks.specs.declared.Running.{Running}
 use Rattle.lamp.specs.declared.Lamp.{Lamp}
 use Rattle.lamp.specs.Answers.{atClock}
@@ -23,7 +23,7 @@ use Rattle.lamp.specs.Calls.{startPermille, fullWritten, started, stepped, hueS
 use Rattle.lamp.specs.Passes.{remainingSet, hueSaturationPass}
 use Rattle.lamp.specs.Typed.{Call, command, start, step, halt}
 use Rattle.commands.specs.Answers.{isLoopSet}
-use Rattle.commands.specs.Kept.{quiet-command}
+use Rattle.commands.proofs.Kept.{quiet-command}
 use Rattle.schedule.specs.Calls.{next, after, accepts, idle, interrupts, quiet}
 use Rattle.schedule.specs.Schedule.{Fed, target, time, wayFrom, taskOf}
 use Rattle.schedule.specs.Claim.{fed}

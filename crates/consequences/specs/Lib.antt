@@ -1,4 +1,3 @@
 pub mod Together
 pub mod NeverThrough
 pub mod OffTarget
-pub mod Examples

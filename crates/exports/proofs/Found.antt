@@ -15,7 +15,7 @@ use Rattle.matter.specs.declared.enums.ColorLoopDirectionFound.{ColorLoopDirect
 use Rattle.matter.specs.declared.enums.ColorModeFound.{ColorModeFound}
 use Rattle.matter.specs.declared.enums.EnhancedColorModeFound.{EnhancedColorModeFound}
 use Rattle.matter.specs.declared.enums.OnOffFound.{OnOffFound}
-use Rattle.matter.specs.Laws.{and-left, and-right}
+use Rattle.matter.proofs.Laws.{and-left, and-right}
 use Rattle.matter.specs.Numbers.{caseNumbered, directionNumber, directions, directionFound, moveModeNumber, moveModes, moveModeFound, stepModeNumber, stepModes, stepModeFound, loopActionNumber, loopActions, loopActionFound, loopDirectionNumber, loopDirections, loopDirectionFound, colorModeNumber, colorModes, colorModeFound, enhancedColorModeNumber, enhancedColorModes, enhancedColorModeFound, onOffNumber, onOffs, onOffFound}
 use Rattle.exports.specs.Words.{capped}
 

@@ -6,5 +6,4 @@ pub mod Kinds
 pub mod Calls
 pub mod Answers
 pub mod Exported
-pub mod Laws
-pub mod Carried
+pub mod RoundTrips

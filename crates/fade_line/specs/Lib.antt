@@ -1,5 +1,3 @@
 pub mod Line
 pub mod Reading
-pub mod LineLaws
 pub mod Text
-pub mod TextLaws

@@ -1,4 +1,1 @@
 pub mod Run
-pub mod Laws
-pub mod Budget
-pub mod Examples

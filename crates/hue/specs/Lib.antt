@@ -1,2 +1,1 @@
 pub mod Hue
-pub mod Laws

@@ -1,56 +1,84 @@
--- Laws that the proofs of several functions cite: what a form says of an integer's size, and that notices pushed one after the
--- other are pushed as one list.
+-- Making and refusals: each number in its cause and in no other, and a lamp that is made is in form.
 -- Assumes nothing.
 use Prim.Native.Nat.{ℕ, _≤_, _<_}
-use mathlib.Core.Bool.{true, not}
-use mathlib.Core.List.{List, [], _∷_, _++_}
-use mathlib.Core.Path.{_≡_, refl}
+use mathlib.Core.Option.{some, none}
+use mathlib.Core.Bool.{Bool, true, false, cond}
+use mathlib.Core.Path.{_≡_, refl, sym, ap}
 use native.Mathlib.Omega.{arith}
-use lib.IntN.{ℤ, pos, negsuc, negℤ, natAbs, _-ℤ_}
 use lib.Dec.{eqb}
-use lib.Signed.{leZ}
-use borrow.Author.Tests.{leb-true}
-use Rattle.integers.proofs.Sizes.{abs-neg, abs-difference}
-use Rattle.matter.specs.declared.enums.MoveModeEnum.{MoveModeEnum}
-use Rattle.matter.specs.Laws.{and-left, and-right}
-use Rattle.notices.specs.declared.Notices.{Notices}
-use Rattle.notices.specs.Notices.{pushed, pushedAll}
-use Rattle.notices.specs.Laws.{pushed-append, pushed-behind}
-use Rattle.progress.specs.Progress.{limited}
-use Rattle.progress.specs.Laws.{limited-same}
-use Rattle.tasks.specs.Form.{small, rateForm}
-use Rattle.matter.specs.Rules.{signed}
+use lib.IntN.{pos}
+use borrow.Author.Tests.{eqb-true, lt-ltb, le-ltb, le-leb}
+use Rattle.matter.specs.declared.limits.Bounds.{Bounds}
+use Rattle.matter.specs.declared.enums.EnhancedColorModeEnum.{EnhancedColorModeEnum}
+use Rattle.matter.proofs.Laws.{all-of}
+use Rattle.matter.specs.Limits.{clockLimit}
+use Rattle.matter.specs.Rules.{colorModeOf, defaultColorMode}
+use Rattle.progress.specs.Progress.{clamp}
+use Rattle.progress.proofs.Laws.{clamp-within}
+use Rattle.color.specs.Form.{modesAgree, colorForm}
+use Rattle.color.specs.Making.{newColor}
+use Rattle.tasks.specs.Form.{runningForm}
+use Rattle.lamp.specs.declared.Lamp.{Lamp}
+use Rattle.lamp.specs.declared.Made.{Made}
+use Rattle.lamp.specs.Answers.{badClock, formOrClock}
+use Rattle.lamp.specs.Form.{lampForm}
+use Rattle.lamp.specs.Making.{freshLamp, makingCause, making, madeValues, makingValues}
 
--- ---- integers within ±65,535
+-- ---- making: 4 exactly above the limit, whatever the bounds; 5 exactly at a good clock with crossed bounds
 
-small-size : (z : ℤ) → leZ (negℤ (pos 65535)) z ≡ true → leZ z (pos 65535) ≡ true → natAbs z ≤ 65535
-small-size (pos n) h k = leb-true n 65535 k
-small-size (negsuc n) h k = omega (arith, leb-true n 65534 h)
+module _ (bounds : Bounds) (clock : ℕ) where
+  pub making-clock : clockLimit < clock → makingCause bounds clock ≡ 4
+  making-clock h = simp (lt-ltb _ _ h)
 
--- ways and rates in form are read as they are
-pub small-same : (z : ℤ) → small z ≡ true → limited z ≡ z
-small-same z h =
-    let low : leZ (negℤ (pos 65535)) z ≡ true = and-left (leZ (negℤ (pos 65535)) z) (leZ z (pos 65535)) h in
-    let high : leZ z (pos 65535) ≡ true = and-right (leZ (negℤ (pos 65535)) z) (leZ z (pos 65535)) h in
-    limited-same z (small-size z low high)
+  pub making-crossed : clock ≤ clockLimit → bounds .max < bounds .min → makingCause bounds clock ≡ 5
+  making-crossed h k = simp (le-ltb _ _ h, lt-ltb _ _ k)
 
-pub rate-same : (z : ℤ) → rateForm z ≡ true → limited z ≡ z
-rate-same z h = small-same z (and-right (not (eqb (natAbs z) 0)) (small z) h)
+  pub making-accepted : clock ≤ clockLimit → bounds .min ≤ bounds .max → makingCause bounds clock ≡ 0
+  making-accepted h k = simp (le-ltb _ _ h, le-ltb _ _ k)
 
-signed-size : (mode : MoveModeEnum) (rate : ℕ) → natAbs (signed mode rate) ≤ rate
-signed-size MoveModeEnum.Stop rate = omega arith
-signed-size MoveModeEnum.Up rate = omega arith
-signed-size MoveModeEnum.Down rate = omega (arith, abs-neg (pos rate))
+-- the answer's number is the cause, and its lamp the fresh one exactly where there is none
+values-by : (n : ℕ) (l : Lamp) (t : Bool) → eqb n 0 ≡ t →
+    madeValues (cond t (Made.Lamp l) (Made.Refused n)) ≡ record { number = n; lamp = cond t (some l) none }
+values-by n l true e = ap (λ m. record { number = m; lamp = some l }) (sym (eqb-true n 0 e))
+values-by n l false e = refl
 
-pub signed-same : (mode : MoveModeEnum) (rate : ℕ) → rate ≤ 65535 → limited (signed mode rate) ≡ signed mode rate
-signed-same mode rate h = limited-same (signed mode rate) (omega (arith, signed-size mode rate))
+pub made-values : (bounds : Bounds) (features options clock : ℕ) →
+    madeValues (making bounds features options clock) ≡ makingValues bounds features options clock
+unfolding making makingValues
+made-values bounds features options clock =
+    values-by (makingCause bounds clock) (freshLamp bounds features options clock) (eqb (makingCause bounds clock) 0) refl
 
--- and so is a way between two numbers of sixteen bits
-pub between-same : (start target : ℕ) → start < 65536 → target < 65536 → limited (pos target -ℤ pos start) ≡ pos target -ℤ pos start
-between-same start target h k = limited-same (pos target -ℤ pos start) (omega (arith, abs-difference target start))
+-- ---- a lamp that is made is in form
 
--- ---- notices
+own-mode : (e : EnhancedColorModeEnum) → modesAgree (colorModeOf e) e ≡ true
+own-mode EnhancedColorModeEnum.CurrentHueAndCurrentSaturation = refl
+own-mode EnhancedColorModeEnum.CurrentXAndCurrentY = refl
+own-mode EnhancedColorModeEnum.ColorTemperatureMireds = refl
+own-mode EnhancedColorModeEnum.EnhancedCurrentHueAndCurrentSaturation = refl
 
--- two setters, the device, and what may follow
-pub two-setters : (n : Notices) (xs ys : List ℕ) (x : ℕ) (zs : List ℕ) → pushedAll (pushed (pushedAll (pushedAll n xs) ys) x) zs ≡ pushedAll n (xs ++ ys ++ (x ∷ []) ++ zs)
-two-setters n xs ys x zs = rw (pushed-append n xs ys, pushed-behind n (xs ++ ys) x, pushed-append n (xs ++ ys ++ (x ∷ [])) zs)
+module _ (bounds : Bounds) (features options clock : ℕ) (ordered : bounds .min ≤ bounds .max) (timely : clock ≤ clockLimit) where
+  new-color-form : colorForm (newColor features bounds) bounds clock ≡ true
+  unfolding colorForm
+  new-color-form =
+      let within : (bounds .min ≤ clamp (bounds .min) (bounds .max) (pos 250)) × (clamp (bounds .min) (bounds .max) (pos 250) ≤ bounds .max) = clamp-within (bounds .min) (bounds .max) (pos 250) ordered in
+      all-of _
+      (refl, (le-leb _ _ (within .0), (le-leb _ _ (within .1), (le-leb _ _ ordered, (own-mode (defaultColorMode features), (le-leb 0 clock (omega arith), (le-leb 0 clock (omega arith), (le-leb 0 clock (omega arith), tt))))))))
+
+  pub fresh-form : lampForm (freshLamp bounds features options clock) ≡ true
+  unfolding lampForm runningForm
+  fresh-form = all-of _ (le-leb clock clockLimit timely, (new-color-form, (refl, tt)))
+
+-- ---- 8 exactly out of form, whatever the clock; 4 exactly in form at a bad clock
+
+module _ (l : Lamp) (clock : ℕ) where
+  pub form-first : lampForm l ≡ false → formOrClock l clock ≡ 8
+  unfolding formOrClock
+  form-first h = simp h
+
+  pub clock-second : lampForm l ≡ true → badClock l clock ≡ true → formOrClock l clock ≡ 4
+  unfolding formOrClock
+  clock-second h k = simp (h, k)
+
+  pub neither : lampForm l ≡ true → badClock l clock ≡ false → formOrClock l clock ≡ 0
+  unfolding formOrClock
+  neither h k = simp (h, k)

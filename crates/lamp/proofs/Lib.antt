@@ -1,1 +1,4 @@
+pub mod Shared
+pub mod Kept
 pub mod Laws
+pub mod TypedKept

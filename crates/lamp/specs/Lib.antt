@@ -2,9 +2,6 @@ pub mod Form
 pub mod Making
 pub mod Answers
 pub mod Typed
-pub mod Laws
 pub mod Passes
 pub mod Calls
 pub mod Passed
-pub mod Kept
-pub mod TypedKept

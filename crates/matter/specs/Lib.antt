@@ -6,4 +6,3 @@ pub mod Causes
 pub mod All
 pub mod Bounds
 pub mod Typed
-pub mod Laws

@@ -16,7 +16,7 @@ use Rattle.lamp.specs.Form.{lampForm}
 use Rattle.lamp.specs.Typed.{Call, command, start, step, halt}
 use Rattle.commands.specs.Commands.{stopMode, numberCause, crossed}
 use Rattle.commands.specs.Answers.{allowed, commandCause, cause, answer, granted, clockOf}
-use Rattle.commands.specs.Kept.{answer-both, number-is-cause, refused-same}
+use Rattle.commands.proofs.Kept.{answer-both, number-is-cause, refused-same}
 use Rattle.schedule.specs.Calls.{next, accepts}
 use Rattle.schedule.proofs.Tests.{either, below-is}
 

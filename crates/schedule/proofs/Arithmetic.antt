@@ -14,9 +14,9 @@ use borrow.Author.Tests.{leb-true, leb-false, le-leb, lt-leb}
 use Rattle.integers.proofs.Sizes.{abs-neg}
 use Rattle.matter.specs.declared.enums.DirectionEnum.{DirectionEnum}
 use Rattle.hue.specs.Hue.{distance, pathDelta, movedHue}
-use Rattle.hue.specs.Laws.{moved-small, moved-up, moved-down, distance-is, way-small, arrives}
+use Rattle.hue.proofs.Laws.{moved-small, moved-up, moved-down, distance-is, way-small, arrives}
 use Rattle.progress.specs.Progress.{permilleOf, partOf, tenthsOf}
-use Rattle.progress.specs.Laws.{permille-full, permille-short, part-down, part-whole, part-size, part-within}
+use Rattle.progress.proofs.Laws.{permille-full, permille-short, part-down, part-whole, part-size, part-within}
 use Rattle.remaining_time.specs.RemainingTime.{newTenths}
 use Rattle.tasks.specs.declared.HueDelta.{HueDelta}
 use Rattle.schedule.proofs.Tests.{either}

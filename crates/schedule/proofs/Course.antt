@@ -11,14 +11,14 @@ use lib.IntN.{natAbs}
 use borrow.Author.Tests.{leb-true, leb-false, le-leb, lt-leb, eqb-true, ne-eqb, not-true}
 use Rattle.matter.specs.Limits.{clockLimit}
 use Rattle.hue.specs.Hue.{movedHue}
-use Rattle.hue.specs.Laws.{way-small}
+use Rattle.hue.proofs.Laws.{way-small}
 use Rattle.progress.specs.Progress.{permilleOf, partOf}
-use Rattle.progress.specs.Laws.{permille-most, permille-grows, part-within, part-grows}
+use Rattle.progress.proofs.Laws.{permille-most, permille-grows, part-within, part-grows}
 use Rattle.lamp.specs.Typed.{Call, command, start, step, halt}
 use Rattle.commands.specs.Answers.{clockOf}
 use Rattle.schedule.specs.Calls.{isStep}
 use Rattle.schedule.specs.Schedule.{target, wayFrom, time, Fed, Shown, over, shownAt, takes, whenTaken, followed}
-use Rattle.matter.specs.Laws.{and-left, and-right, or-left, or-right}
+use Rattle.matter.proofs.Laws.{and-left, and-right, or-left, or-right}
 use Rattle.schedule.proofs.Tests.{either, never, positive, leb-same}
 use Rattle.schedule.proofs.Arithmetic.{gone, gone-part, gone-whole}
 

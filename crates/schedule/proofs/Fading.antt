@@ -12,7 +12,7 @@ use Rattle.matter.specs.declared.enums.OnOff.{OnOff}
 use Rattle.matter.specs.Flags.{hasFlag, executeIfOff}
 use Rattle.matter.specs.Rules.{leave}
 use Rattle.progress.specs.Progress.{permilleOf}
-use Rattle.progress.specs.Laws.{permille-full, permille-is}
+use Rattle.progress.proofs.Laws.{permille-full, permille-is}
 use Rattle.tasks.specs.declared.HueDelta.{HueDelta}
 use Rattle.tasks.specs.Runs.{runs}
 use Rattle.tasks.specs.declared.Running.{Running}
@@ -24,10 +24,10 @@ use Rattle.lamp.specs.Form.{lampForm}
 use Rattle.lamp.specs.Passes.{hueSaturationPass, remainingSet}
 use Rattle.lamp.specs.Typed.{Call, command, start, step, halt}
 use Rattle.commands.specs.Answers.{answer, isLoopSet}
-use Rattle.commands.specs.Kept.{form-kept, bounds-kept, options-kept, quiet-command}
+use Rattle.commands.proofs.Kept.{form-kept, bounds-kept, options-kept, quiet-command}
 use Rattle.schedule.specs.Calls.{next, accepts, idle, acceptedStep, interrupts}
 use Rattle.schedule.specs.Schedule.{taskOf, time, wayFrom, Fed, Shown, over, shownAt, own, takes, whenTaken, followed}
-use Rattle.matter.specs.Laws.{or-left}
+use Rattle.matter.proofs.Laws.{or-left}
 use Rattle.schedule.proofs.Tests.{either, never, positive}
 use Rattle.schedule.proofs.Course.{Sane, Right, wholeOf, at-right, step-open, followed-right, done-is, begins-done}
 use Rattle.schedule.proofs.Pass.{Shows, Meets, runFrom, runOf, runningOf, pass-ends, pass-goes}

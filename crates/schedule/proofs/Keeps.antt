@@ -10,7 +10,7 @@ use lib.Dec.{eqb}
 use borrow.Author.Tests.{leb-true}
 use Rattle.matter.specs.declared.enums.OnOff.{OnOff}
 use Rattle.matter.specs.Flags.{hasFlag, executeIfOff}
-use Rattle.matter.specs.Laws.{each, and-right}
+use Rattle.matter.proofs.Laws.{each, and-right}
 use Rattle.matter.specs.Typed.{TypedCommand}
 use Rattle.tasks.specs.declared.GivenTask.{GivenTask}
 use Rattle.tasks.specs.Form.{taskForm, moveToForm}
@@ -20,7 +20,7 @@ use Rattle.lamp.specs.Form.{lampForm}
 use Rattle.lamp.specs.Typed.{Call, command, start, TypedLamp}
 use Rattle.commands.specs.Commands.{commandEffect}
 use Rattle.commands.specs.Answers.{answer, allowed}
-use Rattle.commands.specs.Kept.{form-kept, bounds-kept, options-kept}
+use Rattle.commands.proofs.Kept.{form-kept, bounds-kept, options-kept}
 use Rattle.schedule.specs.Calls.{next, after, accepts, interrupts, quiet, steps, paced}
 use Rattle.schedule.specs.Schedule.{HueCommand, asCommand, target, time, taskOf, Fed, Shown, shownAt, scheduledFrom}
 use Rattle.schedule.specs.Claim.{Keeps, KeepsAt, KeptFade, fed, Kept, Claim}

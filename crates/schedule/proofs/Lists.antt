@@ -3,11 +3,11 @@
 use mathlib.Core.Bool.{true, not, _&&_}
 use mathlib.Core.List.{List, [], _∷_, _++_}
 use mathlib.Core.Path.{_≡_, refl, _∙_}
-use Rattle.matter.specs.Laws.{and-left, and-right}
+use Rattle.matter.proofs.Laws.{and-left, and-right}
 use Rattle.lamp.specs.declared.Lamp.{Lamp}
 use Rattle.lamp.specs.Form.{lampForm}
 use Rattle.lamp.specs.Typed.{Call, TypedLamp}
-use Rattle.commands.specs.Kept.{form-kept, typed-kept, bounds-kept, options-kept}
+use Rattle.commands.proofs.Kept.{form-kept, typed-kept, bounds-kept, options-kept}
 use Rattle.schedule.specs.Calls.{next, after, accepts, TypedCalls, interrupts, quiet}
 use Rattle.schedule.specs.Schedule.{Fed, Shown, followed, scheduledFrom}
 

@@ -10,7 +10,7 @@ use native.Mathlib.Nat.{le-trans}
 use native.Mathlib.Omega.{arith}
 use lib.Dec.{leb}
 use borrow.Author.Tests.{leb-true}
-use Rattle.matter.specs.Laws.{and-left, and-right}
+use Rattle.matter.proofs.Laws.{and-left, and-right}
 use Rattle.lamp.specs.declared.Lamp.{Lamp}
 use Rattle.lamp.specs.Typed.{Call}
 use Rattle.commands.specs.Answers.{answer, clockOf}

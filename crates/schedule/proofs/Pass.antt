@@ -16,7 +16,7 @@ use Rattle.tasks.specs.declared.Running.{Running}
 use Rattle.lamp.specs.declared.Lamp.{Lamp}
 use Rattle.lamp.specs.Passes.{Effect, hueSaturationPass}
 use Rattle.schedule.specs.Schedule.{target, wayFrom, time, Fed, Shown, over, shownAt}
-use Rattle.matter.specs.Laws.{and-left, or-left}
+use Rattle.matter.proofs.Laws.{and-left, or-left}
 use Rattle.schedule.proofs.Tests.{either}
 use Rattle.schedule.proofs.Arithmetic.{whole-arrives, at-end, tenths-fit}
 use Rattle.schedule.proofs.Course.{Sane}

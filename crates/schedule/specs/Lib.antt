@@ -2,5 +2,3 @@ pub mod Calls
 pub mod Schedule
 pub mod Claim
 pub mod Fades
-pub mod Examples
-pub mod Laws

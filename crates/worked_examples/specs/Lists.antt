@@ -1,11 +1,10 @@
 -- Notice lists in their order, by computation: the three lines that document 01 gives for `fade`, and the lists that
 -- docs/DECISIONS.md fixes (points 1 and 5); those of each transition at its start, on its way, within a second of a
 -- notice and at its end; and the numbers of the loop's snap.
--- Assumes nothing.
 use Prim.Native.Nat.{ℕ}
 use mathlib.Core.Bool.{Bool, true, false}
 use mathlib.Core.List.{List, [], _∷_, map}
-use mathlib.Core.Path.{_≡_, refl}
+use mathlib.Core.Path.{_≡_}
 use lib.IntN.{pos}
 use Rattle.matter.specs.declared.enums.ColorLoopActionEnum.{ColorLoopActionEnum}
 use Rattle.matter.specs.declared.enums.ColorLoopDirectionEnum.{ColorLoopDirectionEnum}
@@ -13,96 +12,85 @@ use Rattle.matter.specs.declared.commands.Command.{Command}
 use Rattle.matter.specs.declared.enums.DirectionEnum.{DirectionEnum}
 use Rattle.matter.specs.declared.enums.MoveModeEnum.{MoveModeEnum}
 use Rattle.matter.specs.declared.enums.OnOff.{OnOff}
-use Rattle.matter.specs.All.{allTrue}
-use Rattle.matter.specs.Flags.{hasFlag}
-use Rattle.matter.specs.Rules.{defaultColorMode}
-use Rattle.notices.specs.Notices.{filled}
-use Rattle.hue.specs.Hue.{distance, pathDelta, movedHue}
-use Rattle.progress.specs.Progress.{permilleOf, clamp, snapped, loopTurn}
-use Rattle.remaining_time.specs.RemainingTime.{told}
-use Rattle.color.specs.Setters.{hueSet, hueTold, saturationSet, saturationTold, miredsSet, miredsTold}
-use Rattle.color.specs.Form.{colorForm}
+use Rattle.progress.specs.Progress.{snapped}
 use Rattle.tasks.specs.declared.GivenTask.{GivenTask}
 use Rattle.tasks.specs.declared.HueDelta.{HueDelta}
 use Rattle.tasks.specs.declared.TargetSaturation.{TargetSaturation}
 use Rattle.tasks.specs.declared.Task.{Task}
 use Rattle.tasks.specs.Runs.{runs}
-use Rattle.tasks.specs.Form.{moveToForm, hueMoveForm, saturationMoveForm, taskForm, runningForm}
 use Rattle.lamp.specs.declared.Lamp.{Lamp}
 use Rattle.lamp.specs.declared.Answer.{Answer}
-use Rattle.lamp.specs.Answers.{formOrClock}
-use Rattle.lamp.specs.Form.{lampForm}
-use Rattle.lamp.specs.Passes.{hueSaturationPass, huePass, saturationPass, temperatureToPass, temperaturePass, loopPass}
-use Rattle.lamp.specs.Calls.{hueSaturationStart, temperatureToStart, temperatureStart, started, stepped, startAnswer, stepAnswer}
-use Rattle.commands.specs.Commands.{deactivated, activated, loopSet, commandEffect}
-use Rattle.commands.specs.Answers.{commandCause, commandAnswer}
-use Rattle.worked_examples.specs.Cases.{lamp, noOptions, given, next, stepsAt, answers, listed, loop, upBetween, busy}
+use Rattle.lamp.specs.Calls.{started, startAnswer}
+use Rattle.commands.specs.Answers.{commandAnswer}
+use Rattle.worked_examples.specs.Cases.{lamp, noOptions, given, answers, listed, loop, upBetween, busy}
 
 -- a move-to of a way, with a saturation or without, started on a lamp at clock 5000; and on the lamp of the cases
-abbrev begunOn : Lamp → HueDelta → TargetSaturation → ℕ → Bool → Answer
+abbrev pub begunOn : Lamp → HueDelta → TargetSaturation → ℕ → Bool → Answer
 begunOn l delta saturation ms enhanced =
     startAnswer l (Task.HueSaturationMoveTo (record { delta = delta; saturation = saturation; ms = ms; enhanced = enhanced })) 5000
 
-abbrev begun : HueDelta → TargetSaturation → ℕ → Bool → Answer
+abbrev pub begun : HueDelta → TargetSaturation → ℕ → Bool → Answer
 begun delta saturation ms enhanced = begunOn lamp delta saturation ms enhanced
 
 -- ---- `fade` on `128 0 2 5000`: "15", "13 2 6 7 14 15", "13 2 6 7 14 15 1"
 
-abbrev fade : Command
+abbrev pub fade : Command
 fade = Command.MoveToHue 128 DirectionEnum.Shortest 2 noOptions
 
-fade-command : given lamp fade .task
+abbrev pub FadeCommand : Type 0
+FadeCommand =
+    given lamp fade .task
     ≡ GivenTask.Given (Task.HueSaturationMoveTo
     (record { delta = HueDelta.By (pos 32768); saturation = TargetSaturation.Keep; ms = 200; enhanced = false }))
-unfolding hasFlag defaultColorMode allTrue colorForm runningForm lampForm formOrClock clamp distance pathDelta commandEffect commandCause commandAnswer
-fade-command = refl
 
-fade-told : map listed (answers fade (100 ∷ 200 ∷ []))
+abbrev pub FadeTold : Type 0
+FadeTold =
+    map listed (answers fade (100 ∷ 200 ∷ []))
     ≡ ((15 ∷ []) ∷ (13 ∷ 2 ∷ 6 ∷ 7 ∷ 14 ∷ 15 ∷ []) ∷ (13 ∷ 2 ∷ 6 ∷ 7 ∷ 14 ∷ 15 ∷ 1 ∷ []) ∷ [])
-unfolding hasFlag defaultColorMode allTrue colorForm moveToForm taskForm runningForm lampForm formOrClock clamp distance pathDelta movedHue permilleOf told filled hueSet hueTold hueSaturationPass hueSaturationStart started stepped startAnswer stepAnswer commandEffect commandCause commandAnswer next stepsAt
-fade-told = refl
 
-fade-waits : map (λ (a : Answer). a .wait) (answers fade (100 ∷ 200 ∷ [])) ≡ (100 ∷ 100 ∷ 0 ∷ [])
-unfolding hasFlag defaultColorMode allTrue colorForm moveToForm taskForm runningForm lampForm formOrClock clamp distance pathDelta movedHue permilleOf told filled hueSet hueTold hueSaturationPass hueSaturationStart started stepped startAnswer stepAnswer commandEffect commandCause commandAnswer next stepsAt
-fade-waits = refl
+abbrev pub FadeWaits : Type 0
+FadeWaits =
+    map (λ (a : Answer). a .wait) (answers fade (100 ∷ 200 ∷ [])) ≡ (100 ∷ 100 ∷ 0 ∷ [])
 
 -- ---- the full time first: way 1 in 1100 ms; and the longest list, no way and saturation 0, enhanced
 
-start-told : map listed
+abbrev pub StartTold : Type 0
+StartTold =
+    map listed
     (begun (HueDelta.By (pos 1)) TargetSaturation.Keep 1100 false
     ∷ begun (HueDelta.By (pos 0)) (TargetSaturation.To 0) 1100 true
     ∷ [])
     ≡ ((1 ∷ 15 ∷ []) ∷ (1 ∷ 13 ∷ 2 ∷ 3 ∷ 6 ∷ 7 ∷ 14 ∷ 13 ∷ 4 ∷ 6 ∷ 7 ∷ 14 ∷ 15 ∷ 1 ∷ []) ∷ [])
-unfolding hasFlag defaultColorMode allTrue colorForm moveToForm taskForm runningForm lampForm formOrClock clamp movedHue permilleOf told filled hueSet hueTold saturationSet saturationTold hueSaturationPass hueSaturationStart started stepped startAnswer stepAnswer
-start-told = refl
 
 -- ---- time 0 with remaining 5: way 1 in 500 ms was started before
 
-abbrev fiveLeft : Lamp
+abbrev pub fiveLeft : Lamp
 fiveLeft = begun (HueDelta.By (pos 1)) TargetSaturation.Keep 500 false .lamp
 
-at-once-told : (fiveLeft .remaining .tenths ≡ 5)
+abbrev pub AtOnceTold : Type 0
+AtOnceTold =
+    (fiveLeft .remaining .tenths ≡ 5)
     × (listed (begunOn fiveLeft (HueDelta.By (pos 1)) TargetSaturation.Keep 0 false)
     ≡ (1 ∷ 13 ∷ 2 ∷ 6 ∷ 7 ∷ 14 ∷ 15 ∷ []))
-unfolding hasFlag defaultColorMode allTrue colorForm moveToForm taskForm runningForm lampForm formOrClock clamp movedHue permilleOf told filled hueSet hueTold hueSaturationPass hueSaturationStart started stepped startAnswer stepAnswer
-at-once-told = (refl, refl)
 
 -- ---- the colour loop: on with all flags, on again, off, off again; and with no flag
 
-abbrev loopFlags : ℕ → ColorLoopActionEnum → Lamp → Answer
+abbrev pub loopFlags : ℕ → ColorLoopActionEnum → Lamp → Answer
 loopFlags flags action l =
     commandAnswer l (Command.ColorLoopSet flags action ColorLoopDirectionEnum.Increment 30 100 noOptions) OnOff.On 5000
 
-abbrev looped : ColorLoopActionEnum → Lamp → Answer
+abbrev pub looped : ColorLoopActionEnum → Lamp → Answer
 looped action l = loopFlags 15 action l
 
-abbrev on : Answer
+abbrev pub on : Answer
 on = looped ColorLoopActionEnum.ActivateFromColorLoopStartEnhancedHue lamp
 
-abbrev off : Answer
+abbrev pub off : Answer
 off = looped ColorLoopActionEnum.Deactivate (on .lamp)
 
-loop-told : map listed
+abbrev pub LoopTold : Type 0
+LoopTold =
+    map listed
     (on ∷ looped ColorLoopActionEnum.ActivateFromEnhancedCurrentHue (on .lamp) ∷ off
     ∷ looped ColorLoopActionEnum.Deactivate (off .lamp)
     ∷ [])
@@ -111,21 +99,19 @@ loop-told : map listed
     ∷ (9 ∷ 10 ∷ 11 ∷ 13 ∷ 17 ∷ 8 ∷ 13 ∷ 2 ∷ 3 ∷ 6 ∷ 7 ∷ 14 ∷ 15 ∷ [])
     ∷ (9 ∷ 10 ∷ 11 ∷ 13 ∷ [])
     ∷ [])
-unfolding hasFlag defaultColorMode allTrue colorForm runningForm lampForm formOrClock clamp filled hueSet hueTold deactivated activated loopSet commandEffect commandCause commandAnswer
-loop-told = refl
 
-no-flag-told : listed (loopFlags 0 ColorLoopActionEnum.ActivateFromEnhancedCurrentHue lamp) ≡ (13 ∷ [])
-unfolding hasFlag defaultColorMode allTrue colorForm runningForm lampForm formOrClock clamp filled loopSet commandEffect commandCause commandAnswer
-no-flag-told = refl
+abbrev pub NoFlagTold : Type 0
+NoFlagTold =
+    listed (loopFlags 0 ColorLoopActionEnum.ActivateFromEnhancedCurrentHue lamp) ≡ (13 ∷ [])
 
 -- ---- each transition: its start, where nothing has moved; on its way; within a second of a notice; later; at its end,
 -- which tells within a second too
 
 -- what is heard of an answer: its number, its notices and its wait
-abbrev Heard : Type 0
+abbrev pub Heard : Type 0
 Heard = ℕ × List ℕ × ℕ
 
-abbrev heard : Answer → Heard
+abbrev pub heard : Answer → Heard
 heard a = (a .number, listed a, a .wait)
 
 -- a command to the lamp of the cases, the times of the steps after its start, and what is heard of the start and of each
@@ -136,13 +122,13 @@ pub record Run : Type 0 where
   pub hears : List Heard
 
 -- a pass that tells of the mireds, and one that tells of the saturation; the others are written out
-abbrev ofMireds : List ℕ
+abbrev pub ofMireds : List ℕ
 ofMireds = 13 ∷ 5 ∷ 6 ∷ 7 ∷ 14 ∷ 16 ∷ []
 
-abbrev ofSaturation : List ℕ
+abbrev pub ofSaturation : List ℕ
 ofSaturation = 13 ∷ 4 ∷ 6 ∷ 7 ∷ 14 ∷ 15 ∷ []
 
-abbrev transitions : List Run
+abbrev pub transitions : List Run
 transitions =
     -- mireds from 250 to 153 in 10 tenths; in 11 tenths; and from 250 to 250, with no way
     record {
@@ -223,22 +209,22 @@ transitions =
     }
     ∷ []
 
-transitions-told : map (λ (r : Run). map heard (answers (r .command) (r .times))) transitions
+abbrev pub TransitionsTold : Type 0
+TransitionsTold =
+    map (λ (r : Run). map heard (answers (r .command) (r .times))) transitions
     ≡ map (λ (r : Run). r .hears) transitions
-unfolding hasFlag defaultColorMode allTrue colorForm moveToForm hueMoveForm saturationMoveForm taskForm runningForm lampForm formOrClock clamp distance pathDelta movedHue permilleOf snapped loopTurn told filled hueSet hueTold saturationSet saturationTold miredsSet miredsTold hueSaturationPass huePass saturationPass temperatureToPass temperaturePass loopPass hueSaturationStart temperatureToStart temperatureStart started stepped startAnswer stepAnswer activated loopSet commandEffect commandCause commandAnswer next stepsAt
-transitions-told = refl
 
 -- ---- K11's busy lamp: its hue, saturation and remaining tenths, and that it runs
 
-abbrev shown : Lamp → ℕ × ℕ × ℕ × Bool
+abbrev pub shown : Lamp → ℕ × ℕ × ℕ × Bool
 shown l = (l .color .hue, l .color .saturation, l .remaining .tenths, runs (l .running))
 
-busy-runs : shown busy ≡ (16384, 50, 6, true)
-unfolding hasFlag defaultColorMode allTrue colorForm moveToForm taskForm runningForm lampForm formOrClock clamp distance pathDelta movedHue permilleOf told filled hueSet hueTold saturationSet saturationTold hueSaturationPass hueSaturationStart started stepped startAnswer stepAnswer activated loopSet commandEffect commandCause commandAnswer next
-busy-runs = refl
+abbrev pub BusyRuns : Type 0
+BusyRuns =
+    shown busy ≡ (16384, 50, 6, true)
 
 -- ---- the snap at its numbers: a turn's part of 65,152 and more goes up, one of 384 and less goes down, but in the first turn
 
-snap-at : map snapped (65151 ∷ 65152 ∷ 65920 ∷ 65921 ∷ 384 ∷ []) ≡ (65151 ∷ 65536 ∷ 65536 ∷ 65921 ∷ 384 ∷ [])
-unfolding snapped
-snap-at = refl
+abbrev pub SnapAt : Type 0
+SnapAt =
+    map snapped (65151 ∷ 65152 ∷ 65920 ∷ 65921 ∷ 384 ∷ []) ≡ (65151 ∷ 65536 ∷ 65536 ∷ 65921 ∷ 384 ∷ [])

@@ -8,7 +8,7 @@ use mir.Val.{toZ, ofZ}
 use mir.ValLaws.{toZ-ofZ}
 use borrow.Author.Needs.{needs, sfits-of}
 use Rattle.hue.specs.Hue.{distance, pathDelta}
-use Rattle.hue.specs.Laws.{distance-small}
+use Rattle.hue.proofs.Laws.{distance-small}
 use Rattle.arc.proofs.up.Statement.{statement}
 use Rattle.arc.proofs.up.Tie as tie
 

@@ -2,7 +2,7 @@
 -- Assumes nothing.
 use native.Mathlib.Omega.{arith}
 use mathlib.Core.List.{[]}
-use Rattle.notices.specs.Laws.{pushed-noted}
+use Rattle.notices.proofs.Laws.{pushed-noted}
 use borrow.Author.Needs.{needs}
 use Rattle.commands.proofs.given.Statement.{statement}
 use Rattle.commands.proofs.given.Tie as tie

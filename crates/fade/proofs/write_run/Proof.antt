@@ -7,7 +7,7 @@ use lib.Seq.{length-take-le}
 use borrow.Author.Needs.{needs}
 use borrow.Author.Tests.{not-true}
 use Rattle.fade_run.specs.Run.{text}
-use Rattle.fade_run.specs.Laws.{shrinks}
+use Rattle.fade_run.proofs.Laws.{shrinks}
 use Rattle.fade.proofs.write_run.Statement.{statement}
 use Rattle.fade.proofs.write_run.Tie as tie
 

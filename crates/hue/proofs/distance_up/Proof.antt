@@ -2,7 +2,7 @@
 -- Assumes nothing.
 use native.Mathlib.Omega.{arith}
 use borrow.Author.Needs.{needs}
-use Rattle.hue.specs.Laws.{distance-is}
+use Rattle.hue.proofs.Laws.{distance-is}
 use Rattle.hue.proofs.distance_up.Statement.{statement}
 use Rattle.hue.proofs.distance_up.Tie as tie
 

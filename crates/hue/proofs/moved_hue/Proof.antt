@@ -14,7 +14,7 @@ use borrow.Author.Needs.{needs}
 use Rattle.integers.proofs.Sizes.{small, abs-neg, abs-rem, quot-fits}
 use Rattle.integers.proofs.Signs.{is-nonNeg, neg-nonNeg, is-size, is-negated}
 use Rattle.hue.specs.Hue.{movedHue}
-use Rattle.hue.specs.Laws.{moved-up, moved-down, moved-turns}
+use Rattle.hue.proofs.Laws.{moved-up, moved-down, moved-turns}
 use Rattle.hue.proofs.moved_hue.Statement.{statement}
 use Rattle.hue.proofs.moved_hue.Tie as tie
 

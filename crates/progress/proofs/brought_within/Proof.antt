@@ -15,7 +15,7 @@ use mir.Facts.{toZ-pos}
 use borrow.Author.Needs.{needs}
 use Rattle.integers.proofs.Sizes.{small, abs-neg, abs-add}
 use Rattle.integers.proofs.Signs.{lt-difference, difference-lt, between}
-use Rattle.progress.specs.Laws.{clamp-low, clamp-high, clamp-between}
+use Rattle.progress.proofs.Laws.{clamp-low, clamp-high, clamp-between}
 use Rattle.progress.proofs.brought_within.Statement.{statement}
 use Rattle.progress.proofs.brought_within.Tie as tie
 

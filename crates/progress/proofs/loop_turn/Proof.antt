@@ -7,7 +7,7 @@ use native.Mathlib.Nat.{div-le-self}
 use native.Mathlib.Omega.{arith}
 use borrow.Author.Needs.{needs}
 use Rattle.progress.specs.Progress.{snapped, loopTurn}
-use Rattle.progress.specs.Laws.{loop-takes-time, snapped-above, snapped-below, snapped-kept}
+use Rattle.progress.proofs.Laws.{loop-takes-time, snapped-above, snapped-below, snapped-kept}
 use Rattle.progress.proofs.loop_turn.Statement.{statement}
 use Rattle.progress.proofs.loop_turn.Tie as tie
 

@@ -10,7 +10,7 @@ use mir.ValLaws.{toZ-ofZ}
 use mir.Facts.{toZ-pos}
 use borrow.Author.Needs.{needs}
 use Rattle.integers.proofs.Sizes.{small, abs-neg}
-use Rattle.progress.specs.Laws.{loop-turn-small}
+use Rattle.progress.proofs.Laws.{loop-turn-small}
 use Rattle.progress.proofs.loop_way.Statement.{statement}
 use Rattle.progress.proofs.loop_way.Tie as tie
 

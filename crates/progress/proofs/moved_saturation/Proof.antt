@@ -7,7 +7,7 @@ use mir.Syntax.{w64}
 use mir.ValLaws.{toZ-ofZ}
 use borrow.Author.Needs.{needs}
 use Rattle.progress.specs.Progress.{broughtWithin}
-use Rattle.progress.specs.Laws.{clamp-within}
+use Rattle.progress.proofs.Laws.{clamp-within}
 use Rattle.progress.proofs.moved_saturation.Statement.{statement}
 use Rattle.progress.proofs.moved_saturation.Tie as tie
 

@@ -11,7 +11,7 @@ use mir.Facts.{toZ-pos}
 use borrow.Author.Needs.{needs, sfits-of}
 use Rattle.integers.proofs.Sizes.{small, abs-mul, quot-fits}
 use Rattle.progress.specs.Progress.{limited}
-use Rattle.progress.specs.Laws.{limited-size}
+use Rattle.progress.proofs.Laws.{limited-size}
 use Rattle.progress.proofs.part.Statement.{statement}
 use Rattle.progress.proofs.part.Tie as tie
 

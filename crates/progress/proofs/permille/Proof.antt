@@ -3,7 +3,7 @@
 use native.Mathlib.Nat.{div-lt-iff-lt-mul}
 use native.Mathlib.Omega.{arith}
 use borrow.Author.Needs.{needs}
-use Rattle.progress.specs.Laws.{permille-is, permille-full, permille-short}
+use Rattle.progress.proofs.Laws.{permille-is, permille-full, permille-short}
 use Rattle.progress.proofs.permille.Statement.{statement}
 use Rattle.progress.proofs.permille.Tie as tie
 

@@ -3,7 +3,7 @@
 use native.Mathlib.Nat.{mod-lt}
 use native.Mathlib.Omega.{arith}
 use borrow.Author.Needs.{needs}
-use Rattle.progress.specs.Laws.{loop-takes-time}
+use Rattle.progress.proofs.Laws.{loop-takes-time}
 use Rattle.progress.proofs.wait_for_turn.Statement.{statement}
 use Rattle.progress.proofs.wait_for_turn.Tie as tie
 

@@ -12,7 +12,7 @@ use borrow.Author.Needs.{needs, sfits-of}
 use Rattle.integers.proofs.Sizes.{small, abs-mul, quot-fits}
 use Rattle.matter.specs.Limits.{clockLimit}
 use Rattle.progress.specs.Progress.{limited}
-use Rattle.progress.specs.Laws.{limited-size}
+use Rattle.progress.proofs.Laws.{limited-size}
 use Rattle.progress.proofs.way_at_rate.Statement.{statement}
 use Rattle.progress.proofs.way_at_rate.Tie as tie
 

@@ -1,9 +1,9 @@
 -- The flags first, then the action where its flag is set.
 -- Assumes nothing.
-use Rattle.commands.specs.Kept.{updated-few}
+use Rattle.commands.proofs.Kept.{updated-few}
 use Rattle.commands.proofs.Laws.{acted-behind, few}
 use Rattle.commands.specs.Commands.{withLoop, updated, updatedTold, loopSet}
-use Rattle.notices.specs.Laws.{pushed-all-noted}
+use Rattle.notices.proofs.Laws.{pushed-all-noted}
 use mathlib.Core.List.{[]}
 use mathlib.Core.Path.{_∙_}
 use borrow.Author.Needs.{needs}

@@ -3,9 +3,6 @@
 use borrow.Author.Needs.{needs}
 use Rattle.exports.proofs.lamps.lamp_words.Statement.{statement}
 use Rattle.exports.proofs.lamps.lamp_words.Tie as tie
-use Rattle.matter.proofs.ColorLoopDirectionEnum.number.Reads as ColorLoopDirectionEnum-number-reads
-use Rattle.matter.proofs.ColorModeEnum.number.Reads as ColorModeEnum-number-reads
-use Rattle.matter.proofs.EnhancedColorModeEnum.number.Reads as EnhancedColorModeEnum-number-reads
 
 of-running-requires : tie.Need-of-running-requires
 of-running-requires c κs = search needs

@@ -11,7 +11,7 @@ use borrow.Author.Needs.{needs}
 use borrow.Fn.Kinds.{In}
 use borrow.Fn.PlainCycle.{Measures, is, falls, and}
 use Rattle.fade_line.specs.Text as text
-use Rattle.fade_line.specs.TextLaws.{decimal-one, decimal-more, wrote-more}
+use Rattle.fade_line.proofs.TextLaws.{decimal-one, decimal-more, wrote-more}
 use Rattle.fade_line.proofs.writer.decimal.Reads as decimal
 use Rattle.fade_line.proofs.writer.decimal.Kinds as decimal-kinds
 use Rattle.fade_line.proofs.writer.+decimal.Lts-decimal as decimal-lts

@@ -9,7 +9,7 @@ use lib.ListN.{length, take, getD, length-take}
 use lib.Seq.{take-suc}
 use borrow.Author.Needs.{needs}
 use Rattle.fade_line.specs.Text.{spaced, spacedAll, Wrote}
-use Rattle.fade_line.specs.TextLaws.{spacedAll-short, spacedAll-last, take-min, wrote-none, wrote-more}
+use Rattle.fade_line.proofs.TextLaws.{spacedAll-short, spacedAll-last, take-min, wrote-none, wrote-more}
 use Rattle.fade_line.proofs.writer.notices.Statement.{statement}
 use Rattle.fade_line.proofs.writer.notices.Tie as tie
 

@@ -1,7 +1,7 @@
 -- A byte at a place is a text of one byte there.
 -- Assumes nothing.
 use borrow.Author.Needs.{needs}
-use Rattle.fade_line.specs.TextLaws.{wrote-byte}
+use Rattle.fade_line.proofs.TextLaws.{wrote-byte}
 use Rattle.fade_line.proofs.writer.put.Statement.{statement}
 use Rattle.fade_line.proofs.writer.put.Tie as tie
 

@@ -3,7 +3,7 @@
 use native.Mathlib.Omega.{arith}
 use mathlib.Core.List.{[], _∷_}
 use Rattle.fade_line.specs.Text.{decimal, spaced}
-use Rattle.fade_line.specs.TextLaws.{decimal-short, wrote-more}
+use Rattle.fade_line.proofs.TextLaws.{decimal-short, wrote-more}
 use borrow.Author.Needs.{needs}
 use Rattle.fade_line.proofs.writer.spaced.Statement.{statement}
 use Rattle.fade_line.proofs.writer.spaced.Tie as tie

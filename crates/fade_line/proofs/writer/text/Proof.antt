@@ -9,7 +9,7 @@ use native.Mathlib.Numerals.{add-one}
 use mathlib.Core.List.{[], _∷_}
 use borrow.Author.Needs.{needs}
 use Rattle.fade_line.specs.Text.{Wrote}
-use Rattle.fade_line.specs.TextLaws.{wrote-none, wrote-more}
+use Rattle.fade_line.proofs.TextLaws.{wrote-none, wrote-more}
 use Rattle.fade_line.proofs.writer.text.Statement.{statement}
 use Rattle.fade_line.proofs.writer.text.Tie as tie
 

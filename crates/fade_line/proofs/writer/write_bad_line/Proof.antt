@@ -7,7 +7,7 @@ use mathlib.Core.Bool.{true}
 use mathlib.Core.Path.{_≡_, sym, _∙_}
 use native.Mathlib.Omega.{arith}
 use Rattle.fade_line.specs.Text.{badLineText}
-use Rattle.fade_line.specs.TextLaws.{room, wrote-fitting, wrote-nothing}
+use Rattle.fade_line.proofs.TextLaws.{room, wrote-fitting, wrote-nothing}
 use borrow.Author.Needs.{needs}
 use Rattle.fade_line.proofs.writer.write_bad_line.Statement.{statement}
 use Rattle.fade_line.proofs.writer.write_bad_line.Tie as tie

@@ -1,7 +1,7 @@
 -- The word, the number after a blank and a newline where there is room, else nothing.
 -- Assumes nothing.
 use Rattle.fade_line.specs.Text.{spaced, refusedWord, refusedText, roomFor}
-use Rattle.fade_line.specs.TextLaws.{room, spaced-short, wrote-more, wrote-fitting, wrote-nothing}
+use Rattle.fade_line.proofs.TextLaws.{room, spaced-short, wrote-more, wrote-fitting, wrote-nothing}
 use lib.ListN.{length}
 use borrow.Author.Tests.{not-true, not-false}
 use mathlib.Core.List.{[], _∷_, _++_}

@@ -8,7 +8,7 @@ use native.Mathlib.Omega.{arith}
 use lib.ListN.{length, take}
 use borrow.Author.Tests.{not-true, not-false}
 use Rattle.fade_run.specs.Run.{text, isOver}
-use Rattle.fade_run.specs.Laws.{one-more, moved-over, moved-full}
+use Rattle.fade_run.proofs.Laws.{one-more, moved-over, moved-full}
 use Rattle.fade_run.proofs.Fade.write.Statement.{statement}
 use Rattle.fade_run.proofs.Fade.write.Tie as tie
 

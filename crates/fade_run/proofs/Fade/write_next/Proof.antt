@@ -1,6 +1,6 @@
 -- What each case writes and leaves is what its function says.
 -- Assumes nothing.
-use Rattle.fade_run.specs.Laws.{wrote-over}
+use Rattle.fade_run.proofs.Laws.{wrote-over}
 use mathlib.Core.Path.{refl}
 use borrow.Author.Needs.{needs}
 use Rattle.fade_run.proofs.Fade.write_next.Statement.{statement}

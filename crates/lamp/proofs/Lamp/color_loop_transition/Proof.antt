@@ -4,7 +4,7 @@ use mir.Syntax.{w64}
 use mir.ValLaws.{toZ-ofZ}
 use borrow.Author.Needs.{sfits-of}
 use Rattle.lamp.specs.Passes.{loopPass}
-use Rattle.notices.specs.Laws.{pushed-behind}
+use Rattle.notices.proofs.Laws.{pushed-behind}
 use borrow.Author.Needs.{needs}
 use Rattle.lamp.proofs.Lamp.color_loop_transition.Statement.{statement}
 use Rattle.lamp.proofs.Lamp.color_loop_transition.Tie as tie

@@ -8,8 +8,8 @@ use mir.ValLaws.{toZ-ofZ}
 use borrow.Author.Needs.{sfits-of}
 use Rattle.progress.specs.Progress.{limited}
 use Rattle.lamp.specs.Passes.{temperaturePass}
-use Rattle.lamp.proofs.Laws.{rate-same}
-use Rattle.notices.specs.Laws.{pushed-behind}
+use Rattle.lamp.proofs.Shared.{rate-same}
+use Rattle.notices.proofs.Laws.{pushed-behind}
 use borrow.Author.Needs.{needs}
 use Rattle.lamp.proofs.Lamp.color_temperature_move_transition.Statement.{statement}
 use Rattle.lamp.proofs.Lamp.color_temperature_move_transition.Tie as tie

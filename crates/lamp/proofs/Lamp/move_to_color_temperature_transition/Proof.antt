@@ -1,7 +1,7 @@
 -- `Lamp::move_to_color_temperature_transition`: each call's contract is its part of the definition.
 -- Assumes nothing.
 use Rattle.lamp.specs.Passes.{temperatureToPass}
-use Rattle.notices.specs.Laws.{pushed-append, pushed-behind}
+use Rattle.notices.proofs.Laws.{pushed-append, pushed-behind}
 use borrow.Author.Needs.{needs}
 use Rattle.lamp.proofs.Lamp.move_to_color_temperature_transition.Statement.{statement}
 use Rattle.lamp.proofs.Lamp.move_to_color_temperature_transition.Tie as tie

@@ -1,9 +1,9 @@
 -- `Lamp::move_to_hue_saturation_transition`: each call's contract is its part of the definition; a task in form has a way in form.
 -- Assumes nothing.
-use Rattle.matter.specs.Laws.{each}
+use Rattle.matter.proofs.Laws.{each}
 use Rattle.tasks.specs.Form.{moveToForm}
 use Rattle.lamp.specs.Passes.{hueSaturationPass}
-use Rattle.lamp.proofs.Laws.{two-setters}
+use Rattle.lamp.proofs.Shared.{two-setters}
 use borrow.Author.Needs.{needs}
 use Rattle.lamp.proofs.Lamp.move_to_hue_saturation_transition.Statement.{statement}
 use Rattle.lamp.proofs.Lamp.move_to_hue_saturation_transition.Tie as tie

@@ -4,7 +4,7 @@ use Prim.Native.Nat.{ℕ}
 use Rattle.matter.specs.declared.limits.Bounds.{Bounds}
 use Rattle.lamp.specs.declared.Made.{Made}
 use Rattle.lamp.specs.Making.{making, madeValues, makingValues}
-use Rattle.lamp.specs.Laws.{made-values}
+use Rattle.lamp.proofs.Laws.{made-values}
 use borrow.Author.Tests.{lt-ltb, le-ltb}
 use borrow.Author.Needs.{needs}
 use Rattle.lamp.proofs.Lamp.new.Statement.{statement}

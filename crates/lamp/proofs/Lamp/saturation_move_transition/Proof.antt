@@ -3,14 +3,14 @@
 use Prim.Native.Nat.{_≤_}
 use native.Mathlib.Omega.{arith}
 use borrow.Author.Tests.{leb-true}
-use Rattle.matter.specs.Laws.{each}
+use Rattle.matter.proofs.Laws.{each}
 use Rattle.tasks.specs.Form.{saturationMoveForm}
 use mir.Syntax.{w64}
 use mir.ValLaws.{toZ-ofZ}
 use borrow.Author.Needs.{sfits-of}
 use Rattle.lamp.specs.Passes.{saturationPass}
-use Rattle.notices.specs.Laws.{pushed-behind}
-use Rattle.lamp.proofs.Laws.{signed-same}
+use Rattle.notices.proofs.Laws.{pushed-behind}
+use Rattle.lamp.proofs.Shared.{signed-same}
 use borrow.Author.Needs.{needs}
 use Rattle.lamp.proofs.Lamp.saturation_move_transition.Statement.{statement}
 use Rattle.lamp.proofs.Lamp.saturation_move_transition.Tie as tie

@@ -3,10 +3,10 @@
 use native.Mathlib.Omega.{arith}
 use mathlib.Core.List.{[]}
 use borrow.Author.Tests.{eq-eqb, ne-eqb, not-true, not-false}
-use Rattle.notices.specs.Laws.{pushed-all-noted}
+use Rattle.notices.proofs.Laws.{pushed-all-noted}
 use Rattle.lamp.specs.Answers.{atClock}
 use Rattle.lamp.specs.Calls.{started, startAnswer}
-use Rattle.lamp.specs.Kept.{started-few}
+use Rattle.lamp.proofs.Kept.{started-few}
 use borrow.Author.Needs.{needs}
 use Rattle.lamp.proofs.Lamp.start.Statement.{statement}
 use Rattle.lamp.proofs.Lamp.start.Tie as tie

@@ -3,7 +3,7 @@
 use Prim.Native.Nat.{_+_}
 use mathlib.Core.Path.{_≡_}
 use native.Mathlib.Omega.{arith}
-use Rattle.notices.specs.Laws.{pushed-append}
+use Rattle.notices.proofs.Laws.{pushed-append}
 use Rattle.lamp.specs.Calls.{temperatureToStart}
 use borrow.Author.Needs.{needs}
 use Rattle.lamp.proofs.Lamp.start_color_temperature_to.Statement.{statement}

@@ -4,12 +4,12 @@
 use native.Mathlib.Omega.{arith}
 use mathlib.Core.List.{[]}
 use borrow.Author.Tests.{ltb-false, not-true, not-false}
-use Rattle.notices.specs.Laws.{pushed-all-noted}
+use Rattle.notices.proofs.Laws.{pushed-all-noted}
 use Rattle.lamp.specs.Answers.{atClock}
 use Rattle.lamp.specs.Form.{lampForm}
 use Rattle.lamp.specs.Calls.{stepped, stepAnswer}
-use Rattle.lamp.specs.Kept.{running-later, stepped-few}
-use Rattle.matter.specs.Laws.{each, or-left}
+use Rattle.lamp.proofs.Kept.{running-later, stepped-few}
+use Rattle.matter.proofs.Laws.{each, or-left}
 use borrow.Author.Needs.{needs}
 use Rattle.lamp.proofs.Lamp.step.Statement.{statement}
 use Rattle.lamp.proofs.Lamp.step.Tie as tie

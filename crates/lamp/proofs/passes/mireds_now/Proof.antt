@@ -5,7 +5,7 @@ use mir.ValLaws.{toZ-ofZ}
 use borrow.Author.Needs.{sfits-of}
 use borrow.Author.Tests.{le-leb, lt-leb}
 use native.Mathlib.Omega.{arith}
-use Rattle.lamp.proofs.Laws.{between-same}
+use Rattle.lamp.proofs.Shared.{between-same}
 use borrow.Author.Needs.{needs}
 use Rattle.lamp.proofs.passes.mireds_now.Statement.{statement}
 use Rattle.lamp.proofs.passes.mireds_now.Tie as tie

@@ -7,7 +7,7 @@ use mir.ValLaws.{toZ-ofZ}
 use borrow.Author.Needs.{sfits-of}
 use Rattle.progress.specs.Progress.{limited}
 use Rattle.notices.specs.Notices.{pushedAll}
-use Rattle.lamp.proofs.Laws.{small-same}
+use Rattle.lamp.proofs.Shared.{small-same}
 use borrow.Author.Needs.{needs}
 use Rattle.lamp.proofs.passes.move_hue.Statement.{statement}
 use Rattle.lamp.proofs.passes.move_hue.Tie as tie

@@ -4,8 +4,8 @@ use Rattle.measure.specs.Sums.{addedAll}
 use borrow.Author.Needs.{needs}
 use Rattle.measure.proofs.sums.Sums.add_color.Statement.{statement}
 use Rattle.measure.proofs.sums.Sums.add_color.Tie as tie
-use Rattle.matter.proofs.ColorModeEnum.number.Reads as ColorModeEnum-number-reads
-use Rattle.matter.proofs.EnhancedColorModeEnum.number.Reads as EnhancedColorModeEnum-number-reads
+use Rattle.matter.proofs.enums.ColorModeEnum.number.Reads as ColorModeEnum-number-reads
+use Rattle.matter.proofs.enums.EnhancedColorModeEnum.number.Reads as EnhancedColorModeEnum-number-reads
 
 add-requires : tie.Need-add-requires
 add-requires c κs = search needs

@@ -12,16 +12,16 @@ use lib.IntN.{pos}
 use lib.ListN.{length, length-append}
 use borrow.Author.Tests.{leb-true, leb-false, le-leb, lt-ltb, ltb-true, ltb-false, eqb-true, eqb-false, not-false}
 use Rattle.matter.specs.declared.limits.Bounds.{Bounds}
-use Rattle.matter.specs.Laws.{and-left, and-right, cond-both, leb-later, each, all-of}
+use Rattle.matter.proofs.Laws.{and-left, and-right, cond-both, leb-later, each, all-of}
 use Rattle.matter.specs.Limits.{clockLimit, saturationLimit}
-use Rattle.notices.specs.Laws.{only-one}
+use Rattle.notices.proofs.Laws.{only-one}
 use Rattle.notices.specs.Notices.{only}
 use Rattle.notices.specs.Names.{RemainingTime}
-use Rattle.progress.specs.Laws.{clamp-within}
+use Rattle.progress.proofs.Laws.{clamp-within}
 use Rattle.progress.specs.Progress.{wayAtRate, clamp, broughtWithin}
 use Rattle.color.specs.declared.Color.{Color}
 use Rattle.color.specs.Form.{colorForm}
-use Rattle.color.specs.Kept.{color-later, form-saturation, form-above, form-below, hue-kept, saturation-kept, mireds-kept, hue-few, saturation-few, mireds-few}
+use Rattle.color.proofs.Kept.{color-later, form-saturation, form-above, form-below, hue-kept, saturation-kept, mireds-kept, hue-few, saturation-few, mireds-few}
 use Rattle.tasks.specs.declared.HueDelta.{HueDelta}
 use Rattle.tasks.specs.declared.TargetSaturation.{TargetSaturation}
 use Rattle.tasks.specs.declared.HueSaturationMoveTo.{HueSaturationMoveTo}

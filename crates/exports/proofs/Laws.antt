@@ -20,8 +20,8 @@ use Rattle.matter.specs.declared.enums.ColorModeEnum.{ColorModeEnum}
 use Rattle.matter.specs.declared.enums.EnhancedColorModeEnum.{EnhancedColorModeEnum}
 use Rattle.matter.specs.declared.enums.OnOff.{OnOff}
 use Rattle.matter.specs.declared.limits.Bounds.{Bounds}
-use Rattle.matter.specs.Laws.{and-left, and-right, each}
-use Rattle.matter.specs.Laws as by-number
+use Rattle.matter.proofs.Laws.{and-left, and-right, each}
+use Rattle.matter.proofs.Laws as by-number
 use Rattle.matter.specs.Numbers.{directionNumber, moveModeNumber, stepModeNumber, loopActionNumber, loopDirectionNumber, colorModeNumber, enhancedColorModeNumber, onOffNumber}
 use Rattle.tasks.specs.declared.HueDelta.{HueDelta}
 use Rattle.tasks.specs.declared.TargetSaturation.{TargetSaturation}
@@ -31,17 +31,13 @@ use Rattle.tasks.specs.Form.{small, deltaForm, rateForm, moveToForm, runningFor
 use Rattle.tasks.specs.Typed.{TypedTarget, TypedTask, TypedRunning}
 use Rattle.lamp.specs.declared.Lamp.{Lamp}
 use Rattle.lamp.specs.Form.{lampForm}
-use Rattle.lamp.specs.Kept.{form-running}
+use Rattle.lamp.proofs.Kept.{form-running}
 use Rattle.lamp.specs.Typed.{TypedLamp}
 use Rattle.exports.specs.Words.{flag, flagNumber, signed, signOf, sizeOf}
 use Rattle.exports.specs.Enums.{directionCase, moveModeCase, stepModeCase, loopActionCase, loopDirectionCase, colorModeCase, enhancedModeCase, onOffCase, directionHas, moveModeHas, stepModeHas, loopActionHas, loopDirectionHas, colorModeHas, enhancedModeHas, onOffHas, directionRead, moveModeRead, stepModeRead, loopActionRead, loopDirectionRead, colorModeRead, enhancedModeRead, onOffRead, directionKnown, moveModeKnown, stepModeKnown, loopActionKnown, loopDirectionKnown, colorModeKnown, enhancedModeKnown, onOffKnown}
 use Rattle.exports.specs.Moves.{deltaOf, targetOf, moveToOf, hueMoveOf, saturationMoveOf, miredsToOf, miredsMoveOf, colorLoopOf, taskOf, runningOf, taskFits, taskKnown, recordKnown, none, deltaSign, deltaSize, targetGiven, targetNumber, taskNumbers, recordNumbers}
+use Rattle.exports.specs.RoundTrips.{Back}
 use Rattle.exports.specs.Lamps.{recordOf, lampOf, lampFits, lampKnown, lampWords}
-
--- what is written of a thing is known, and is read as the thing
-pub record Back {A N : Type 0} (read : N → A) (known : N → Bool) (written : N) (thing : A) : Type 0 where
-  pub same : read written ≡ thing
-  pub taken : known written ≡ true
 
 -- ---- numbers, flags and enums
 

@@ -14,12 +14,12 @@ use Rattle.matter.specs.declared.enums.ColorLoopActionEnum.{ColorLoopActionEnum
 use Rattle.matter.specs.declared.enums.ColorLoopDirectionEnum.{ColorLoopDirectionEnum}
 use Rattle.matter.specs.declared.enums.OnOff.{OnOff}
 use Rattle.matter.specs.Flags.{hasFlag, updateAction, updateDirection, updateTime, updateStartHue}
-use Rattle.matter.specs.Laws.{cond-both}
+use Rattle.matter.proofs.Laws.{cond-both}
 use Rattle.matter.specs.Typed.{Word, TypedCommand}
-use Rattle.notices.specs.Laws.{only-one}
+use Rattle.notices.proofs.Laws.{only-one}
 use Rattle.notices.specs.Names.{ColorLoopActive, ColorLoopDirection, ColorLoopTime, ColorLoopStartEnhancedHue, ColorLoopStoredEnhancedHue}
 use Rattle.color.specs.declared.Color.{Color}
-use Rattle.color.specs.Kept.{hue-kept, hue-word, hue-few}
+use Rattle.color.proofs.Kept.{hue-kept, hue-word, hue-few}
 use Rattle.color.specs.Setters.{hueSet}
 use Rattle.tasks.specs.declared.GivenTask.{GivenTask}
 use Rattle.tasks.specs.declared.Running.{Running}
@@ -30,10 +30,10 @@ use Rattle.lamp.specs.declared.Answer.{Answer}
 use Rattle.lamp.specs.Answers.{atClock, formOrClock, refusal}
 use Rattle.lamp.specs.Calls.{startCause, stepCause, startAnswer, stepAnswer, haltAnswer}
 use Rattle.lamp.specs.Form.{lampForm}
-use Rattle.lamp.specs.Kept.{form-clock, form-color, form-running, form-of, no-cause, ready, start-ready, step-ready, choose-both, start-form, step-form, halt-form}
+use Rattle.lamp.proofs.Kept.{form-clock, form-color, form-running, form-of, no-cause, ready, start-ready, step-ready, choose-both, start-form, step-form, halt-form}
 use Rattle.lamp.specs.Passes.{moved}
 use Rattle.lamp.specs.Typed.{Call, command, start, step, halt, TypedLamp, TypedCall}
-use Rattle.lamp.specs.TypedKept.{changed, started-any, stepped-any, typed-of, clock-typed, changed-typed, started-typed, stepped-typed}
+use Rattle.lamp.proofs.TypedKept.{changed, started-any, stepped-any, typed-of, clock-typed, changed-typed, started-typed, stepped-typed}
 use Rattle.commands.specs.Answers.{afterClock, allowed, commandCause, commandDone, commandAnswer, cause, answer, granted, clockOf, isLoopSet}
 use Rattle.commands.specs.Commands.{CommandEffect, passOver, giving, stopMode, withLoop, updated, updatedTold, acted, deactivated, activated, loopSet, commandEffect}
 

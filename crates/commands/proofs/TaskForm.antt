@@ -16,11 +16,11 @@ use Rattle.matter.specs.declared.enums.MoveModeEnum.{MoveModeEnum}
 use Rattle.matter.specs.declared.enums.OnOff.{OnOff}
 use Rattle.matter.specs.declared.enums.StepModeEnum.{StepModeEnum}
 use Rattle.matter.specs.Flags.{hasFlag, updateAction}
-use Rattle.matter.specs.Laws.{cond-both, or-right, all-of}
+use Rattle.matter.proofs.Laws.{cond-both, or-right, all-of}
 use Rattle.matter.specs.Limits.{hueLimit}
 use Rattle.matter.specs.Typed.{Word, TypedCommand}
-use Rattle.hue.specs.Laws.{way-small}
-use Rattle.color.specs.Kept.{form-saturation}
+use Rattle.hue.proofs.Laws.{way-small}
+use Rattle.color.proofs.Kept.{form-saturation}
 use Rattle.tasks.specs.declared.GivenTask.{GivenTask}
 use Rattle.tasks.specs.declared.TargetSaturation.{TargetSaturation}
 use Rattle.tasks.specs.declared.Task.{Task}
@@ -28,13 +28,13 @@ use Rattle.tasks.specs.Form.{timeForm, small, saturationForm, moves, rateForm, 
 use Rattle.lamp.specs.declared.Lamp.{Lamp}
 use Rattle.lamp.specs.Answers.{atClock, badClock, formOrClock}
 use Rattle.lamp.specs.Form.{lampForm}
-use Rattle.lamp.specs.Kept.{form-color, no-cause}
+use Rattle.lamp.proofs.Kept.{form-color, no-cause}
 use Rattle.matter.specs.Rules.{signed}
 use Rattle.lamp.specs.Typed.{command, start}
 use Rattle.commands.specs.Answers.{allowed, afterClock, commandCause, cause, answer}
 use Rattle.commands.specs.Commands.{CommandEffect, causeIf, isStop, stopMode, numberCause, crossed, stored, ms, hueTask, saturationTask, hueMoveTask, stepWay, saturationStep, acted, deactivated, activated, loopSet, commandEffect}
-use Rattle.commands.specs.Kept.{answer-both, granted-ready}
-use Rattle.commands.specs.Table.{start-0}
+use Rattle.commands.proofs.Kept.{answer-both, granted-ready}
+use Rattle.commands.proofs.Table.{start-0}
 
 -- ---- the parts of a task
 

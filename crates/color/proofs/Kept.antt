@@ -11,10 +11,10 @@ use borrow.Author.Tests.{leb-true, le-leb}
 use Rattle.matter.specs.declared.limits.Bounds.{Bounds}
 use Rattle.matter.specs.declared.enums.ColorModeEnum.{ColorModeEnum}
 use Rattle.matter.specs.declared.enums.EnhancedColorModeEnum.{EnhancedColorModeEnum}
-use Rattle.matter.specs.Laws.{cond-both, leb-later, each, all-of}
+use Rattle.matter.proofs.Laws.{cond-both, leb-later, each, all-of}
 use Rattle.matter.specs.Limits.{saturationLimit}
 use Rattle.matter.specs.Typed.{Word}
-use Rattle.notices.specs.Laws.{only-one}
+use Rattle.notices.proofs.Laws.{only-one}
 use Rattle.notices.specs.Names.{CurrentHue, EnhancedCurrentHue, CurrentSaturation, ColorTemperatureMireds}
 use Rattle.notices.specs.Notices.{only}
 use Rattle.color.specs.declared.Color.{Color}

@@ -4,7 +4,7 @@ use mathlib.Core.Bool.{Bool, true, false, not, and-false}
 use mathlib.Core.List.{List, [], _∷_}
 use mathlib.Core.Path.{_≡_, refl, ap, _∙_}
 use borrow.Author.Tests.{not-true}
-use Rattle.matter.specs.Laws.{and-left, and-right}
+use Rattle.matter.proofs.Laws.{and-left, and-right}
 use Rattle.lamp.specs.Typed.{Call, command, start, step, halt}
 use Rattle.schedule.specs.Calls.{crosses, noneCrosses}
 use Rattle.schedule.specs.Schedule.{Fed, withOption, Shown, shownAt, own, whenTaken, followed, scheduledFrom, scheduled}

@@ -12,7 +12,7 @@ use lib.Signed.{leZ}
 use borrow.Author.Tests.{leb-true, leb-false, le-leb, lt-leb}
 use Rattle.matter.specs.declared.enums.DirectionEnum.{DirectionEnum}
 use Rattle.hue.specs.Hue.{distance, pathDelta, movedHue, shownHue}
-use Rattle.hue.specs.Laws.{moved-small, moved-up, moved-down, distance-is, way-small, arrives}
+use Rattle.hue.proofs.Laws.{moved-small, moved-up, moved-down, distance-is, way-small, arrives}
 use Rattle.arc.specs.declared.Band.{Band}
 use Rattle.arc.specs.Arc.{toward, OnArc, inBand, TypedBand, Passed, meet, passesThrough, shownBand}
 

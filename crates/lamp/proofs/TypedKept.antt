@@ -6,16 +6,16 @@ use mathlib.Core.Path.{_≡_, refl}
 use native.Mathlib.Omega.{arith}
 use lib.Dec.{leb}
 use lib.IntN.{pos}
-use Rattle.matter.specs.Laws.{cond-both}
+use Rattle.matter.proofs.Laws.{cond-both}
 use Rattle.matter.specs.Limits.{clockLimit, saturationLimit}
 use Rattle.matter.specs.Typed.{Byte, Word, TypedBounds}
-use Rattle.hue.specs.Laws.{moved-small}
-use Rattle.progress.specs.Laws.{clamp-within}
+use Rattle.hue.proofs.Laws.{moved-small}
+use Rattle.progress.proofs.Laws.{clamp-within}
 use Rattle.progress.specs.Progress.{wayAtRate, broughtWithin}
 use Rattle.remaining_time.specs.declared.RemainingTime.{RemainingTime}
 use Rattle.color.specs.declared.Color.{Color}
 use Rattle.color.specs.Form.{colorForm}
-use Rattle.color.specs.Kept.{form-saturation, form-above, form-below, form-stamps, hue-word, saturation-hue, mireds-hue}
+use Rattle.color.proofs.Kept.{form-saturation, form-above, form-below, form-stamps, hue-word, saturation-hue, mireds-hue}
 use Rattle.tasks.specs.declared.HueDelta.{HueDelta}
 use Rattle.tasks.specs.declared.TargetSaturation.{TargetSaturation}
 use Rattle.tasks.specs.declared.HueSaturationRun.{HueSaturationRun}
@@ -32,7 +32,7 @@ use Rattle.lamp.specs.Answers.{atClock}
 use Rattle.matter.specs.Bounds.{lower, upper}
 use Rattle.lamp.specs.Calls.{fullWritten, hueSaturationStart, temperatureToStart, temperatureStart, started, stepped}
 use Rattle.lamp.specs.Form.{lampForm}
-use Rattle.lamp.specs.Kept.{form-clock, form-color}
+use Rattle.lamp.proofs.Kept.{form-clock, form-color}
 use Rattle.matter.specs.Rules.{signed}
 use Rattle.lamp.specs.Passes.{Effect, moved, remainingSet, unless, atEnd, saturationDone, miredsDone, hueMoved, saturationMoved, hueSaturationPass, temperatureToPass, huePass, saturationPass, temperaturePass, loopPass}
 use Rattle.lamp.specs.Typed.{TypedLamp}

@@ -10,7 +10,7 @@ use lib.Dec.{ltb, leb, eqb}
 use lib.ListN.{length, take, length-append, length-take}
 use borrow.Author.Tests.{lt-ltb, le-ltb, ltb-true}
 use Rattle.matter.specs.Causes.{accepted}
-use Rattle.matter.specs.Laws.{cond-both}
+use Rattle.matter.proofs.Laws.{cond-both}
 use Rattle.matter.specs.Limits.{clockLimit, saturationLimit}
 use Rattle.progress.specs.Progress.{broughtWithin, wayAtRate}
 use Rattle.tasks.specs.declared.Task.{Task}
@@ -27,11 +27,11 @@ use Rattle.matter.specs.Rules.{signed}
 use Rattle.lamp.specs.Passes.{Effect, waiting, atEnd, saturationDone, miredsDone, hueSaturationPass, huePass, saturationPass, temperatureToPass, temperaturePass, loopPass}
 use Rattle.matter.specs.Bounds.{lower, upper}
 use Rattle.lamp.specs.Calls.{done, started, stepped, startCause, stepCause, startAnswer, stepAnswer, hueSaturationStart, temperatureToStart, temperatureStart}
-use Rattle.lamp.specs.Kept.{form-clock, start-ready, step-ready, choose-both, started-few, stepped-few}
+use Rattle.lamp.proofs.Kept.{form-clock, start-ready, step-ready, choose-both, started-few, stepped-few}
 use Rattle.fade_run.specs.declared.Fade.{Fade}
 use Rattle.fade_line.specs.declared.writer.Line.{Line}
 use Rattle.fade_line.specs.Text.{numbers, lineText, refusedText, pasted, roomFor, fitting, Wrote}
-use Rattle.fade_line.specs.TextLaws.{numbers-noted, line-short, refused-short, wrote-none, fitting-all, length-pasted, take-pasted}
+use Rattle.fade_line.proofs.TextLaws.{numbers-noted, line-short, refused-short, wrote-none, fitting-all, length-pasted, take-pasted}
 use Rattle.fade_run.specs.Run.{lineOf, isOver, moved, oneText, goesOn, stepAfter, further, text, nextText, stepOf, rest}
 
 -- ---- the text is the next line and the text of the rest

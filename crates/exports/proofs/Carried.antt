@@ -13,7 +13,7 @@ use lib.ListN.{length}
 use lib.Signed.{mag}
 use borrow.Author.Tests.{ltb-false}
 use Rattle.matter.specs.declared.limits.Bounds.{Bounds}
-use Rattle.matter.specs.Laws.{cond-both}
+use Rattle.matter.proofs.Laws.{cond-both}
 use Rattle.matter.specs.Limits.{clockLimit}
 use Rattle.matter.specs.Typed.{Byte, Clock, TypedBounds, TypedOptions, TypedCommand}
 use Rattle.tasks.specs.declared.HueDelta.{HueDelta}
@@ -24,13 +24,13 @@ use Rattle.lamp.specs.declared.Lamp.{Lamp}
 use Rattle.lamp.specs.declared.Answer.{Answer}
 use Rattle.lamp.specs.Answers.{refusal}
 use Rattle.lamp.specs.Form.{lampForm}
-use Rattle.lamp.specs.Laws.{fresh-form}
+use Rattle.lamp.proofs.Laws.{fresh-form}
 use Rattle.lamp.specs.Making.{freshLamp, making}
 use Rattle.lamp.specs.Typed.{Call, command, start, step, halt, TypedLamp, TypedCall}
-use Rattle.lamp.specs.TypedKept.{typed-of}
+use Rattle.lamp.proofs.TypedKept.{typed-of}
 use Rattle.commands.specs.Answers.{answer}
-use Rattle.commands.specs.Kept.{number-is-cause, form-kept, typed-kept}
-use Rattle.commands.specs.Table.{cause-small}
+use Rattle.commands.proofs.Kept.{number-is-cause, form-kept, typed-kept}
+use Rattle.commands.proofs.Table.{cause-small}
 use Rattle.exports.specs.declared.moves.TaskNumbers.{TaskNumbers}
 use Rattle.exports.specs.declared.calls.CommandNumbers.{CommandNumbers}
 use Rattle.exports.specs.Kinds as K
@@ -39,7 +39,8 @@ use Rattle.exports.specs.Moves.{deltaOf, targetOf, moveToOf, hueMoveOf, 
 use Rattle.exports.specs.Lamps.{lampWords}
 use Rattle.exports.specs.Calls.{optionsRead, hueCommand, saturationCommand, enhancedCommand, miredsCommand, loopCommand, commandOf, commandNumbers, startNumbers, callOf, unreadable, callKnown, sent}
 use Rattle.exports.specs.Exported.{Answered, unreadableLamp, noRoom, made, taken, away, answered}
-use Rattle.exports.specs.Laws.{lamp-back}
+use Rattle.exports.specs.RoundTrips.{Good, replied, left, Sending, wordsAfter, lampAfter, Clocks, RoundTrips}
+use Rattle.exports.proofs.Laws.{lamp-back}
 
 -- ---- a call that is read has its numbers within their types, if its clock has
 
@@ -129,20 +130,6 @@ sent-small l call =
 
 -- ---- one call
 
--- a typed lamp in form
-pub record Good (l : Lamp) : Type 0 where
-  pub formed : lampForm l ≡ true
-  pub typed : TypedLamp l
-
--- what a call of these words, with this room for its answer, leaves of a lamp; and what is left of the lamp
-unfoldable pub replied : Lamp → List ℕ → List ℕ → Answered
-replied l call answer =
-    cond (not (eqb (length answer) 25)) (away noRoom (lampWords l) answer)
-    (cond (not (callKnown call)) (away unreadable (lampWords l) answer) (taken (sent l call)))
-
-unfoldable pub left : Lamp → List ℕ → List ℕ → Lamp
-left l call answer = cond (eqb (length answer) 25 && callKnown call) (sent l call .lamp) l
-
 module _ (l : Lamp) (good : Good l) (call answer : List ℕ) where
   -- the words of a typed lamp in form are taken for that lamp
   pub answered-is : answered (lampWords l) call answer ≡ replied l call answer
@@ -196,24 +183,6 @@ module _ (w : List ℕ) (bounds : Bounds) (features options clock : ℕ) where
 
 -- ---- calls one after another
 
--- a call's words, and those that stand where its answer is to go
-pub record Sending : Type 0 where
-  pub call : List ℕ
-  pub answer : List ℕ
-
--- the words that are left, and the lamp that is
-abbrev pub wordsAfter : List ℕ → List Sending → List ℕ
-wordsAfter w [] = w
-wordsAfter w (x ∷ xs) = wordsAfter (answered w (x .call) (x .answer) .lamp) xs
-
-abbrev pub lampAfter : Lamp → List Sending → Lamp
-lampAfter l [] = l
-lampAfter l (x ∷ xs) = lampAfter (left l (x .call) (x .answer)) xs
-
-abbrev pub Clocks : List Sending → Type 0
-Clocks [] = Unit
-Clocks (x ∷ xs) = Clock (at (x .call) 1) × Clocks xs
-
 pub carried : (l : Lamp) (xs : List Sending) → Good l → Clocks xs → Good (lampAfter l xs) × (wordsAfter (lampWords l) xs ≡ lampWords (lampAfter l xs))
 carried l [] good c = (good, refl)
 carried l (x ∷ xs) good c =
@@ -227,3 +196,12 @@ never-unreadable w bounds features options clock xs call answer b o z c e =
     let r = carried (freshLamp bounds features options clock) xs (m .0) c in
     readable (lampAfter (freshLamp bounds features options clock) xs) (r .0) call answer
     (ap (λ (v : List ℕ). answered v call answer .number) (sym (ap (λ (v : List ℕ). wordsAfter v xs) (m .1) ∙ r .1)) ∙ e)
+
+pub round-trips : RoundTrips
+round-trips =
+    record {
+      lamp-back = lamp-back;
+      answered-is = answered-is;
+      carried = carried;
+      never-unreadable = never-unreadable;
+    }

@@ -15,7 +15,7 @@ use lib.Seq.{set-split, append-snoc, length-take-le, take-at, drop-at, drop-drop
 use Rattle.notices.specs.Notices.{filled, noted}
 use Rattle.fade_line.specs.declared.writer.Line.{Line}
 use Rattle.fade_line.specs.Line.{value}
-use Rattle.fade_line.specs.LineLaws.{value-next}
+use Rattle.fade_line.proofs.LineLaws.{value-next}
 use Rattle.fade_line.specs.Text.{decimalIn, decimal, spaced, spacedAll, numbers, stateText, lineText, refusedText, pasted, roomFor, fitting, Wrote}
 
 -- ---- texts in a slice

@@ -17,7 +17,7 @@ use Rattle.matter.specs.Flags.{hasFlag}
 use Rattle.matter.specs.Typed.{TypedOptions}
 use Rattle.hue.specs.Hue.{distance, pathDelta, movedHue}
 use Rattle.arc.specs.Arc.{meet, passesThrough}
-use Rattle.arc.specs.Examples.{green}
+use Rattle.arc.proofs.Examples.{green}
 use Rattle.progress.specs.Progress.{permilleOf}
 use Rattle.color.specs.Form.{colorForm}
 use Rattle.color.specs.Setters.{hueSet}
@@ -35,7 +35,7 @@ use Rattle.commands.specs.Answers.{answer, commandCause, commandAnswer}
 use Rattle.schedule.specs.Calls.{after, quiet}
 use Rattle.schedule.specs.Schedule.{target}
 use Rattle.schedule.specs.Fades.{Fade, found, begun, PremisedButHue, Premised, seen, looks, shown}
-use Rattle.schedule.specs.Examples.{lampAt, plain, typed-lamp, typed-plain}
+use Rattle.schedule.proofs.Examples.{lampAt, plain, typed-lamp, typed-plain}
 use Rattle.consequences.specs.Together.{stepClocks, Alike}
 use Rattle.consequences.specs.OffTarget.{movedBetween}
 

@@ -13,10 +13,10 @@ use Rattle.matter.specs.declared.limits.Bounds.{Bounds}
 use Rattle.matter.specs.declared.commands.Command.{Command}
 use Rattle.matter.specs.declared.enums.OnOff.{OnOff}
 use Rattle.matter.specs.Causes.{accepted}
-use Rattle.matter.specs.Laws.{cond-both, and-left, or-left}
+use Rattle.matter.proofs.Laws.{cond-both, and-left, or-left}
 use Rattle.hue.specs.Hue.{pathDelta}
 use Rattle.progress.specs.Progress.{permilleOf, endWait}
-use Rattle.progress.specs.Laws.{permille-full}
+use Rattle.progress.proofs.Laws.{permille-full}
 use Rattle.tasks.specs.declared.GivenTask.{GivenTask}
 use Rattle.tasks.specs.declared.HueDelta.{HueDelta}
 use Rattle.tasks.specs.declared.TargetSaturation.{TargetSaturation}
@@ -32,7 +32,7 @@ use Rattle.lamp.specs.Answers.{atClock, refusal}
 use Rattle.lamp.specs.Making.{freshLamp, makingCause, making}
 use Rattle.lamp.specs.Passes.{atEnd, unless, waiting, hueSaturationPass}
 use Rattle.lamp.specs.Calls.{done, started, stepped, startCause, stepCause, startAnswer, stepAnswer, startPermille, noHueWay, noSaturationWay, hueSaturationStart}
-use Rattle.lamp.specs.Kept.{choose-both}
+use Rattle.lamp.proofs.Kept.{choose-both}
 use Rattle.commands.specs.Commands.{stored, ms, commandEffect}
 use Rattle.commands.specs.Answers.{allowed, commandCause, commandAnswer}
 use Rattle.fade_line.specs.declared.reader.Wanted.{Wanted}

@@ -1,0 +1,26 @@
+-- The cases marked K, K1 to K12, follow from the definitions: K3 by the law of equal hues, the others by computation.
+use mathlib.Core.Path.{refl}
+use Rattle.matter.specs.All.{allTrue}
+use Rattle.matter.specs.Flags.{hasFlag}
+use Rattle.matter.specs.Rules.{defaultColorMode}
+use Rattle.notices.specs.Notices.{filled}
+use Rattle.hue.specs.Hue.{distance, pathDelta, movedHue}
+use Rattle.hue.proofs.Laws.{equal-no-way}
+use Rattle.progress.specs.Progress.{permilleOf, snapped, loopTurn, clamp}
+use Rattle.remaining_time.specs.RemainingTime.{told}
+use Rattle.color.specs.Setters.{hueSet, hueTold, saturationSet, saturationTold, miredsSet, miredsTold}
+use Rattle.color.specs.Form.{colorForm}
+use Rattle.tasks.specs.Form.{moveToForm, taskForm, runningForm}
+use Rattle.lamp.specs.Form.{lampForm}
+use Rattle.lamp.specs.Answers.{formOrClock}
+use Rattle.lamp.specs.Passes.{hueSaturationPass, temperatureToPass, temperaturePass, loopPass}
+use Rattle.lamp.specs.Calls.{hueSaturationStart, temperatureToStart, temperatureStart, started, stepped, startAnswer, stepAnswer}
+use Rattle.commands.specs.Commands.{activated, loopSet, commandEffect}
+use Rattle.commands.specs.Answers.{commandCause, commandAnswer}
+use Rattle.worked_examples.specs.Cases.{next, stepsAt, fades}
+use Rattle.worked_examples.specs.Claim.{Claim}
+
+worked-examples : Claim
+unfolding allTrue hasFlag defaultColorMode distance pathDelta movedHue permilleOf snapped loopTurn clamp told filled hueSet hueTold saturationSet saturationTold miredsSet miredsTold colorForm moveToForm taskForm runningForm lampForm formOrClock hueSaturationPass temperatureToPass temperaturePass loopPass hueSaturationStart temperatureToStart temperatureStart started stepped startAnswer stepAnswer activated loopSet commandEffect commandCause commandAnswer next stepsAt fades
+worked-examples =
+    (refl, (refl, (equal-no-way, (refl, (refl, (refl, (refl, (refl, (refl, (refl, (refl, (refl, (refl, (refl, (refl, (refl, (refl, (refl, (refl, (refl, (refl, (refl, (refl, (refl, (refl, (refl, (refl, (refl, tt))))))))))))))))))))))))))))
