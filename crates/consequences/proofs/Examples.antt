@@ -35,7 +35,7 @@ use Rattle.commands.specs.Answers.{answer, commandCause, commandAnswer}
 use Rattle.schedule.specs.Calls.{after, quiet}
 use Rattle.schedule.specs.Schedule.{target}
 use Rattle.schedule.specs.Fades.{Fade, found, begun, PremisedButHue, Premised, seen, looks, shown}
-use Rattle.schedule.proofs.Examples.{lampAt, plain, typed-lamp, typed-plain}
+use Rattle.schedule.proofs.Examples.{lampAt, plain, at5000, meets, typed-lamp, typed-plain}
 use Rattle.consequences.specs.Together.{stepClocks, Alike}
 use Rattle.consequences.specs.OffTarget.{movedBetween}
 
@@ -44,16 +44,9 @@ use Rattle.consequences.specs.OffTarget.{movedBetween}
 -- in four tenths, from 0 to 32,768
 abbrev pub redToCyan : DirectionEnum → Fade
 redToCyan d =
-    record {
-      lamp = lampAt 0;
-      before = [];
-      move = record { enhanced = false; hue = 128; direction = d; tenths = 4; options = plain };
-      onOff = OnOff.On;
-      clock = 5000;
-      between = [];
-      start = 5000;
-      calls = step 5100 ∷ step 5200 ∷ step 5300 ∷ step 5400 ∷ [];
-    }
+    at5000 (lampAt 0)
+    (record { enhanced = false; hue = 128; direction = d; tenths = 4; options = plain })
+    (step 5100 ∷ step 5200 ∷ step 5300 ∷ step 5400 ∷ [])
 
 -- ---- two lamps
 
@@ -175,42 +168,21 @@ pub premised : Premised (redToCyan DirectionEnum.Down) × Premised alone × Prem
 unfolding quiet after answer commandCause commandAnswer formOrClock lampForm allTrue colorForm runningForm moveToForm taskForm commandEffect startAnswer stepAnswer haltAnswer started stepped hueSaturationStart hueSaturationPass hueSet permilleOf pathDelta distance movedHue hasFlag
 premised = (
   record {
-    others =
-        record {
-          form = refl;
-          typedLamp = typed-lamp 0 (lit< tt);
-          typedCalls = (((lit< tt, lit< tt, typed-plain), lit< tt), ((record { delta = lit< tt; saturation = tt; ms = lit< tt }, lit< tt), (lit< tt, (lit< tt, (lit< tt, (lit< tt, tt))))));
-          accepted = refl;
-          leave = refl;
-          started = refl;
-          undisturbed = refl;
-        };
+    others = meets _ (typed-lamp 0 (lit< tt))
+        (((lit< tt, lit< tt, typed-plain), lit< tt), ((record { delta = lit< tt; saturation = tt; ms = lit< tt }, lit< tt), (lit< tt, (lit< tt, (lit< tt, (lit< tt, tt))))))
+        refl refl refl refl refl;
     hue = refl;
   },
   record {
-    others =
-        record {
-          form = refl;
-          typedLamp = typed-lamp 60000 (lit< tt);
-          typedCalls = (((lit< tt, lit< tt, typed-plain), lit< tt), ((record { delta = lit< tt; saturation = tt; ms = lit< tt }, lit< tt), (lit< tt, (lit< tt, (lit< tt, tt)))));
-          accepted = refl;
-          leave = refl;
-          started = refl;
-          undisturbed = refl;
-        };
+    others = meets _ (typed-lamp 60000 (lit< tt))
+        (((lit< tt, lit< tt, typed-plain), lit< tt), ((record { delta = lit< tt; saturation = tt; ms = lit< tt }, lit< tt), (lit< tt, (lit< tt, (lit< tt, tt)))))
+        refl refl refl refl refl;
     hue = refl;
   },
   record {
-    others =
-        record {
-          form = refl;
-          typedLamp = typed-lamp 60000 (lit< tt);
-          typedCalls = (lit< tt, (lit< tt, (((lit< tt, lit< tt, typed-whileOff), lit< tt), (((lit< tt, lit< tt, typed-plain), lit< tt), ((record { delta = lit< tt; saturation = tt; ms = lit< tt }, lit< tt), (lit< tt, (lit< tt, (((lit< tt, lit< tt, typed-plain), lit< tt), (((lit< tt, typed-plain), lit< tt), (lit< tt, (lit< tt, (lit< tt, (lit< tt, tt)))))))))))));
-          accepted = refl;
-          leave = refl;
-          started = refl;
-          undisturbed = refl;
-        };
+    others = meets _ (typed-lamp 60000 (lit< tt))
+        (lit< tt, (lit< tt, (((lit< tt, lit< tt, typed-whileOff), lit< tt), (((lit< tt, lit< tt, typed-plain), lit< tt), ((record { delta = lit< tt; saturation = tt; ms = lit< tt }, lit< tt), (lit< tt, (lit< tt, (((lit< tt, lit< tt, typed-plain), lit< tt), (((lit< tt, typed-plain), lit< tt), (lit< tt, (lit< tt, (lit< tt, (lit< tt, tt)))))))))))))
+        refl refl refl refl refl;
     hue = refl;
   },
 )
@@ -219,12 +191,6 @@ premised = (
 pub premised-but-hue : PremisedButHue movedTo50
 unfolding quiet after answer commandCause commandAnswer formOrClock lampForm allTrue colorForm runningForm moveToForm taskForm commandEffect startAnswer stepAnswer haltAnswer started stepped hueSaturationStart hueSaturationPass hueSet permilleOf pathDelta distance movedHue hasFlag
 premised-but-hue =
-    record {
-      form = refl;
-      typedLamp = typed-lamp 0 (lit< tt);
-      typedCalls = (((lit< tt, lit< tt, typed-plain), lit< tt), ((record { delta = lit< tt; saturation = tt; ms = lit< tt }, lit< tt), ((record { delta = lit< tt; saturation = tt; ms = lit< tt }, lit< tt), (lit< tt, (lit< tt, tt)))));
-      accepted = refl;
-      leave = refl;
-      started = refl;
-      undisturbed = refl;
-    }
+    meets _ (typed-lamp 0 (lit< tt))
+    (((lit< tt, lit< tt, typed-plain), lit< tt), ((record { delta = lit< tt; saturation = tt; ms = lit< tt }, lit< tt), ((record { delta = lit< tt; saturation = tt; ms = lit< tt }, lit< tt), (lit< tt, (lit< tt, tt)))))
+    refl refl refl refl refl

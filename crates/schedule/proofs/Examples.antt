@@ -30,11 +30,12 @@ use Rattle.lamp.specs.Answers.{formOrClock}
 use Rattle.lamp.specs.Calls.{hueSaturationStart, started, stepped, startAnswer, stepAnswer, haltAnswer}
 use Rattle.lamp.specs.Form.{lampForm}
 use Rattle.lamp.specs.Passes.{hueSaturationPass}
-use Rattle.lamp.specs.Typed.{command, start, step, halt, TypedLamp}
+use Rattle.lamp.specs.Typed.{Call, command, start, step, halt, TypedLamp}
 use Rattle.commands.specs.Commands.{commandEffect}
-use Rattle.commands.specs.Answers.{answer, commandCause, commandAnswer}
-use Rattle.schedule.specs.Calls.{after, quiet, steps, paced}
-use Rattle.schedule.specs.Fades.{Fade, Premised, waitsKept, seen, looks, shown, stepsTaken}
+use Rattle.commands.specs.Answers.{answer, allowed, commandCause, commandAnswer}
+use Rattle.schedule.specs.Calls.{after, accepts, TypedCalls, quiet, steps, paced}
+use Rattle.schedule.specs.Schedule.{HueCommand, asCommand}
+use Rattle.schedule.specs.Fades.{Fade, finds, commandCall, ready, startCall, begun, listOf, PremisedButHue, Premised, waitsKept, seen, looks, shown, stepsTaken}
 
 -- ---- a lamp
 
@@ -64,61 +65,38 @@ lampAt hue =
 abbrev pub plain : CommandOptions
 plain = record { mask = 0; over = 0 }
 
+-- a fade that is given and started at 5000, with nothing before or between
+abbrev pub at5000 : Lamp → HueCommand → List Call → Fade
+at5000 l move calls =
+    record { lamp = l; before = []; move = move; onOff = OnOff.On; clock = 5000; between = []; start = 5000; calls = calls }
+
 -- each wait kept: half way round in two tenths
 abbrev pub paceKept : Fade
 paceKept =
-    record {
-      lamp = lampAt 0;
-      before = [];
-      move = record { enhanced = false; hue = 128; direction = DirectionEnum.Shortest; tenths = 2; options = plain };
-      onOff = OnOff.On;
-      clock = 5000;
-      between = [];
-      start = 5000;
-      calls = step 5100 ∷ step 5200 ∷ [];
-    }
+    at5000 (lampAt 0)
+    (record { enhanced = false; hue = 128; direction = DirectionEnum.Shortest; tenths = 2; options = plain })
+    (step 5100 ∷ step 5200 ∷ [])
 
 -- to the hue that is there
 abbrev pub noWay : Fade
 noWay =
-    record {
-      lamp = lampAt 2560;
-      before = [];
-      move = record { enhanced = false; hue = 10; direction = DirectionEnum.Longest; tenths = 5; options = plain };
-      onOff = OnOff.On;
-      clock = 5000;
-      between = [];
-      start = 5000;
-      calls = step 5100 ∷ [];
-    }
+    at5000 (lampAt 2560)
+    (record { enhanced = false; hue = 10; direction = DirectionEnum.Longest; tenths = 5; options = plain })
+    (step 5100 ∷ [])
 
 -- at once
 abbrev pub noTime : Fade
 noTime =
-    record {
-      lamp = lampAt 0;
-      before = [];
-      move = record { enhanced = false; hue = 10; direction = DirectionEnum.Down; tenths = 0; options = plain };
-      onOff = OnOff.On;
-      clock = 5000;
-      between = [];
-      start = 5000;
-      calls = step 5100 ∷ [];
-    }
+    at5000 (lampAt 0)
+    (record { enhanced = false; hue = 10; direction = DirectionEnum.Down; tenths = 0; options = plain })
+    (step 5100 ∷ [])
 
 -- 2000 down from 1000
 abbrev pub pastZero : Fade
 pastZero =
-    record {
-      lamp = lampAt 1000;
-      before = [];
-      move = record { enhanced = true; hue = 64536; direction = DirectionEnum.Down; tenths = 4; options = plain };
-      onOff = OnOff.On;
-      clock = 5000;
-      between = [];
-      start = 5000;
-      calls = step 5100 ∷ step 5200 ∷ step 5300 ∷ step 5400 ∷ [];
-    }
+    at5000 (lampAt 1000)
+    (record { enhanced = true; hue = 64536; direction = DirectionEnum.Down; tenths = 4; options = plain })
+    (step 5100 ∷ step 5200 ∷ step 5300 ∷ step 5400 ∷ [])
 
 -- calls of every kind before, between and after: up past 65,535
 abbrev pub amongOthers : Fade
@@ -181,72 +159,52 @@ typed-lamp hue h =
 pub typed-plain : TypedOptions plain
 typed-plain = record { mask = lit< tt; over = lit< tt }
 
+-- the premises of a fade: the types, and six tests that compute
+pub meets : (e : Fade) → TypedLamp (e .lamp) → TypedCalls (listOf e) → lampForm (e .lamp) ≡ true →
+    accepts (finds e) (commandCall e) ≡ true → allowed (finds e) (asCommand (e .move)) (e .onOff) ≡ true →
+    accepts (ready e) (startCall e) ≡ true → quiet (begun e .lamp) (e .calls) ≡ true → PremisedButHue e
+meets e typedLamp typedCalls form accepted leave started undisturbed =
+    record {
+      form = form;
+      typedLamp = typedLamp;
+      typedCalls = typedCalls;
+      accepted = accepted;
+      leave = leave;
+      started = started;
+      undisturbed = undisturbed;
+    }
+
 pub all-meet : Premised paceKept × Premised noWay × Premised noTime × Premised pastZero × Premised amongOthers
 unfolding after quiet answer commandCause commandAnswer formOrClock lampForm allTrue colorForm runningForm moveToForm taskForm commandEffect startAnswer stepAnswer haltAnswer started stepped hueSaturationStart hueSaturationPass hueSet permilleOf pathDelta distance movedHue hasFlag
 all-meet = (
   record {
-    others =
-        record {
-          form = refl;
-          typedLamp = typed-lamp 0 (lit< tt);
-          typedCalls = (((lit< tt, lit< tt, typed-plain), lit< tt), ((record { delta = lit< tt; saturation = tt; ms = lit< tt }, lit< tt), (lit< tt, (lit< tt, tt))));
-          accepted = refl;
-          leave = refl;
-          started = refl;
-          undisturbed = refl;
-        };
+    others = meets _ (typed-lamp 0 (lit< tt))
+        (((lit< tt, lit< tt, typed-plain), lit< tt), ((record { delta = lit< tt; saturation = tt; ms = lit< tt }, lit< tt), (lit< tt, (lit< tt, tt))))
+        refl refl refl refl refl;
     hue = refl;
   },
   record {
-    others =
-        record {
-          form = refl;
-          typedLamp = typed-lamp 2560 (lit< tt);
-          typedCalls = (((lit< tt, lit< tt, typed-plain), lit< tt), ((record { delta = lit< tt; saturation = tt; ms = lit< tt }, lit< tt), (lit< tt, tt)));
-          accepted = refl;
-          leave = refl;
-          started = refl;
-          undisturbed = refl;
-        };
+    others = meets _ (typed-lamp 2560 (lit< tt))
+        (((lit< tt, lit< tt, typed-plain), lit< tt), ((record { delta = lit< tt; saturation = tt; ms = lit< tt }, lit< tt), (lit< tt, tt)))
+        refl refl refl refl refl;
     hue = refl;
   },
   record {
-    others =
-        record {
-          form = refl;
-          typedLamp = typed-lamp 0 (lit< tt);
-          typedCalls = (((lit< tt, lit< tt, typed-plain), lit< tt), ((record { delta = lit< tt; saturation = tt; ms = lit< tt }, lit< tt), (lit< tt, tt)));
-          accepted = refl;
-          leave = refl;
-          started = refl;
-          undisturbed = refl;
-        };
+    others = meets _ (typed-lamp 0 (lit< tt))
+        (((lit< tt, lit< tt, typed-plain), lit< tt), ((record { delta = lit< tt; saturation = tt; ms = lit< tt }, lit< tt), (lit< tt, tt)))
+        refl refl refl refl refl;
     hue = refl;
   },
   record {
-    others =
-        record {
-          form = refl;
-          typedLamp = typed-lamp 1000 (lit< tt);
-          typedCalls = (((lit< tt, lit< tt, typed-plain), lit< tt), ((record { delta = lit< tt; saturation = tt; ms = lit< tt }, lit< tt), (lit< tt, (lit< tt, (lit< tt, (lit< tt, tt))))));
-          accepted = refl;
-          leave = refl;
-          started = refl;
-          undisturbed = refl;
-        };
+    others = meets _ (typed-lamp 1000 (lit< tt))
+        (((lit< tt, lit< tt, typed-plain), lit< tt), ((record { delta = lit< tt; saturation = tt; ms = lit< tt }, lit< tt), (lit< tt, (lit< tt, (lit< tt, (lit< tt, tt))))))
+        refl refl refl refl refl;
     hue = refl;
   },
   record {
-    others =
-        record {
-          form = refl;
-          typedLamp = typed-lamp 60000 (lit< tt);
-          typedCalls = (lit< tt, (lit< tt, (((lit< tt, lit< tt, typed-plain), lit< tt), (((lit< tt, lit< tt, typed-plain), lit< tt), ((record { delta = lit< tt; saturation = tt; ms = lit< tt }, lit< tt), (lit< tt, (lit< tt, (((lit< tt, lit< tt, typed-plain), lit< tt), (((lit< tt, typed-plain), lit< tt), ((tt, lit< tt), (((lit< tt, lit< tt, lit< tt, typed-plain), lit< tt), (((lit< tt, lit< tt, typed-plain), lit< tt), (lit< tt, (lit< tt, (lit< tt, tt)))))))))))))));
-          accepted = refl;
-          leave = refl;
-          started = refl;
-          undisturbed = refl;
-        };
+    others = meets _ (typed-lamp 60000 (lit< tt))
+        (lit< tt, (lit< tt, (((lit< tt, lit< tt, typed-plain), lit< tt), (((lit< tt, lit< tt, typed-plain), lit< tt), ((record { delta = lit< tt; saturation = tt; ms = lit< tt }, lit< tt), (lit< tt, (lit< tt, (((lit< tt, lit< tt, typed-plain), lit< tt), (((lit< tt, typed-plain), lit< tt), ((tt, lit< tt), (((lit< tt, lit< tt, lit< tt, typed-plain), lit< tt), (((lit< tt, lit< tt, typed-plain), lit< tt), (lit< tt, (lit< tt, (lit< tt, tt)))))))))))))))
+        refl refl refl refl refl;
     hue = refl;
   },
 )
