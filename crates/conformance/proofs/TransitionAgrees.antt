@@ -18,7 +18,7 @@ use Rattle.progress.proofs.Laws.{permille-is, permille-full, permille-short, pa
 use Rattle.commands.specs.Commands.{stepWay}
 use Rattle.conformance.specs.Limits.{away}
 use Rattle.conformance.specs.Steps.{enhancedHueMaximum, hueStepTo}
-use Rattle.conformance.specs.StepsAgree.{within-up, within-down, hue-step-agrees}
+use Rattle.conformance.proofs.StepsAgree.{within-up, within-down, hue-step-agrees}
 use Rattle.conformance.specs.Transition.{travelled, onLine, lineAt}
 
 -- the size of the port's part, so long after the start
@@ -85,11 +85,14 @@ module _ (way : ℤ) (time : ℕ) where
       rw (le-leb time elapsed h) (ap (λ (p : ℕ). natAbs (partOf way p)) (permille-full elapsed time h) ∙ ap natAbs (part-whole way))
 
   -- at the start of a time: nothing, in both
+  pub gone-first : 0 < time → gone way 0 time ≡ 0
+  gone-first h =
+      ap (λ (p : ℕ). natAbs (partOf way p)) (permille-is 0 time h ∙ ap (min 1000) (zero-div time)) ∙ part-size way 0
+      ∙ rw (mul-zero (natAbs way))
+
   pub transition-start : 0 < time → gone way 0 time ≡ travelled (natAbs way) 0 time
   unfolding travelled
-  transition-start h =
-      rw (lt-leb time 0 h, mul-zero (natAbs way), zero-div time)
-      (ap (λ (p : ℕ). natAbs (partOf way p)) (permille-is 0 time h ∙ ap (min 1000) (zero-div time)) ∙ part-size way 0 ∙ rw (mul-zero (natAbs way)))
+  transition-start h = rw (lt-leb time 0 h, mul-zero (natAbs way), zero-div time) (gone-first h)
 
   module _ (elapsed : ℕ) (before : elapsed < time) where
     -- before the time, the quotients

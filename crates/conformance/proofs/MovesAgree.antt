@@ -7,7 +7,7 @@ use mathlib.Core.Logic.{inl, ⊎-elim}
 use mathlib.Core.Path.{_≡_, refl, sym, ap, _∙_}
 use native.Mathlib.Nat.{mul-le-mul-left}
 use native.Mathlib.Omega.{arith}
-use lib.Dec.{leb, eqb}
+use lib.Dec.{leb}
 use lib.IntN.{ℤ}
 use borrow.Author.Tests.{eqb-true, leb-true}
 use Rattle.matter.specs.declared.enums.ColorLoopDirectionEnum.{ColorLoopDirectionEnum}
@@ -18,8 +18,6 @@ use Rattle.hue.specs.Hue.{movedHue}
 use Rattle.hue.proofs.Laws.{moved-up, moved-down}
 use Rattle.progress.specs.Progress.{wayAtRate, broughtWithin, loopTurn, loopWay}
 use Rattle.color.specs.declared.Color.{Color}
-use Rattle.color.proofs.Kept.{saturation-hue, mireds-hue}
-use Rattle.color.specs.Setters.{same, hueSet, saturationSet, miredsSet}
 use Rattle.tasks.specs.declared.ColorLoop.{ColorLoop}
 use Rattle.tasks.specs.declared.ColorLoopRun.{ColorLoopRun}
 use Rattle.tasks.specs.declared.ColorTemperatureMove.{ColorTemperatureMove}
@@ -40,56 +38,12 @@ use Rattle.matter.specs.Rules.{signed}
 use Rattle.lamp.specs.Passes.{Effect, saturationDone, miredsDone, huePass, saturationPass, temperaturePass, loopPass}
 use Rattle.lamp.specs.Typed.{step}
 use Rattle.commands.specs.Answers.{cause, answer}
-use Rattle.conformance.specs.MoveToAgrees.{hue-is-set}
-use Rattle.conformance.specs.Ran.{Ran, Lasts, saturationAt, miredsAt, step-by, ran-by, idle-done}
+use Rattle.conformance.specs.Started.{Ran, Lasts, saved}
+use Rattle.conformance.proofs.Ran.{saturationAt, miredsAt, step-by, ran-by, idle-done}
 use Rattle.conformance.specs.Receipt.{HueAlone, SaturationAlone, MiredsAlone}
+use Rattle.conformance.proofs.SettersSet.{hue-is-set, hue-leaves, saturation-is-set, saturation-leaves, mireds-is-set, mireds-leaves}
 use Rattle.conformance.specs.Steps.{enhancedHueMaximum, saturationMaximum, stepsMade, moveTo, hueMoveTo}
-use Rattle.conformance.specs.StepsAgree.{units-up, units-down, move-agrees, hue-move-agrees, hue-units-up, hue-units-down, mireds-up-done, mireds-down-done}
-
--- ---- the setters
-
--- they set the number that they are given, whether they tell or not
-saturation-by : (c : Color) (new : ℕ) (end : Bool) (clock : ℕ) (t : Bool) → eqb (c .saturation) new ≡ t →
-    saturationSet c new end clock .saturation ≡ new
-unfolding saturationSet
-saturation-by c new true clock true e = rw e
-saturation-by c new false clock true e = rw e (eqb-true (c .saturation) new e)
-saturation-by c new end clock false e = rw e
-
-mireds-by : (c : Color) (new : ℕ) (end : Bool) (clock : ℕ) (t : Bool) → eqb (c .mireds) new ≡ t →
-    miredsSet c new end clock .mireds ≡ new
-unfolding miredsSet
-mireds-by c new true clock true e = rw e
-mireds-by c new false clock true e = rw e (eqb-true (c .mireds) new e)
-mireds-by c new end clock false e = rw e
-
-module _ (c : Color) (new : ℕ) (end : Bool) (clock : ℕ) where
-  pub saturation-is-set : saturationSet c new end clock .saturation ≡ new
-  saturation-is-set = saturation-by c new end clock (eqb (c .saturation) new) refl
-
-  pub mireds-is-set : miredsSet c new end clock .mireds ≡ new
-  mireds-is-set = mireds-by c new end clock (eqb (c .mireds) new) refl
-
-  -- and leave the other two
-  pub hue-saturation : (enhanced : Bool) → hueSet c new end enhanced clock .saturation ≡ c .saturation
-  unfolding hueSet
-  hue-saturation enhanced =
-      cond-both (λ (d : Color). d .saturation ≡ c .saturation) (same (c .hue) new end) _ _ (λ e. refl) (λ e. refl)
-
-  pub hue-mireds : (enhanced : Bool) → hueSet c new end enhanced clock .mireds ≡ c .mireds
-  unfolding hueSet
-  hue-mireds enhanced =
-      cond-both (λ (d : Color). d .mireds ≡ c .mireds) (same (c .hue) new end) _ _ (λ e. refl) (λ e. refl)
-
-  pub saturation-mireds : saturationSet c new end clock .mireds ≡ c .mireds
-  unfolding saturationSet
-  saturation-mireds =
-      cond-both (λ (d : Color). d .mireds ≡ c .mireds) (same (c .saturation) new end) _ _ (λ e. refl) (λ e. refl)
-
-  pub mireds-saturation : miredsSet c new end clock .saturation ≡ c .saturation
-  unfolding miredsSet
-  mireds-saturation =
-      cond-both (λ (d : Color). d .saturation ≡ c .saturation) (same (c .mireds) new end) _ _ (λ e. refl) (λ e. refl)
+use Rattle.conformance.proofs.StepsAgree.{units-up, units-down, move-agrees, hue-move-agrees, hue-units-up, hue-units-down, mireds-up-done, mireds-down-done}
 
 -- ---- one pass
 
@@ -164,13 +118,13 @@ module _ (l : Lamp) (clock : ℕ) (accepted : cause l (step clock) ≡ 0) where
       step-by l (Running.HueMove run) clock
       (λ y. y .color .hue ≡ hueMoveTo (run .task .direction) enhancedHueMaximum
       (stepsMade (run .task .rate) (clock - run .start)) (run .hue))
-      e accepted (λ f. hue-pass (atClock l clock) run (form-clock (atClock l clock) f) h)
+      e accepted (λ f g. hue-pass (atClock l clock) run (form-clock (atClock l clock) f) h)
 
   pub hue-move-goes-on : (run : HueRun) → l .running ≡ Running.HueMove run →
       answer l (step clock) .lamp .running ≡ Running.HueMove run
   unfolding stepped huePass
   hue-move-goes-on run e =
-      step-by l (Running.HueMove run) clock (λ y. y .running ≡ Running.HueMove run) e accepted (λ f. refl)
+      step-by l (Running.HueMove run) clock (λ y. y .running ≡ Running.HueMove run) e accepted (λ f g. refl)
 
   -- MoveSaturation
   pub shown-saturation-move : (run : SaturationRun) → l .running ≡ Running.SaturationMove run → run .saturation ≤ 254 →
@@ -182,7 +136,7 @@ module _ (l : Lamp) (clock : ℕ) (accepted : cause l (step clock) ≡ 0) where
       step-by l (Running.SaturationMove run) clock
       (λ y. y .color .saturation ≡ moveTo (run .task .direction) 0 saturationMaximum
       (stepsMade (run .task .rate) (clock - run .start)) (run .saturation))
-      e accepted (λ f. saturation-pass (atClock l clock) run (form-clock (atClock l clock) f) h)
+      e accepted (λ f g. saturation-pass (atClock l clock) run (form-clock (atClock l clock) f) h)
 
   -- MoveColorTemperature, from within its bounds
   pub shown-mireds-move : (run : ColorTemperatureRun) (mode : MoveModeEnum) (rate : ℕ) →
@@ -194,7 +148,7 @@ module _ (l : Lamp) (clock : ℕ) (accepted : cause l (step clock) ≡ 0) where
   shown-mireds-move run mode rate e r low high =
       step-by l (Running.ColorTemperatureMove run) clock
       (λ y. y .color .mireds ≡ moveTo mode (run .lo) (run .hi) (stepsMade rate (clock - run .start)) (run .mireds))
-      e accepted (λ f. mireds-pass (atClock l clock) run mode rate r (form-clock (atClock l clock) f) low high)
+      e accepted (λ f g. mireds-pass (atClock l clock) run mode rate r (form-clock (atClock l clock) f) low high)
 
   -- the colour loop
   pub shown-loop : (run : ColorLoopRun) → l .running ≡ Running.ColorLoop run → run .hue < 65536 →
@@ -206,7 +160,7 @@ module _ (l : Lamp) (clock : ℕ) (accepted : cause l (step clock) ≡ 0) where
       step-by l (Running.ColorLoop run) clock
       (λ y. y .color .hue ≡ hueMoveTo (turnMode (run .task .direction)) enhancedHueMaximum
       (loopTurn (clock - run .start) (run .task .seconds)) (run .hue))
-      e accepted (λ f. loop-pass (atClock l clock) run h)
+      e accepted (λ f g. loop-pass (atClock l clock) run h)
 
 -- ---- from an accepted start on
 
@@ -240,45 +194,46 @@ saturation-stays MoveModeEnum.Down k j n h le e =
     let z : moveTo MoveModeEnum.Down 0 254 k n ≡ 0 = eqb-true _ 0 e in down-stays 0 k j n (omega arith) le z ∙ sym z
 
 module _ (m : Lamp) (begun : ℕ) where
-  -- MoveHue, EnhancedMoveHue
-  module _ (task : HueMove) (small : m .color .hue < 65536) where
-    abbrev hueRun : HueRun
-    hueRun = record { start = begun; hue = m .color .hue; task = task }
+  -- a hue that moves alone and never stops, where a start is a step of what it saves: so it has only the clock of the
+  -- last call
+  module _ (task : Task) (at : ℕ → ℕ) where
+    abbrev GoesOn : Color → Lamp → Type 0
+    GoesOn from n = (runs (n .running) ≡ true) × HueAlone from (n .color) (λ a b. b ≡ at (n .clock - begun))
 
-    -- runs, and shows the text's at its own clock
-    abbrev HueFollows : Lamp → Type 0
-    HueFollows n =
-        (n .running ≡ Running.HueMove hueRun)
-        × HueAlone (m .color) (n .color)
-        (λ a b. b ≡ hueMoveTo (task .direction) enhancedHueMaximum (stepsMade (task .rate) (n .clock - begun)) a)
-
-    hue-follows : (x : Lamp) → x .clock ≤ clockLimit → x .color .saturation ≡ m .color .saturation →
-        x .color .mireds ≡ m .color .mireds →
-        HueFollows (huePass x hueRun .lamp)
-    unfolding huePass
-    hue-follows x t s r =
-        let now : ℕ = movedHue (m .color .hue)
-        (wayAtRate (signed (task .direction) (task .rate)) (x .clock - begun)) in (
-          refl,
+    hue-goes-on : started (atClock m begun) task ≡ stepped (atClock m begun) (saved m task begun) →
+        ((x : Lamp) → x .clock ≤ clockLimit → GoesOn (x .color) (stepped x (saved m task begun) .lamp)) →
+        (n : Lamp) → Ran m task begun n → (clock : ℕ) → Lasts n clock →
+        HueAlone (m .color) (n .color) (λ a b. b ≡ at (clock - begun))
+    hue-goes-on same on n r clock lasts =
+        let (running, shows) =
+        ran-by m task begun (GoesOn (m .color))
+        (λ f g. rw same (on (atClock m begun) (form-clock _ f)))
+        (λ x k f g p.
+        let (running, shows) = on (atClock x k) (form-clock _ f) in (
+          running,
           record {
-            hue = hue-pass x hueRun t small;
-            saturation = hue-saturation (x .color) now false (x .clock) (task .enhanced) ∙ s;
-            mireds = hue-mireds (x .color) now false (x .clock) (task .enhanced) ∙ r;
+            hue = shows .hue;
+            saturation = shows .saturation ∙ p .1 .saturation;
+            mireds = shows .mireds ∙ p .1 .mireds;
           },
-        )
-
-    pub hue-move-follows : (n : Lamp) → Ran m (Task.HueMove task) begun n → (clock : ℕ) → Lasts n clock →
-        HueAlone (m .color) (n .color)
-        (λ a b. b ≡ hueMoveTo (task .direction) enhancedHueMaximum (stepsMade (task .rate) (clock - begun)) a)
-    unfolding started stepped
-    hue-move-follows n r clock lasts =
-        let (on, shows) =
-        ran-by m (Task.HueMove task) begun HueFollows
-        (λ f. hue-follows (atClock m begun) (form-clock _ f) refl refl)
-        (λ x k f p. hue-follows (atClock x k) (form-clock _ f) (p .1 .saturation) (p .1 .mireds))
+        ))
         n r
         in
-        ⊎-elim (λ e. rw e shows) (λ i. absurd (true≢false (ap runs (sym on ∙ i .0)))) lasts
+        ⊎-elim (λ e. rw e shows) (λ i. absurd (true≢false (sym running ∙ ap runs (i .0)))) lasts
+
+  -- MoveHue, EnhancedMoveHue
+  pub hue-move-follows : (task : HueMove) → m .color .hue < 65536 → (n : Lamp) → Ran m (Task.HueMove task) begun n →
+      (clock : ℕ) → Lasts n clock →
+      HueAlone (m .color) (n .color)
+      (λ a b. b ≡ hueMoveTo (task .direction) enhancedHueMaximum (stepsMade (task .rate) (clock - begun)) a)
+  unfolding started stepped huePass
+  hue-move-follows task small =
+      hue-goes-on (Task.HueMove task)
+      (λ e. hueMoveTo (task .direction) enhancedHueMaximum (stepsMade (task .rate) e) (m .color .hue)) refl
+      (λ x t.
+      let run : HueRun = record { start = begun; hue = m .color .hue; task = task } in
+      let left = hue-leaves (x .color) _ false (task .enhanced) (x .clock) in
+      (refl, record { hue = hue-pass x run t small; saturation = left .0; mireds = left .1 }))
 
   -- MoveSaturation
   module _ (task : SaturationMove) (small : m .color .saturation ≤ 254) where
@@ -321,17 +276,17 @@ module _ (m : Lamp) (begun : ℕ) where
         let now : ℕ = saturationAt saturationRun (x .clock) in
         let end : Bool = saturationDone (task .direction) now in
         record {
-          hue = saturation-hue (x .color) now end (x .clock) ∙ h;
+          hue = saturation-leaves (x .color) now end (x .clock) .0 ∙ h;
           saturation = saturation-pass x saturationRun t small ∙ sym (saturation-later x t clock lasts);
-          mireds = saturation-mireds (x .color) now end (x .clock) ∙ r;
+          mireds = saturation-leaves (x .color) now end (x .clock) .1 ∙ r;
         }
 
     pub saturation-move-follows : (n : Lamp) → Ran m (Task.SaturationMove task) begun n → SaturationFollows n
     unfolding started stepped
     saturation-move-follows n r =
         ran-by m (Task.SaturationMove task) begun SaturationFollows
-        (λ f. saturation-follows (atClock m begun) (form-clock _ f) refl refl)
-        (λ x k f p. saturation-follows (atClock x k) (form-clock _ f) (p (x .clock) (inl refl) .hue)
+        (λ f g. saturation-follows (atClock m begun) (form-clock _ f) refl refl)
+        (λ x k f g p. saturation-follows (atClock x k) (form-clock _ f) (p (x .clock) (inl refl) .hue)
         (p (x .clock) (inl refl) .mireds))
         n r
 
@@ -388,8 +343,8 @@ module _ (m : Lamp) (begun : ℕ) where
         let now : ℕ = miredsAt miredsRun (x .clock) in
         let end : Bool = miredsDone (signed mode rate) (lower (m .bounds) min) (upper (m .bounds) max) now in
         record {
-          hue = mireds-hue (x .color) now end (x .clock) ∙ h;
-          saturation = mireds-saturation (x .color) now end (x .clock) ∙ s;
+          hue = mireds-leaves (x .color) now end (x .clock) .0 ∙ h;
+          saturation = mireds-leaves (x .color) now end (x .clock) .1 ∙ s;
           mireds = mireds-pass x miredsRun mode rate refl t low high ∙ sym (mireds-later x t clock lasts);
         }
 
@@ -406,7 +361,7 @@ module _ (m : Lamp) (begun : ℕ) where
     unfolding started stepped temperatureStart
     mireds-move-follows n r =
         ran-by m miredsTask begun MiredsFollow
-        (λ f.
+        (λ f g.
         cond-both (λ (e : Effect). MiredsFollow (e .lamp)) (leb (upper (m .bounds) max) (lower (m .bounds) min)) _ _
         (λ t clock lasts. record {
           hue = refl;
@@ -415,44 +370,20 @@ module _ (m : Lamp) (begun : ℕ) where
               (stepsMade rate (clock - begun)) mode (leb-true _ _ t);
         })
         (λ t. mireds-follow (atClock m begun) (form-clock _ f) refl refl))
-        (λ x k f p. mireds-follow (atClock x k) (form-clock _ f) (p (x .clock) (inl refl) .hue)
+        (λ x k f g p. mireds-follow (atClock x k) (form-clock _ f) (p (x .clock) (inl refl) .hue)
         (p (x .clock) (inl refl) .saturation))
         n r
 
   -- the colour loop
-  module _ (task : ColorLoop) (small : m .color .hue < 65536) where
-    abbrev loopRun : ColorLoopRun
-    loopRun = record { start = begun; hue = m .color .hue; task = task }
-
-    abbrev LoopFollows : Lamp → Type 0
-    LoopFollows n =
-        (n .running ≡ Running.ColorLoop loopRun)
-        × HueAlone (m .color) (n .color)
-        (λ a b. b ≡ hueMoveTo (turnMode (task .direction)) enhancedHueMaximum
-        (loopTurn (n .clock - begun) (task .seconds)) a)
-
-    loop-on : (x : Lamp) → x .color .saturation ≡ m .color .saturation → x .color .mireds ≡ m .color .mireds →
-        LoopFollows (loopPass x loopRun .lamp)
-    unfolding loopPass
-    loop-on x s r =
-        let now : ℕ = movedHue (m .color .hue) (loopWay (task .direction) (x .clock - begun) (task .seconds)) in (
-          refl,
-          record {
-            hue = loop-pass x loopRun small;
-            saturation = hue-saturation (x .color) now false (x .clock) true ∙ s;
-            mireds = hue-mireds (x .color) now false (x .clock) true ∙ r;
-          },
-        )
-
-    pub loop-follows : (n : Lamp) → Ran m (Task.ColorLoop task) begun n → (clock : ℕ) → Lasts n clock →
-        HueAlone (m .color) (n .color)
-        (λ a b. b ≡ hueMoveTo (turnMode (task .direction)) enhancedHueMaximum (loopTurn (clock - begun) (task .seconds)) a)
-    unfolding started stepped
-    loop-follows n r clock lasts =
-        let (on, shows) =
-        ran-by m (Task.ColorLoop task) begun LoopFollows
-        (λ f. loop-on (atClock m begun) refl refl)
-        (λ x k f p. loop-on (atClock x k) (p .1 .saturation) (p .1 .mireds))
-        n r
-        in
-        ⊎-elim (λ e. rw e shows) (λ i. absurd (true≢false (ap runs (sym on ∙ i .0)))) lasts
+  pub loop-follows : (task : ColorLoop) → m .color .hue < 65536 → (n : Lamp) → Ran m (Task.ColorLoop task) begun n →
+      (clock : ℕ) → Lasts n clock →
+      HueAlone (m .color) (n .color)
+      (λ a b. b ≡ hueMoveTo (turnMode (task .direction)) enhancedHueMaximum (loopTurn (clock - begun) (task .seconds)) a)
+  unfolding started stepped loopPass
+  loop-follows task small =
+      hue-goes-on (Task.ColorLoop task)
+      (λ e. hueMoveTo (turnMode (task .direction)) enhancedHueMaximum (loopTurn e (task .seconds)) (m .color .hue)) refl
+      (λ x t.
+      let run : ColorLoopRun = record { start = begun; hue = m .color .hue; task = task } in
+      let left = hue-leaves (x .color) _ false true (x .clock) in
+      (refl, record { hue = loop-pass x run small; saturation = left .0; mireds = left .1 }))

@@ -2,8 +2,8 @@
 -- exactly where the text allows it, by its setter and in every accepted step. Where the port tells more, or less.
 -- Assumes nothing.
 use Prim.Native.Nat.{ℕ, zero, suc, _+_, _-_, _<_}
-use mathlib.Core.Bool.{Bool, true, false, not, cond, _&&_, true≢false, _||_, or-true, or-false, or-assoc, and-false}
-use mathlib.Core.List.{List, [], _∷_, _++_}
+use mathlib.Core.Bool.{Bool, true, false, not, cond, _&&_, true≢false, _||_, or-true, or-false, or-assoc, and-true, and-false}
+use mathlib.Core.List.{List, [], _∷_, _++_, append-assoc}
 use mathlib.Core.Path.{_≡_, refl, sym, ap, subst, _∙_}
 use native.Mathlib.Omega.{arith}
 use lib.Dec.{ltb, eqb}
@@ -38,8 +38,9 @@ use Rattle.matter.specs.Rules.{signed}
 use Rattle.lamp.specs.Passes.{Effect, unless, atEnd, hueNow, hueMoved, hueMovedTold, saturationNow, saturationMoved, saturationMovedTold, leftWritten, miredsNow, saturationDone, miredsDone, hueSaturationPass, temperatureToPass, huePass, saturationPass, temperaturePass, loopPass}
 use Rattle.lamp.specs.Typed.{step}
 use Rattle.commands.specs.Answers.{cause, answer}
-use Rattle.conformance.specs.MoveToAgrees.{hue-is-set, saturation-is-set, mireds-is-set}
-use Rattle.conformance.specs.ShownAgrees.{granted-is, step-shows}
+use Rattle.conformance.proofs.SettersSet.{hue-is-set, saturation-is-set, mireds-is-set}
+use Rattle.conformance.proofs.Ran.{granted-is}
+use Rattle.conformance.proofs.ShownAgrees.{step-shows}
 use Rattle.conformance.specs.Reports.{RemainingTimeIs, Reportable, fromZero, risen, fallen, toZero, hushed, MayReport, onceASecond, atTheEnd, tells}
 
 -- ---- RemainingTime
@@ -121,44 +122,40 @@ tells-both n [] ys = refl
 tells-both n (x ∷ xs) ys =
     ap (λ (b : Bool). eqb n x || b) (tells-both n xs ys) ∙ sym (or-assoc (eqb n x) (tells n xs) (tells n ys))
 
--- of a change, an attribute's notice is told exactly where the change is due
-module _ (n : ℕ) (attributes : List ℕ) (has : tells n attributes ≡ true)
-    (other : tells n (markedDirty ∷ scenesTold ∷ []) ≡ false) where
-  last-by : (d : Bool) → tells n (cond d (attributes ++ (ColorMode ∷ EnhancedColorMode ∷ [])) [] ++ (scenesTold ∷ []))
-      ≡ d
-  last-by true =
-      tells-both n (attributes ++ (ColorMode ∷ EnhancedColorMode ∷ [])) (scenesTold ∷ [])
-      ∙ rw (tells-both n attributes (ColorMode ∷ EnhancedColorMode ∷ []), has)
+-- of which the second has none
+but-for : (n : ℕ) (told rest : List ℕ) → tells n rest ≡ false → tells n (told ++ rest) ≡ tells n told
+but-for n told rest none = tells-both n told rest ∙ rw none (or-false (tells n told))
+
+-- of a change, its attributes and the modes are told exactly where the change is due
+module _ (n : ℕ) (attributes : List ℕ) (other : tells n (markedDirty ∷ scenesTold ∷ []) ≡ false) where
+  abbrev noticed : List ℕ
+  noticed = attributes ++ (ColorMode ∷ EnhancedColorMode ∷ [])
+
+  last-by : (d : Bool) → tells n (cond d noticed [] ++ (scenesTold ∷ [])) ≡ d && tells n noticed
+  last-by true = but-for n noticed (scenesTold ∷ []) (or-right (eqb n markedDirty) (tells n (scenesTold ∷ [])) other)
   last-by false = or-right (eqb n markedDirty) (tells n (scenesTold ∷ [])) other
 
-  change-by : (s a d : Bool) → tells n (cond s [] (changeNotices a d attributes)) ≡ not s && d
-  change-by true a d = refl
-  change-by false true d = last-by d
-  change-by false false d = rw (or-left (eqb n markedDirty) (tells n (scenesTold ∷ [])) other) (last-by d)
+  notices-by : (s a d : Bool) → tells n (cond s [] (changeNotices a d attributes)) ≡ not s && (d && tells n noticed)
+  notices-by true a d = refl
+  notices-by false true d = last-by d
+  notices-by false false d = rw (or-left (eqb n markedDirty) (tells n (scenesTold ∷ [])) other) (last-by d)
 
--- a notice that is no attribute's of them is not told
-module _ (n : ℕ) (attributes : List ℕ) (none : tells n (attributes ++ (ColorMode ∷ EnhancedColorMode ∷ [])) ≡ false)
-    (other : tells n (markedDirty ∷ scenesTold ∷ []) ≡ false) where
-  no-last-by : (d : Bool) →
-      tells n (cond d (attributes ++ (ColorMode ∷ EnhancedColorMode ∷ [])) [] ++ (scenesTold ∷ [])) ≡ false
-  no-last-by true =
-      tells-both n (attributes ++ (ColorMode ∷ EnhancedColorMode ∷ [])) (scenesTold ∷ [])
-      ∙ rw none (or-right (eqb n markedDirty) (tells n (scenesTold ∷ [])) other)
-  no-last-by false = or-right (eqb n markedDirty) (tells n (scenesTold ∷ [])) other
+  change-by : tells n noticed ≡ true → (s a d : Bool) → tells n (cond s [] (changeNotices a d attributes)) ≡ not s && d
+  change-by has s a d = notices-by s a d ∙ rw (has, and-true d)
 
-  no-change-by : (s a d : Bool) → tells n (cond s [] (changeNotices a d attributes)) ≡ false
-  no-change-by true a d = refl
-  no-change-by false true d = no-last-by d
-  no-change-by false false d = rw (or-left (eqb n markedDirty) (tells n (scenesTold ∷ [])) other) (no-last-by d)
+  -- and no other
+  no-change-by : tells n noticed ≡ false → (s a d : Bool) → tells n (cond s [] (changeNotices a d attributes)) ≡ false
+  no-change-by none s a d = notices-by s a d ∙ rw (none, and-false d, and-false (not s))
 
 -- of a hue, CurrentHue is told, and with it EnhancedCurrentHue where the move is an enhanced one
-abbrev IsHues : ℕ → Bool → Type 0
-IsHues n enhanced =
-    (tells n (CurrentHue ∷ only enhanced EnhancedCurrentHue) ≡ true) × (tells n (markedDirty ∷ scenesTold ∷ []) ≡ false)
+pub data HueNotice : ℕ → Bool → Type 0 where
+  ofCurrentHue : (enhanced : Bool) → HueNotice CurrentHue enhanced
+  ofEnhancedCurrentHue : HueNotice EnhancedCurrentHue true
 
-hue-by : (n : ℕ) (enhanced : Bool) → IsHues n enhanced → (s a d : Bool) →
+hue-by : {n : ℕ} {enhanced : Bool} → HueNotice n enhanced → (s a d : Bool) →
     tells n (cond s [] (changeNotices a d (CurrentHue ∷ only enhanced EnhancedCurrentHue))) ≡ not s && d
-hue-by n enhanced is = change-by n (CurrentHue ∷ only enhanced EnhancedCurrentHue) (is .0) (is .1)
+hue-by (ofCurrentHue enhanced) = change-by CurrentHue (CurrentHue ∷ only enhanced EnhancedCurrentHue) refl refl
+hue-by ofEnhancedCurrentHue = change-by EnhancedCurrentHue (CurrentHue ∷ EnhancedCurrentHue ∷ []) refl refl
 
 saturation-by : (s a d : Bool) →
     tells CurrentSaturation (cond s [] (changeNotices a d (CurrentSaturation ∷ []))) ≡ not s && d
@@ -168,148 +165,97 @@ mireds-by : (s a d : Bool) →
     tells ColorTemperatureMireds (cond s [] (changeNotices a d (ColorTemperatureMireds ∷ []))) ≡ not s && d
 mireds-by = change-by ColorTemperatureMireds (ColorTemperatureMireds ∷ []) refl refl
 
+-- a notice of a number that becomes another is one that may be reported, and of a change each that may be is told
+pub record ReportedAs (notice : ℕ) (told : List ℕ) (old new stamp clock : ℕ) (end : Bool) : Type 0 where
+  pub whereItMay : tells notice told ≡ true → MayReport stamp clock end
+  pub ofEachChange : (old ≡ new → ⊥) → MayReport stamp clock end → tells notice told ≡ true
+
+-- it is told so
+abbrev ToldOf : ℕ → List ℕ → ℕ → ℕ → ℕ → ℕ → Bool → Type 0
+ToldOf n told old new stamp clock end = tells n told ≡ not (same old new end) && due end stamp clock
+
+reported-as : (n : ℕ) (told : List ℕ) (old new stamp clock : ℕ) (end : Bool) → ToldOf n told old new stamp clock end →
+    ReportedAs n told old new stamp clock end
+reported-as n told old new stamp clock end e =
+    record {
+      whereItMay = λ h. due-by end stamp clock (and-right (not (same old new end)) (due end stamp clock) (sym e ∙ h));
+      ofEachChange = λ h m. e ∙ rw (ne-eqb old new h, by-due m);
+    }
+
 module _ (c : Color) (new : ℕ) (end : Bool) (clock : ℕ) (active : Bool) where
-  -- a notice of a change is one that may be reported, and of a change each that may be is told
-  told-may : (old stamp : ℕ) (t : Bool) → t ≡ not (same old new end) && due end stamp clock → t ≡ true →
-      MayReport stamp clock end
-  told-may old stamp t e h =
-      due-by end stamp clock (and-right (not (same old new end)) (due end stamp clock) (sym e ∙ h))
-
-  may-told : (old stamp : ℕ) (t : Bool) → t ≡ not (same old new end) && due end stamp clock → (old ≡ new → ⊥) →
-      MayReport stamp clock end → t ≡ true
-  may-told old stamp t e h m = e ∙ rw (ne-eqb old new h, by-due m)
-
-  hue-may : (n : ℕ) (enhanced : Bool) → IsHues n enhanced →
-      tells n (hueTold c new end enhanced clock active) ≡ true → MayReport (c .stamps .hue) clock end
+  hue-told : {n : ℕ} {enhanced : Bool} → HueNotice n enhanced →
+      ToldOf n (hueTold c new end enhanced clock active) (c .hue) new (c .stamps .hue) clock end
   unfolding hueTold
-  hue-may n enhanced is =
-      told-may (c .hue) (c .stamps .hue) _
-      (hue-by n enhanced is (same (c .hue) new end) active (due end (c .stamps .hue) clock))
+  hue-told h = hue-by h (same (c .hue) new end) active (due end (c .stamps .hue) clock)
 
-  hue-must : (n : ℕ) (enhanced : Bool) → IsHues n enhanced →
-      (c .hue ≡ new → ⊥) → MayReport (c .stamps .hue) clock end →
-      tells n (hueTold c new end enhanced clock active) ≡ true
-  unfolding hueTold
-  hue-must n enhanced is =
-      may-told (c .hue) (c .stamps .hue) _
-      (hue-by n enhanced is (same (c .hue) new end) active (due end (c .stamps .hue) clock))
-
-  pub hue-reported : (enhanced : Bool) →
-      tells CurrentHue (hueTold c new end enhanced clock active) ≡ true → MayReport (c .stamps .hue) clock end
-  hue-reported enhanced = hue-may CurrentHue enhanced (refl, refl)
-
-  pub hue-change-told : (enhanced : Bool) →
-      (c .hue ≡ new → ⊥) → MayReport (c .stamps .hue) clock end →
-      tells CurrentHue (hueTold c new end enhanced clock active) ≡ true
-  hue-change-told enhanced = hue-must CurrentHue enhanced (refl, refl)
-
-  -- in an enhanced move
-  pub enhanced-reported : tells EnhancedCurrentHue (hueTold c new end true clock active) ≡ true →
-      MayReport (c .stamps .hue) clock end
-  enhanced-reported = hue-may EnhancedCurrentHue true (refl, refl)
-
-  pub enhanced-change-told :
-      (c .hue ≡ new → ⊥) → MayReport (c .stamps .hue) clock end →
-      tells EnhancedCurrentHue (hueTold c new end true clock active) ≡ true
-  enhanced-change-told = hue-must EnhancedCurrentHue true (refl, refl)
-
-  pub saturation-reported : tells CurrentSaturation (saturationTold c new end clock active) ≡ true →
-      MayReport (c .stamps .saturation) clock end
+  saturation-told : ToldOf CurrentSaturation (saturationTold c new end clock active) (c .saturation) new
+      (c .stamps .saturation) clock end
   unfolding saturationTold
-  saturation-reported =
-      told-may (c .saturation) (c .stamps .saturation) _
-      (saturation-by (same (c .saturation) new end) active (due end (c .stamps .saturation) clock))
+  saturation-told = saturation-by (same (c .saturation) new end) active (due end (c .stamps .saturation) clock)
 
-  pub saturation-change-told : (c .saturation ≡ new → ⊥) → MayReport (c .stamps .saturation) clock end →
-      tells CurrentSaturation (saturationTold c new end clock active) ≡ true
-  unfolding saturationTold
-  saturation-change-told =
-      may-told (c .saturation) (c .stamps .saturation) _
-      (saturation-by (same (c .saturation) new end) active (due end (c .stamps .saturation) clock))
-
-  pub mireds-reported : tells ColorTemperatureMireds (miredsTold c new end clock active) ≡ true →
-      MayReport (c .stamps .mireds) clock end
+  mireds-told : ToldOf ColorTemperatureMireds (miredsTold c new end clock active) (c .mireds) new
+      (c .stamps .mireds) clock end
   unfolding miredsTold
-  mireds-reported =
-      told-may (c .mireds) (c .stamps .mireds) _
-      (mireds-by (same (c .mireds) new end) active (due end (c .stamps .mireds) clock))
+  mireds-told = mireds-by (same (c .mireds) new end) active (due end (c .stamps .mireds) clock)
 
-  pub mireds-change-told : (c .mireds ≡ new → ⊥) → MayReport (c .stamps .mireds) clock end →
-      tells ColorTemperatureMireds (miredsTold c new end clock active) ≡ true
-  unfolding miredsTold
-  mireds-change-told =
-      may-told (c .mireds) (c .stamps .mireds) _
-      (mireds-by (same (c .mireds) new end) active (due end (c .stamps .mireds) clock))
+  pub hue-reported : {n : ℕ} {enhanced : Bool} → HueNotice n enhanced →
+      ReportedAs n (hueTold c new end enhanced clock active) (c .hue) new (c .stamps .hue) clock end
+  hue-reported h = reported-as _ _ _ _ _ _ _ (hue-told h)
+
+  pub saturation-reported : ReportedAs CurrentSaturation (saturationTold c new end clock active) (c .saturation) new
+      (c .stamps .saturation) clock end
+  saturation-reported = reported-as _ _ _ _ _ _ _ saturation-told
+
+  pub mireds-reported : ReportedAs ColorTemperatureMireds (miredsTold c new end clock active) (c .mireds) new
+      (c .stamps .mireds) clock end
+  mireds-reported = reported-as _ _ _ _ _ _ _ mireds-told
 
 -- "at most once per second": what was told at one clock is not told again within the second, but at an end
 
+-- a notice that was told sets its stamp to the clock, and then is not due
+once : (t u : Bool) (old new stamp oldNext next stampNext clock later : ℕ) (end : Bool) → later < clock + 1000 →
+    t ≡ not (same old new end) && due end stamp clock → u ≡ not (same oldNext next false) && due false stampNext later →
+    (same old new end ≡ false → due end stamp clock ≡ true → stampNext ≡ clock) → t ≡ true → u ≡ false
+once t u old new stamp oldNext next stampNext clock later end soon e f set h =
+    let both : (not (same old new end) && due end stamp clock) ≡ true = sym e ∙ h in
+    let a : stampNext ≡ clock =
+    set (not-true (same old new end) (and-left (not (same old new end)) _ both))
+    (and-right (not (same old new end)) _ both)
+    in
+    f ∙ rw (lt-leb (stampNext + 1000) later (omega arith)) (and-false (not (same oldNext next false)))
+
 module _ (c : Color) (clock later : ℕ) (soon : later < clock + 1000) (end : Bool) (new next : ℕ) (active : Bool) where
-  -- a notice that was told sets its stamp to the clock, and then is not due
-  not-due : (old stamp : ℕ) (t : Bool) (after : ℕ) → t ≡ not (same old new end) && due end stamp clock → t ≡ true →
-      (same old new end ≡ false → due end stamp clock ≡ true → after ≡ clock) → due false after later ≡ false
-  not-due old stamp t after e h f =
-      let a : after ≡ clock = f (not-true (same old new end) (and-left (not (same old new end)) (due end stamp clock) (sym e ∙ h))) (and-right (not (same old new end)) (due end stamp clock) (sym e ∙ h)) in
-      lt-leb (after + 1000) later (omega arith)
-
-  hue-stamp : (enhanced : Bool) → same (c .hue) new end ≡ false → due end (c .stamps .hue) clock ≡ true →
-      hueSet c new end enhanced clock .stamps .hue ≡ clock
-  unfolding hueSet
-  hue-stamp enhanced e d = rw (e, d)
-
-  once : (n : ℕ) (enhanced enhancedNext : Bool) → IsHues n enhanced → IsHues n enhancedNext →
+  pub hue-once : {n : ℕ} {enhanced enhancedNext : Bool} → HueNotice n enhanced → HueNotice n enhancedNext →
       tells n (hueTold c new end enhanced clock active) ≡ true →
       tells n (hueTold (hueSet c new end enhanced clock) next false enhancedNext later active) ≡ false
-  unfolding hueTold
-  once n enhanced enhancedNext is isNext e =
+  unfolding hueSet
+  hue-once {enhanced = enhanced} h k =
       let after : Color = hueSet c new end enhanced clock in
-      hue-by n enhancedNext isNext (same (after .hue) next false) active (due false (after .stamps .hue) later)
-      ∙ ap (λ (d : Bool). not (same (after .hue) next false) && d)
-      (not-due (c .hue) (c .stamps .hue) _ (after .stamps .hue)
-      (hue-by n enhanced is (same (c .hue) new end) active (due end (c .stamps .hue) clock)) e (hue-stamp enhanced))
-      ∙ and-false (not (same (after .hue) next false))
+      once _ _ (c .hue) new (c .stamps .hue) (after .hue) next (after .stamps .hue) clock later end soon
+      (hue-told c new end clock active h) (hue-told after next false later active k) (λ e d. rw (e, d))
 
-  pub hue-once : (enhanced enhancedNext : Bool) → tells CurrentHue (hueTold c new end enhanced clock active) ≡ true →
-      tells CurrentHue (hueTold (hueSet c new end enhanced clock) next false enhancedNext later active) ≡ false
-  hue-once enhanced enhancedNext = once CurrentHue enhanced enhancedNext (refl, refl) (refl, refl)
-
-  pub enhanced-once : tells EnhancedCurrentHue (hueTold c new end true clock active) ≡ true →
-      tells EnhancedCurrentHue (hueTold (hueSet c new end true clock) next false true later active) ≡ false
-  enhanced-once = once EnhancedCurrentHue true true (refl, refl) (refl, refl)
-
-  saturation-stamp : same (c .saturation) new end ≡ false → due end (c .stamps .saturation) clock ≡ true → saturationSet c new end clock .stamps .saturation ≡ clock
+  pub saturation-once : tells CurrentSaturation (saturationTold c new end clock active) ≡ true →
+      tells CurrentSaturation (saturationTold (saturationSet c new end clock) next false later active) ≡ false
   unfolding saturationSet
-  saturation-stamp e d = rw (e, d)
-
-  pub saturation-once : tells CurrentSaturation (saturationTold c new end clock active) ≡ true → tells CurrentSaturation (saturationTold (saturationSet c new end clock) next false later active) ≡ false
-  unfolding saturationTold
-  saturation-once e =
+  saturation-once =
       let after : Color = saturationSet c new end clock in
-      saturation-by (same (after .saturation) next false) active (due false (after .stamps .saturation) later)
-      ∙ ap (λ (d : Bool). not (same (after .saturation) next false) && d) (not-due (c .saturation) (c .stamps .saturation) _ (after .stamps .saturation) (saturation-by (same (c .saturation) new end) active (due end (c .stamps .saturation) clock)) e saturation-stamp)
-      ∙ and-false (not (same (after .saturation) next false))
+      once _ _ (c .saturation) new (c .stamps .saturation) (after .saturation) next (after .stamps .saturation) clock
+      later end soon (saturation-told c new end clock active)
+      (saturation-told after next false later active) (λ e d. rw (e, d))
 
-  mireds-stamp : same (c .mireds) new end ≡ false → due end (c .stamps .mireds) clock ≡ true → miredsSet c new end clock .stamps .mireds ≡ clock
+  pub mireds-once : tells ColorTemperatureMireds (miredsTold c new end clock active) ≡ true →
+      tells ColorTemperatureMireds (miredsTold (miredsSet c new end clock) next false later active) ≡ false
   unfolding miredsSet
-  mireds-stamp e d = rw (e, d)
-
-  pub mireds-once : tells ColorTemperatureMireds (miredsTold c new end clock active) ≡ true → tells ColorTemperatureMireds (miredsTold (miredsSet c new end clock) next false later active) ≡ false
-  unfolding miredsTold
-  mireds-once e =
+  mireds-once =
       let after : Color = miredsSet c new end clock in
-      mireds-by (same (after .mireds) next false) active (due false (after .stamps .mireds) later)
-      ∙ ap (λ (d : Bool). not (same (after .mireds) next false) && d) (not-due (c .mireds) (c .stamps .mireds) _ (after .stamps .mireds) (mireds-by (same (c .mireds) new end) active (due end (c .stamps .mireds) clock)) e mireds-stamp)
-      ∙ and-false (not (same (after .mireds) next false))
+      once _ _ (c .mireds) new (c .stamps .mireds) (after .mireds) next (after .stamps .mireds) clock later end soon
+      (mireds-told c new end clock active) (mireds-told after next false later active) (λ e d. rw (e, d))
 
 -- ---- where the port tells more, or less
 
 mode-by : (s a d e : Bool) → tells ColorMode (cond s [] (changeNotices a d (CurrentHue ∷ only e EnhancedCurrentHue))) ≡ not s && d
-mode-by true a d e = refl
-mode-by false true true true = refl
-mode-by false true true false = refl
-mode-by false true false e = refl
-mode-by false false true true = refl
-mode-by false false true false = refl
-mode-by false false false e = refl
+mode-by s a d true = change-by ColorMode (CurrentHue ∷ EnhancedCurrentHue ∷ []) refl refl s a d
+mode-by s a d false = change-by ColorMode (CurrentHue ∷ []) refl refl s a d
 
 plain-by : (s a d : Bool) → tells EnhancedCurrentHue (cond s [] (changeNotices a d (CurrentHue ∷ []))) ≡ false
 plain-by = no-change-by EnhancedCurrentHue (CurrentHue ∷ []) refl refl
@@ -319,7 +265,7 @@ module _ (c : Color) (clock : ℕ) (active : Bool) where
   pub unchanged-told : (enhanced : Bool) → tells CurrentHue (hueTold c (c .hue) true enhanced clock active) ≡ true
   unfolding hueTold
   unchanged-told enhanced =
-      hue-by CurrentHue enhanced (refl, refl) (same (c .hue) (c .hue) true) active true ∙ rw (and-false (eqb (c .hue) (c .hue)))
+      hue-by (ofCurrentHue enhanced) (same (c .hue) (c .hue) true) active true ∙ rw (and-false (eqb (c .hue) (c .hue)))
 
   module _ (new : ℕ) (moved : c .hue ≡ new → ⊥) where
     -- less: the modes change with the number and are withheld with it, where the text limits no report of ColorMode or
@@ -340,15 +286,12 @@ module _ (c : Color) (clock : ℕ) (active : Bool) where
 abbrev pub ended : Answer → Bool
 ended a = not (runs (a .lamp .running))
 
-pub record Reported (notice : ℕ) (number stamp : Color → ℕ) (before : Lamp) (clock : ℕ) (a : Answer) : Type 0 where
-  pub whereItMay : tells notice (a .notices .places) ≡ true → MayReport (stamp (before .color)) clock (ended a)
-  pub ofEachChange : (number (before .color) ≡ number (a .lamp .color) → ⊥) →
-      MayReport (stamp (before .color)) clock (ended a) → tells notice (a .notices .places) ≡ true
+abbrev pub Reported : ℕ → (Color → ℕ) → (Color → ℕ) → Lamp → ℕ → Answer → Type 0
+Reported notice number stamp before clock a =
+    ReportedAs notice (a .notices .places) (number (before .color)) (number (a .lamp .color))
+    (stamp (before .color)) clock (ended a)
 
--- what a pass tells beside an attribute's notices, and the zeros behind them
-but-for : (n : ℕ) (told rest : List ℕ) → tells n rest ≡ false → tells n (told ++ rest) ≡ tells n told
-but-for n told rest none = tells-both n told rest ∙ rw none (or-false (tells n told))
-
+-- the zeros behind what a pass tells
 no-zeros : (n : ℕ) → eqb n 0 ≡ false → (k : ℕ) → tells n (replicate k 0) ≡ false
 no-zeros n z zero = refl
 no-zeros n z (suc k) = rw z (no-zeros n z k)
@@ -365,21 +308,13 @@ ended-by : (end : Bool) (r : Running) → runs r ≡ true → not (runs (unless 
 ended-by true r e = refl
 ended-by false r e = rw e
 
--- the notices of a hue
-pub data HueNotice : ℕ → Bool → Type 0 where
-  ofCurrentHue : (enhanced : Bool) → HueNotice CurrentHue enhanced
-  ofEnhancedCurrentHue : HueNotice EnhancedCurrentHue true
-
-is-hues : {n : ℕ} {enhanced : Bool} → HueNotice n enhanced → IsHues n enhanced
-is-hues (ofCurrentHue enhanced) = (refl, refl)
-is-hues ofEnhancedCurrentHue = (refl, refl)
-
 -- they are not told of the rest of a pass
 apart-from : {n : ℕ} {enhanced : Bool} → HueNotice n enhanced →
     (eqb n 0 ≡ false) × (tells n (deviceHueSaturation ∷ []) ≡ false) × (eqb n RemainingTime ≡ false)
     × (tells n (CurrentSaturation ∷ ColorMode ∷ EnhancedColorMode ∷ []) ≡ false)
-apart-from (ofCurrentHue enhanced) = (refl, refl, refl, refl)
-apart-from ofEnhancedCurrentHue = (refl, refl, refl, refl)
+    × (tells n (markedDirty ∷ scenesTold ∷ []) ≡ false)
+apart-from (ofCurrentHue enhanced) = (refl, refl, refl, refl, refl)
+apart-from ofEnhancedCurrentHue = (refl, refl, refl, refl, refl)
 
 no-saturation : (n : ℕ) → tells n (CurrentSaturation ∷ ColorMode ∷ EnhancedColorMode ∷ []) ≡ false →
     tells n (markedDirty ∷ scenesTold ∷ []) ≡ false →
@@ -388,7 +323,7 @@ no-saturation : (n : ℕ) → tells n (CurrentSaturation ∷ ColorMode ∷ Enhan
 unfolding saturationTold
 no-saturation n none other c TargetSaturation.Keep first p clock active = refl
 no-saturation n none other c (TargetSaturation.To target) first p clock active =
-    no-change-by n (CurrentSaturation ∷ []) none other
+    no-change-by n (CurrentSaturation ∷ []) other none
     (same (c .saturation) (saturationNow first target p) (atEnd p)) active (due (atEnd p) (c .stamps .saturation) clock)
 
 -- nor is CurrentSaturation of a hue, which leaves its number and stamp
@@ -403,7 +338,7 @@ no-hue : (c : Color) (d : HueDelta) (first p : ℕ) (enhanced : Bool) (clock : �
 unfolding hueTold
 no-hue c HueDelta.Keep first p enhanced clock active = refl
 no-hue c (HueDelta.By way) first p enhanced clock active =
-    no-change-by CurrentSaturation (CurrentHue ∷ only enhanced EnhancedCurrentHue) (no-hue-by enhanced) refl
+    no-change-by CurrentSaturation (CurrentHue ∷ only enhanced EnhancedCurrentHue) refl (no-hue-by enhanced)
     (same (c .hue) (hueNow first way p) (atEnd p)) active (due (atEnd p) (c .stamps .hue) clock)
 
 hue-leaves-stamp : (c : Color) (d : HueDelta) (first p : ℕ) (enhanced : Bool) (clock : ℕ) →
@@ -425,38 +360,28 @@ module _ (l : Lamp) (clock : ℕ) (accepted : cause l (step clock) ≡ 0) where
   answer-is : (r : Running) → l .running ≡ r → answer l (step clock) ≡ done (stepped on r)
   answer-is r e = granted-is l (step clock) accepted ∙ ap (λ (x : Running). done (stepped on x)) e
 
-  reported-by : (n : ℕ) (number stamp : Color → ℕ) (new : ℕ) (end : Bool) (e : Effect) →
+  -- a pass that tells these of the number, and besides nothing of the notice
+  reported-by : (n : ℕ) (number stamp : Color → ℕ) (new : ℕ) (end : Bool) (e : Effect) (its rest : List ℕ) →
       answer l (step clock) ≡ done e → number (e .lamp .color) ≡ new → not (runs (e .lamp .running)) ≡ end →
-      tells n (filled (e .told)) ≡ not (same (number (l .color)) new end) && due end (stamp (l .color)) clock →
+      e .told ≡ its ++ rest → eqb n 0 ≡ false → tells n rest ≡ false →
+      ToldOf n its (number (l .color)) new (stamp (l .color)) clock end →
       Reported n number stamp l clock (answer l (step clock))
-  reported-by n number stamp new end e is set over told =
+  reported-by n number stamp new end e its rest is set over list z none told =
       subst (Reported n number stamp l clock) (sym is)
-      (record {
-        whereItMay =
-            λ t. subst (MayReport (stamp (l .color)) clock) (sym over)
-            (told-may (l .color) new end clock true (number (l .color)) (stamp (l .color))
-            (tells n (filled (e .told))) told t);
-        ofEachChange =
-            λ c m. may-told (l .color) new end clock true (number (l .color)) (stamp (l .color))
-            (tells n (filled (e .told))) told (λ x. c (x ∙ sym set))
-            (subst (MayReport (stamp (l .color)) clock) over m);
-      })
+      (rw (set, over) (reported-as n (filled (e .told)) _ new _ clock end
+      (ap (λ (x : List ℕ). tells n (filled x)) list ∙ in-places n z (its ++ rest) ∙ but-for n its rest none ∙ told)))
 
   -- a pass of the hue alone, which does not end
   hue-alone : (enhanced : Bool) (new : ℕ) (e : Effect) → answer l (step clock) ≡ done e → e .lamp .color .hue ≡ new →
       not (runs (e .lamp .running)) ≡ false →
       e .told ≡ hueTold (l .color) new false enhanced clock (l .looping .active) ++ (deviceHueSaturation ∷ []) →
       (n : ℕ) → HueNotice n enhanced → Reported n (λ c. c .hue) (λ c. c .stamps .hue) l clock (answer l (step clock))
-  unfolding hueTold
   hue-alone enhanced new e is set over list n h =
-      let its = hueTold (l .color) new false enhanced clock (l .looping .active) in
-      let (z, device, time, others) = apart-from h in
-      reported-by n (λ c. c .hue) (λ c. c .stamps .hue) new false e is set over
-      (ap (λ (x : List ℕ). tells n (filled x)) list
-      ∙ in-places n z (its ++ (deviceHueSaturation ∷ []))
-      ∙ but-for n its (deviceHueSaturation ∷ []) device
-      ∙ hue-by n enhanced (is-hues h) (same (l .color .hue) new false) (l .looping .active)
-      (due false (l .color .stamps .hue) clock))
+      let (z, device, time, others, dirty) = apart-from h in
+      reported-by n (λ c. c .hue) (λ c. c .stamps .hue) new false e
+      (hueTold (l .color) new false enhanced clock (l .looping .active)) (deviceHueSaturation ∷ []) is set over
+      list z device
+      (hue-told (l .color) new false clock (l .looping .active) h)
 
   -- CurrentHue, and in an enhanced move EnhancedCurrentHue: of a move to a hue, of a move at a rate and of the loop
   pub hue-to-reported : (run : HueSaturationRun) (way : ℤ) → l .running ≡ Running.HueSaturationMoveTo run →
@@ -472,19 +397,18 @@ module _ (l : Lamp) (clock : ℕ) (accepted : cause l (step clock) ≡ 0) where
       let its = hueMovedTold (l .color) (run .task .delta) (run .hue) p (run .task .enhanced) clock active in
       let saturations = saturationMovedTold hued (run .task .saturation) (run .saturation) p clock active in
       let left : Bool = leftWritten on (atEnd p) (clock - run .start) (run .task .ms) .told in
-      let (z, device, time, others) = apart-from h in
+      let (z, device, time, others, dirty) = apart-from h in
       reported-by n (λ c. c .hue) (λ c. c .stamps .hue) (hueNow (run .hue) way p) (atEnd p)
-      (stepped on (Running.HueSaturationMoveTo run)) is
-      (sym (ap (λ (a : Answer). a .lamp .color .hue) is) ∙ step-shows l clock accepted run e .hueMoves way d)
+      (stepped on (Running.HueSaturationMoveTo run)) (its ++ saturations)
+      ((deviceHueSaturation ∷ []) ++ only left RemainingTime) is
+      (sym (ap (λ (a : Answer). a .lamp .color .hue) is) ∙ (rw d at (step-shows l clock accepted run e .hue)))
       (ended-by (atEnd p) (Running.HueSaturationMoveTo run) refl)
-      (in-places n z (its ++ saturations ++ (deviceHueSaturation ∷ []) ++ only left RemainingTime)
-      ∙ but-for n (its ++ saturations ++ (deviceHueSaturation ∷ [])) (only left RemainingTime) (no-time n time left)
-      ∙ but-for n (its ++ saturations) (deviceHueSaturation ∷ []) device
-      ∙ but-for n its saturations
-      (no-saturation n others (is-hues h .1) hued (run .task .saturation) (run .saturation) p clock active)
+      (append-assoc (its ++ saturations) (deviceHueSaturation ∷ []) (only left RemainingTime)) z
+      (but-for n (deviceHueSaturation ∷ []) (only left RemainingTime) (no-time n time left) ∙ device)
+      (but-for n its saturations
+      (no-saturation n others dirty hued (run .task .saturation) (run .saturation) p clock active)
       ∙ ap (λ (x : HueDelta). tells n (hueMovedTold (l .color) x (run .hue) p (run .task .enhanced) clock active)) d
-      ∙ hue-by n (run .task .enhanced) (is-hues h) (same (l .color .hue) (hueNow (run .hue) way p) (atEnd p)) active
-      (due (atEnd p) (l .color .stamps .hue) clock))
+      ∙ hue-told (l .color) (hueNow (run .hue) way p) (atEnd p) clock active h)
 
   pub hue-move-reported : (run : HueRun) → l .running ≡ Running.HueMove run →
       (n : ℕ) → HueNotice n (run .task .enhanced) →
@@ -520,17 +444,17 @@ module _ (l : Lamp) (clock : ℕ) (accepted : cause l (step clock) ≡ 0) where
       let left : Bool = leftWritten on (atEnd p) (clock - run .start) (run .task .ms) .told in
       let (kept, stamp) = hue-leaves-stamp (l .color) (run .task .delta) (run .hue) p (run .task .enhanced) clock in
       reported-by n (λ c. c .saturation) (λ c. c .stamps .saturation) now (atEnd p)
-      (stepped on (Running.HueSaturationMoveTo run)) is
+      (stepped on (Running.HueSaturationMoveTo run)) (its ++ saturations)
+      ((deviceHueSaturation ∷ []) ++ only left RemainingTime) is
       (ap (λ (x : TargetSaturation). saturationMoved hued x (run .saturation) p clock .saturation) t
       ∙ saturation-is-set hued now (atEnd p) clock)
       (ended-by (atEnd p) (Running.HueSaturationMoveTo run) refl)
-      (in-places n refl (its ++ saturations ++ (deviceHueSaturation ∷ []) ++ only left RemainingTime)
-      ∙ but-for n (its ++ saturations ++ (deviceHueSaturation ∷ [])) (only left RemainingTime) (no-time n refl left)
-      ∙ but-for n (its ++ saturations) (deviceHueSaturation ∷ []) refl
-      ∙ tells-both n its saturations
+      (append-assoc (its ++ saturations) (deviceHueSaturation ∷ []) (only left RemainingTime)) refl
+      (no-time n refl left)
+      (tells-both n its saturations
       ∙ rw (no-hue (l .color) (run .task .delta) (run .hue) p (run .task .enhanced) clock active)
       (ap (λ (x : TargetSaturation). tells n (saturationMovedTold hued x (run .saturation) p clock active)) t
-      ∙ saturation-by (same (hued .saturation) now (atEnd p)) active (due (atEnd p) (hued .stamps .saturation) clock)
+      ∙ saturation-told hued now (atEnd p) clock active
       ∙ ap (λ (x : ℕ). not (same x now (atEnd p)) && due (atEnd p) (hued .stamps .saturation) clock) kept
       ∙ ap (λ (x : ℕ). not (same (l .color .saturation) now (atEnd p)) && due (atEnd p) x clock) stamp))
 
@@ -540,15 +464,11 @@ module _ (l : Lamp) (clock : ℕ) (accepted : cause l (step clock) ≡ 0) where
   saturation-move-reported run e =
       let now : ℕ = broughtWithin 0 saturationLimit (run .saturation) (wayAtRate (signed (run .task .direction) (run .task .rate)) (clock - run .start)) in
       let end : Bool = saturationDone (run .task .direction) now in
-      let its = saturationTold (l .color) now end clock (l .looping .active) in
       reported-by CurrentSaturation (λ c. c .saturation) (λ c. c .stamps .saturation) now end
-      (stepped on (Running.SaturationMove run)) (answer-is (Running.SaturationMove run) e)
-      (saturation-is-set (l .color) now end clock)
-      (ended-by end (Running.SaturationMove run) refl)
-      (in-places CurrentSaturation refl (its ++ (deviceHueSaturation ∷ []))
-      ∙ but-for CurrentSaturation its (deviceHueSaturation ∷ []) refl
-      ∙ saturation-by (same (l .color .saturation) now end) (l .looping .active)
-      (due end (l .color .stamps .saturation) clock))
+      (stepped on (Running.SaturationMove run)) (saturationTold (l .color) now end clock (l .looping .active))
+      (deviceHueSaturation ∷ []) (answer-is (Running.SaturationMove run) e)
+      (saturation-is-set (l .color) now end clock) (ended-by end (Running.SaturationMove run) refl) refl refl refl
+      (saturation-told (l .color) now end clock (l .looping .active))
 
   -- ColorTemperatureMireds: of a move to mireds, and of a move at a rate
   pub mireds-to-reported : (run : ColorTemperatureToRun) → l .running ≡ Running.ColorTemperatureMoveTo run →
@@ -560,15 +480,11 @@ module _ (l : Lamp) (clock : ℕ) (accepted : cause l (step clock) ≡ 0) where
       let its = miredsTold (l .color) now (atEnd p) clock (l .looping .active) in
       let left : Bool = leftWritten on (atEnd p) (clock - run .start) (run .task .ms) .told in
       reported-by ColorTemperatureMireds (λ c. c .mireds) (λ c. c .stamps .mireds) now (atEnd p)
-      (stepped on (Running.ColorTemperatureMoveTo run)) (answer-is (Running.ColorTemperatureMoveTo run) e)
-      (mireds-is-set (l .color) now (atEnd p) clock)
+      (stepped on (Running.ColorTemperatureMoveTo run)) its ((deviceMireds ∷ []) ++ only left RemainingTime)
+      (answer-is (Running.ColorTemperatureMoveTo run) e) (mireds-is-set (l .color) now (atEnd p) clock)
       (ended-by (atEnd p) (Running.ColorTemperatureMoveTo run) refl)
-      (in-places ColorTemperatureMireds refl (its ++ (deviceMireds ∷ []) ++ only left RemainingTime)
-      ∙ but-for ColorTemperatureMireds (its ++ (deviceMireds ∷ [])) (only left RemainingTime)
-      (no-time ColorTemperatureMireds refl left)
-      ∙ but-for ColorTemperatureMireds its (deviceMireds ∷ []) refl
-      ∙ mireds-by (same (l .color .mireds) now (atEnd p)) (l .looping .active)
-      (due (atEnd p) (l .color .stamps .mireds) clock))
+      (append-assoc its (deviceMireds ∷ []) (only left RemainingTime)) refl
+      (no-time ColorTemperatureMireds refl left) (mireds-told (l .color) now (atEnd p) clock (l .looping .active))
 
   pub mireds-move-reported : (run : ColorTemperatureRun) → l .running ≡ Running.ColorTemperatureMove run →
       Reported ColorTemperatureMireds (λ c. c .mireds) (λ c. c .stamps .mireds) l clock (answer l (step clock))
@@ -576,11 +492,8 @@ module _ (l : Lamp) (clock : ℕ) (accepted : cause l (step clock) ≡ 0) where
   mireds-move-reported run e =
       let now : ℕ = broughtWithin (run .lo) (run .hi) (run .mireds) (wayAtRate (run .rate) (clock - run .start)) in
       let end : Bool = miredsDone (run .rate) (run .lo) (run .hi) now in
-      let its = miredsTold (l .color) now end clock (l .looping .active) in
       reported-by ColorTemperatureMireds (λ c. c .mireds) (λ c. c .stamps .mireds) now end
-      (stepped on (Running.ColorTemperatureMove run)) (answer-is (Running.ColorTemperatureMove run) e)
-      (mireds-is-set (l .color) now end clock)
-      (ended-by end (Running.ColorTemperatureMove run) refl)
-      (in-places ColorTemperatureMireds refl (its ++ (deviceMireds ∷ []))
-      ∙ but-for ColorTemperatureMireds its (deviceMireds ∷ []) refl
-      ∙ mireds-by (same (l .color .mireds) now end) (l .looping .active) (due end (l .color .stamps .mireds) clock))
+      (stepped on (Running.ColorTemperatureMove run)) (miredsTold (l .color) now end clock (l .looping .active))
+      (deviceMireds ∷ []) (answer-is (Running.ColorTemperatureMove run) e)
+      (mireds-is-set (l .color) now end clock) (ended-by end (Running.ColorTemperatureMove run) refl) refl refl refl
+      (mireds-told (l .color) now end clock (l .looping .active))

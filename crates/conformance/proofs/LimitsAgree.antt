@@ -35,6 +35,7 @@ use Rattle.commands.specs.Answers.{cause, answer, allowed, commandDone}
 use Rattle.commands.specs.Commands.{CommandEffect, asked, lo, hi, stopMode, commandEffect}
 use Rattle.commands.proofs.Kept.{answer-both}
 use Rattle.conformance.specs.Limits.{Allowed, Closest}
+use Rattle.conformance.proofs.Ran.{granted-is}
 
 module _ (bounds : Bounds) where
   asked-is : (physical n : ℕ) → (n ≡ 0 → ⊥) → asked physical n ≡ n
@@ -120,9 +121,7 @@ module _ (l : Lamp) (mode : MoveModeEnum) (rate minimum maximum : ℕ) (options 
   start-is : answer m (start task clock) ≡ done (temperatureStart (atClock m clock) asks)
   unfolding started
   start-is =
-      answer-both m (λ (a : Answer). a ≡ done (started (atClock m clock) task)) (start task clock) (λ z. refl)
-      (λ n. absurd (n accepted))
-      ∙ ap (λ (t : Task). done (started (atClock m clock) t)) task-is
+      granted-is m (start task clock) accepted ∙ ap (λ (t : Task). done (started (atClock m clock) t)) task-is
 
   low-is : lower (m .bounds) (asks .min) ≡ lo (l .bounds) minimum
   low-is = ap (λ (b : Bounds). lower b (asks .min)) same

@@ -1,0 +1,344 @@
+-- Every command that moves a number does what the text asks of it, from its fields to the numbers that a lamp shows:
+-- the call is accepted and gives a task in form, and every lamp on which that task is started, and stepped, shows
+-- what the text has then.
+-- Assumes nothing.
+use Prim.Native.Nat.{ℕ, zero, suc, _-_, _≤_, _<_, min, max}
+use mathlib.Core.Bool.{Bool, true, false, cond, true≢false}
+use mathlib.Core.Path.{_≡_, refl, sym, ap, subst, _∙_}
+use native.Mathlib.Nat.{mul-one}
+use native.Mathlib.Omega.{arith}
+use lib.Dec.{eqb}
+use lib.IntN.{pos, natAbs, _+ℤ_}
+use Rattle.matter.specs.declared.limits.Bounds.{Bounds}
+use Rattle.matter.specs.declared.commands.Command.{Command}
+use Rattle.matter.specs.declared.commands.CommandOptions.{CommandOptions}
+use Rattle.matter.specs.declared.enums.DirectionEnum.{DirectionEnum}
+use Rattle.matter.specs.declared.enums.MoveModeEnum.{MoveModeEnum}
+use Rattle.matter.specs.declared.enums.OnOff.{OnOff}
+use Rattle.matter.specs.declared.enums.StepModeEnum.{StepModeEnum}
+use Rattle.matter.proofs.Laws.{cond-both}
+use Rattle.matter.specs.Typed.{TypedCommand}
+use Rattle.hue.specs.Hue.{pathDelta}
+use Rattle.progress.proofs.Laws.{clamp-keeps, clamp-within}
+use Rattle.progress.specs.Progress.{clamp}
+use Rattle.color.specs.declared.Color.{Color}
+use Rattle.color.proofs.Kept.{form-saturation, form-above, form-below}
+use Rattle.tasks.specs.declared.GivenTask.{GivenTask}
+use Rattle.tasks.specs.declared.Task.{Task}
+use Rattle.tasks.specs.Form.{taskForm}
+use Rattle.tasks.specs.Runs.{runs}
+use Rattle.lamp.specs.declared.Lamp.{Lamp}
+use Rattle.lamp.specs.Answers.{atClock, formOrClock}
+use Rattle.matter.specs.Bounds.{lower, upper}
+use Rattle.lamp.specs.Form.{lampForm}
+use Rattle.lamp.proofs.Kept.{form-color, no-cause}
+use Rattle.lamp.specs.Typed.{command}
+use Rattle.commands.specs.Answers.{allowed, commandCause, afterClock, cause, answer}
+use Rattle.commands.specs.Commands.{causeIf, stopMode, numberCause, asked, lo, hi, stored, temperatureTask, stepWay, commandEffect}
+use Rattle.commands.proofs.Kept.{answer-both, granted-ready}
+use Rattle.commands.proofs.TaskForm.{given-form}
+use Rattle.conformance.proofs.ArrivalsAgree.{move-to-follows, mireds-to-follow}
+use Rattle.conformance.proofs.DirectionsAgree.{directions-agree}
+use Rattle.conformance.specs.Limits.{Allowed}
+use Rattle.conformance.proofs.LimitsAgree.{allowed-within, within-allowed, closest-agrees}
+use Rattle.conformance.proofs.MovesAgree.{hue-move-follows, saturation-move-follows, mireds-move-follows}
+use Rattle.conformance.specs.Started.{Ran, Lasts, saved}
+use Rattle.conformance.proofs.Ran.{ran-form}
+use Rattle.conformance.specs.Receipt.{Reaches, Goes-by, Goes-to, sense, Ends, Each, MiredsAlone, moves, OnReceipt}
+use Rattle.conformance.specs.Transition.{milliseconds}
+use Rattle.conformance.specs.Steps.{stepsMade, stepTo, moveTo}
+use Rattle.conformance.proofs.StepsAgree.{saturation-step-agrees, mireds-step-agrees}
+
+-- what the task does wherever and whenever it is started, while it runs and after, is what the command asks
+abbrev pub Follows : Bounds → Color → Command → Task → Type 0
+Follows bounds received c task =
+    (m n : Lamp) (begun : ℕ) → m .bounds ≡ bounds → m .color .hue < 65536 → Ran m task begun n →
+    (clock : ℕ) → Lasts n clock → OnReceipt bounds received c (clock - begun) (m .color) (n .color)
+
+-- a task in form that does so
+pub record Gives (l : Lamp) (c : Command) (given : GivenTask) : Type 0 where
+  pub task : Task
+  pub is : given ≡ GivenTask.Given task
+  pub inForm : taskForm task ≡ true
+  pub follows : Follows (l .bounds) (l .color) c task
+
+-- ---- ways of a step
+
+step-goes : (mode : StepModeEnum) (size time elapsed from now : ℕ) → 0 < size →
+    Goes-by (sense (stepWay mode size)) (natAbs (stepWay mode size)) time elapsed from now →
+    Goes-by mode size time elapsed from now
+step-goes StepModeEnum.Up size time elapsed from now h g = g
+step-goes StepModeEnum.Down zero time elapsed from now h g = absurd (omega arith)
+step-goes StepModeEnum.Down (suc size) time elapsed from now h g = g
+
+-- ---- the bounds of a mired move or step are the text's
+
+module _ (bounds : Bounds) (minimum maximum least most n : ℕ) (ends : Ends bounds minimum maximum least most)
+    (allow : Allowed bounds minimum maximum n) where
+  in-bounds : (lo bounds minimum ≤ n) × (n ≤ hi bounds maximum)
+  in-bounds = allowed-within bounds minimum maximum n allow
+
+  least-is : lo bounds minimum ≡ least
+  least-is =
+      let a : Allowed bounds minimum maximum (lo bounds minimum) =
+      within-allowed bounds minimum maximum (lo bounds minimum) (omega arith) (omega (arith, in-bounds))
+      in
+      omega (arith, ends .between (lo bounds minimum) a, allowed-within bounds minimum maximum least (ends .smallest))
+
+  most-is : hi bounds maximum ≡ most
+  most-is =
+      let a : Allowed bounds minimum maximum (hi bounds maximum) =
+      within-allowed bounds minimum maximum (hi bounds maximum) (omega (arith, in-bounds)) (omega arith)
+      in
+      omega (arith, ends .between (hi bounds maximum) a, allowed-within bounds minimum maximum most (ends .largest))
+
+-- and there are such, where any mireds are allowed
+pub ends-are : (bounds : Bounds) (minimum maximum n : ℕ) → Allowed bounds minimum maximum n →
+    Ends bounds minimum maximum (lo bounds minimum) (hi bounds maximum)
+ends-are bounds minimum maximum n allow =
+    let i : (lo bounds minimum ≤ n) × (n ≤ hi bounds maximum) = allowed-within bounds minimum maximum n allow in
+    record {
+      smallest = within-allowed bounds minimum maximum (lo bounds minimum) (omega arith) (omega arith);
+      largest = within-allowed bounds minimum maximum (hi bounds maximum) (omega arith) (omega arith);
+      between = allowed-within bounds minimum maximum;
+    }
+
+-- ---- the commands
+
+-- a task whose start saves what runs, other than Stop, and that does what the command asks
+abbrev Does : Bounds → Color → Command → GivenTask → Type 0
+Does bounds received c GivenTask.Nothing = ⊥
+Does bounds received c (GivenTask.Given task) =
+    ((m : Lamp) (clock : ℕ) → runs (saved m task clock) ≡ true) × Follows bounds received c task
+
+not-0 : (n cause : ℕ) → causeIf (eqb n 0) (suc cause) ≡ 0 → 0 < n
+not-0 zero cause e = absurd (omega arith)
+not-0 (suc n) cause e = omega arith
+
+-- one of the three said another way
+module _ {H S M : Type 0} (g : Each H S M) where
+  with-hue : {So : Type 0} → (H → So) → Each So S M
+  with-hue f = record { hue = f (g .hue); saturation = g .saturation; mireds = g .mireds }
+
+  with-saturation : {So : Type 0} → (S → So) → Each H So M
+  with-saturation f = record { hue = g .hue; saturation = f (g .saturation); mireds = g .mireds }
+
+  with-mireds : {So : Type 0} → (M → So) → Each H S So
+  with-mireds f = record { hue = g .hue; saturation = g .saturation; mireds = f (g .mireds) }
+
+module _ (l : Lamp) (formed : lampForm l ≡ true) (hued : l .color .hue < 65536) where
+  -- a lamp on which a task was started was in form
+  fair : {m n : Lamp} {task : Task} {begun : ℕ} → Ran m task begun n → m .color .saturation ≤ 254
+  fair {m} {begun = begun} r = form-saturation _ _ _ (form-color (atClock m begun) (ran-form r))
+
+  ordered : l .bounds .min ≤ l .bounds .max
+  ordered =
+      let c = form-color l formed in
+      omega (arith, form-above (l .color) (l .bounds) (l .clock) c, form-below (l .color) (l .bounds) (l .clock) c)
+
+  -- where a command's task moves mireds to a target within the bounds
+  to-mireds : (target time : ℕ) (m n : Lamp) (begun : ℕ) → m .bounds ≡ l .bounds →
+      (l .bounds .min ≤ target) × (target ≤ l .bounds .max) →
+      Ran m (temperatureTask target time) begun n → (clock : ℕ) → Lasts n clock →
+      MiredsAlone (m .color) (n .color) (λ a y. Reaches a target (milliseconds time) (clock - begun) y)
+  to-mireds target time m n begun b w r clock lasts =
+      with-mireds (mireds-to-follow m begun _ n r clock lasts)
+      (subst (λ (to : ℕ). Reaches (m .color .mireds) to (milliseconds time) (clock - begun) (n .color .mireds))
+      (rw b (clamp-keeps (l .bounds .min) (l .bounds .max) target (w .0) (w .1))))
+
+  -- where a command's task moves a hue to another
+  goes-to : (to time : ℕ) (direction : DirectionEnum) (elapsed from now : ℕ) → to < 65536 →
+      Goes-by (sense (pathDelta (l .color .hue) to direction)) (natAbs (pathDelta (l .color .hue) to direction))
+      (milliseconds time) elapsed from now →
+      Goes-to direction (l .color .hue) to (milliseconds time) elapsed from now
+  goes-to to time direction elapsed from now h g =
+      record {
+        way = pathDelta (l .color .hue) to direction;
+        goes = directions-agree (l .color .hue) to hued h direction;
+        moves = g;
+      }
+
+  -- a command with good fields
+  abbrev Asked : Command → Type 0
+  Asked c = TypedCommand c → numberCause c ≡ 0 → Does (l .bounds) (l .color) c (commandEffect l c .task)
+
+  move-to-hue-does : (hue : ℕ) (direction : DirectionEnum) (time : ℕ) (options : CommandOptions) →
+      Asked (Command.MoveToHue hue direction time options)
+  unfolding commandEffect
+  move-to-hue-does hue direction time options t z =
+      (λ m clock. refl, λ m n begun b k r clock lasts.
+      with-hue (move-to-follows m begun _ k n r clock lasts)
+      (goes-to (stored hue) time direction _ _ _ (omega (arith, t .0))))
+
+  move-hue-does : (mode : MoveModeEnum) (rate : ℕ) (enhanced : Bool) (options : CommandOptions) →
+      Asked (Command.MoveHue mode rate enhanced options)
+  unfolding commandEffect
+  move-hue-does mode rate true options t z =
+      (λ m clock. refl, λ m n begun b k r clock lasts. rw (mul-one rate) (hue-move-follows m begun _ k n r clock lasts))
+  move-hue-does mode rate false options t z =
+      (λ m clock. refl, λ m n begun b k r clock lasts. hue-move-follows m begun _ k n r clock lasts)
+
+  step-hue-does : (mode : StepModeEnum) (size time : ℕ) (options : CommandOptions) →
+      Asked (Command.StepHue mode size time options)
+  unfolding commandEffect
+  step-hue-does mode size time options t z =
+      (λ m clock. refl, λ m n begun b k r clock lasts.
+      with-hue (move-to-follows m begun _ k n r clock lasts)
+      (step-goes mode (stored size) _ _ _ _ (omega (arith, not-0 size 1 z))))
+
+  move-to-saturation-does : (saturation time : ℕ) (options : CommandOptions) →
+      Asked (Command.MoveToSaturation saturation time options)
+  unfolding commandEffect
+  move-to-saturation-does saturation time options t z =
+      (λ m clock. refl, λ m n begun b k r clock lasts. move-to-follows m begun _ k n r clock lasts)
+
+  move-saturation-does : (mode : MoveModeEnum) (rate : ℕ) (options : CommandOptions) →
+      Asked (Command.MoveSaturation mode rate options)
+  unfolding commandEffect
+  move-saturation-does mode rate options t z =
+      (λ m clock. refl, λ m n begun b k r clock lasts. saturation-move-follows m begun _ (fair r) n r clock lasts)
+
+  step-saturation-does : (mode : StepModeEnum) (size time : ℕ) (options : CommandOptions) →
+      Asked (Command.StepSaturation mode size time options)
+  unfolding commandEffect
+  step-saturation-does mode size time options t z =
+      (λ m clock. refl, λ m n begun b k r clock lasts.
+      with-saturation (move-to-follows m begun _ k n r clock lasts)
+      (subst (λ (to : ℕ). Reaches (m .color .saturation) to (milliseconds time) (clock - begun) (n .color .saturation))
+      (saturation-step-agrees mode (l .color .saturation) size (form-saturation _ _ _ (form-color l formed)))))
+
+  move-to-hue-and-saturation-does : (hue saturation time : ℕ) (enhanced : Bool) (enhancedHue : ℕ)
+      (options : CommandOptions) → Asked (Command.MoveToHueAndSaturation hue saturation time enhanced enhancedHue options)
+  unfolding commandEffect
+  move-to-hue-and-saturation-does hue saturation time enhanced enhancedHue options t z =
+      (λ m clock. refl, λ m n begun b k r clock lasts.
+      with-hue (move-to-follows m begun _ k n r clock lasts)
+      (goes-to (cond enhanced enhancedHue (stored hue)) time DirectionEnum.Shortest _ _ _
+      (cond-both (λ n. n < 65536) enhanced enhancedHue (stored hue) (λ e. t .3) (λ e. omega (arith, t .0)))))
+
+  enhanced-move-to-hue-does : (hue : ℕ) (direction : DirectionEnum) (time : ℕ) (options : CommandOptions) →
+      Asked (Command.EnhancedMoveToHue hue direction time options)
+  unfolding commandEffect
+  enhanced-move-to-hue-does hue direction time options t z =
+      (λ m clock. refl, λ m n begun b k r clock lasts.
+      with-hue (move-to-follows m begun _ k n r clock lasts) (goes-to hue time direction _ _ _ (t .0)))
+
+  enhanced-move-hue-does : (mode : MoveModeEnum) (rate : ℕ) (options : CommandOptions) →
+      Asked (Command.EnhancedMoveHue mode rate options)
+  unfolding commandEffect
+  enhanced-move-hue-does mode rate options t z =
+      (λ m clock. refl, λ m n begun b k r clock lasts. hue-move-follows m begun _ k n r clock lasts)
+
+  enhanced-step-hue-does : (mode : StepModeEnum) (size time : ℕ) (options : CommandOptions) →
+      Asked (Command.EnhancedStepHue mode size time options)
+  unfolding commandEffect
+  enhanced-step-hue-does mode size time options t z =
+      (λ m clock. refl, λ m n begun b k r clock lasts.
+      with-hue (move-to-follows m begun _ k n r clock lasts) (step-goes mode size _ _ _ _ (not-0 size 1 z)))
+
+  move-to-color-temperature-does : (mireds time : ℕ) (options : CommandOptions) →
+      Asked (Command.MoveToColorTemperature mireds time options)
+  unfolding commandEffect
+  move-to-color-temperature-does mireds time options t z =
+      (λ m clock. refl, λ m n begun b k r clock lasts.
+      let selected : ℕ = clamp (l .bounds .min) (l .bounds .max) (pos mireds) in
+      with-mireds
+      (to-mireds selected time m n begun b (clamp-within (l .bounds .min) (l .bounds .max) (pos mireds) ordered) r clock
+      lasts)
+      (λ g. record {
+        selected = selected;
+        closest = closest-agrees (l .bounds .min) (l .bounds .max) mireds ordered;
+        reaches = g;
+      }))
+
+  move-color-temperature-does : (mode : MoveModeEnum) (rate min max : ℕ) (options : CommandOptions) →
+      Asked (Command.MoveColorTemperature mode rate min max options)
+  unfolding commandEffect
+  move-color-temperature-does mode rate min max options t z =
+      (λ m clock. refl, λ m n begun b k r clock lasts least most ends allow.
+      let e : lower (m .bounds) (asked (l .bounds .min) min) ≡ least =
+      ap (λ (q : Bounds). lower q (asked (l .bounds .min) min)) b ∙ least-is (l .bounds) min max least most
+      (m .color .mireds) ends allow
+      in
+      let f : upper (m .bounds) (asked (l .bounds .max) max) ≡ most =
+      ap (λ (q : Bounds). upper q (asked (l .bounds .max) max)) b ∙ most-is (l .bounds) min max least most
+      (m .color .mireds) ends allow
+      in
+      let i = ends .between (m .color .mireds) allow in
+      with-mireds
+      (mireds-move-follows m begun mode rate _ _ (omega (arith, e, i)) (omega (arith, f, i)) n r clock lasts)
+      (λ g. g
+      ∙ ap (λ (q : ℕ). moveTo mode q (upper (m .bounds) (asked (l .bounds .max) max)) (stepsMade rate (clock - begun))
+      (m .color .mireds)) e
+      ∙ ap (λ (q : ℕ). moveTo mode least q (stepsMade rate (clock - begun)) (m .color .mireds)) f))
+
+  step-color-temperature-does : (mode : StepModeEnum) (size time min max : ℕ) (options : CommandOptions) →
+      Asked (Command.StepColorTemperature mode size time min max options)
+  unfolding commandEffect
+  step-color-temperature-does mode size time min max options t z =
+      (λ m clock. refl, λ m n begun b k r clock lasts least most ends allow.
+      let from : ℕ = l .color .mireds in
+      let target : ℕ = clamp (lo (l .bounds) min) (hi (l .bounds) max) (pos from +ℤ stepWay mode size) in
+      let i : (lo (l .bounds) min ≤ from) × (from ≤ hi (l .bounds) max) =
+      allowed-within (l .bounds) min max from allow
+      in
+      let w : (lo (l .bounds) min ≤ target) × (target ≤ hi (l .bounds) max) =
+      clamp-within (lo (l .bounds) min) (hi (l .bounds) max) (pos from +ℤ stepWay mode size) (omega arith)
+      in
+      with-mireds (to-mireds target time m n begun b (omega (arith, w), omega (arith, w)) r clock lasts)
+      (subst (λ (to : ℕ). Reaches (m .color .mireds) to (milliseconds time) (clock - begun) (n .color .mireds))
+      (mireds-step-agrees (lo (l .bounds) min) (hi (l .bounds) max) from size (i .0) (i .1) mode
+      ∙ ap (λ (q : ℕ). stepTo mode q (hi (l .bounds) max) size from)
+      (least-is (l .bounds) min max least most from ends allow)
+      ∙ ap (λ (q : ℕ). stepTo mode least q size from) (most-is (l .bounds) min max least most from ends allow))))
+
+  does : (c : Command) → moves c ≡ true → Asked c
+  does (Command.MoveToHue hue direction time options) v = move-to-hue-does hue direction time options
+  does (Command.MoveHue mode rate enhanced options) v = move-hue-does mode rate enhanced options
+  does (Command.StepHue mode size time options) v = step-hue-does mode size time options
+  does (Command.MoveToSaturation saturation time options) v = move-to-saturation-does saturation time options
+  does (Command.MoveSaturation mode rate options) v = move-saturation-does mode rate options
+  does (Command.StepSaturation mode size time options) v = step-saturation-does mode size time options
+  does (Command.MoveToHueAndSaturation hue saturation time enhanced enhancedHue options) v =
+      move-to-hue-and-saturation-does hue saturation time enhanced enhancedHue options
+  does (Command.EnhancedMoveToHue hue direction time options) v = enhanced-move-to-hue-does hue direction time options
+  does (Command.EnhancedMoveHue mode rate options) v = enhanced-move-hue-does mode rate options
+  does (Command.EnhancedStepHue mode size time options) v = enhanced-step-hue-does mode size time options
+  does (Command.MoveToColorTemperature mireds time options) v = move-to-color-temperature-does mireds time options
+  does (Command.MoveColorTemperature mode rate min max options) v =
+      move-color-temperature-does mode rate min max options
+  does (Command.StepColorTemperature mode size time min max options) v =
+      step-color-temperature-does mode size time min max options
+  does (Command.ColorLoopSet flags action direction time startHue options) v = absurd (true≢false (sym v))
+  does (Command.StopMoveStep options) v = absurd (true≢false (sym v))
+
+-- an accepted command has no cause of its own numbers
+command-fields : (l : Lamp) (c : Command) (onOff : OnOff) (clock : ℕ) → cause l (command c onOff clock) ≡ 0 →
+    stopMode c ≡ false → numberCause c ≡ 0
+unfolding cause commandCause
+command-fields l c onOff clock z s =
+    no-cause (numberCause c) _ (rw s at (no-cause (formOrClock l clock) (afterClock l c onOff) z .1)) .0
+
+-- an accepted command with leave to run, in no Stop mode, does what the text asks
+pub receipt-agrees : (l : Lamp) (c : Command) (onOff : OnOff) (clock : ℕ) → l .color .hue < 65536 → TypedCommand c →
+    moves c ≡ true → cause l (command c onOff clock) ≡ 0 → allowed l c onOff ≡ true → stopMode c ≡ false →
+    Gives l c (answer l (command c onOff clock) .task)
+receipt-agrees l c onOff clock h t v z a s =
+    gives _ refl
+    (answer-both l (λ r. Does (l .bounds) (l .color) c (r .task)) (command c onOff clock)
+    (λ e. rw (s, a) (does (atClock l clock) (granted-ready l (command c onOff clock) z) h c v t
+    (command-fields l c onOff clock z s)))
+    (λ k. absurd (k z)))
+  where
+    gives : (given : GivenTask) → answer l (command c onOff clock) .task ≡ given →
+        Does (l .bounds) (l .color) c given → Gives l c given
+    gives GivenTask.Nothing e d = absurd d
+    gives (GivenTask.Given task) e d =
+        record {
+          task = task;
+          is = refl;
+          inForm =
+              given-form l c onOff clock t task e
+              (λ p. true≢false (sym (d .0 l clock) ∙ ap (λ (x : Task). runs (saved l x clock)) p));
+          follows = d .1;
+        }
