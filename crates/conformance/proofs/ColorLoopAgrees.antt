@@ -23,6 +23,8 @@ use Rattle.lamp.specs.Typed.{Call, command}
 use Rattle.commands.specs.Answers.{allowed, cause, answer}
 use Rattle.commands.specs.Commands.{withLoop, updated, updatedTold, deactivated, activated, acted, loopSet, commandEffect}
 use Rattle.commands.proofs.Kept.{answer-both}
+use Rattle.conformance.specs.Modes.{enhancedHueModes}
+use Rattle.conformance.proofs.ModesAgree.{modesOf, hue-modes, end-sets}
 use Rattle.conformance.proofs.SettersSet.{hue-is-set}
 use Rattle.conformance.specs.ColorLoop.{LoopAttributes, updatedBy, activateFrom, deactivate, actedBy, colorLoopSet, Turning, turningBy}
 
@@ -58,6 +60,17 @@ module _ (l : Lamp) (told : List ℕ) where
   acted-agrees ColorLoopActionEnum.Deactivate = deactivated-by (l .looping .active) refl
   acted-agrees ColorLoopActionEnum.ActivateFromColorLoopStartEnhancedHue = activated-agrees (l .looping .start)
   acted-agrees ColorLoopActionEnum.ActivateFromEnhancedCurrentHue = activated-agrees (l .color .hue)
+
+  -- an activation sets the modes of the enhanced hue
+  activated-modes : (seed : ℕ) → modesOf (activated l told seed .lamp .color) ≡ enhancedHueModes
+  unfolding activated
+  activated-modes seed = hue-modes (l .color) seed true (l .clock) true (end-sets (l .color .hue) seed)
+
+  acted-modes : (action : ColorLoopActionEnum) → (action ≡ ColorLoopActionEnum.Deactivate → ⊥) →
+      modesOf (acted l told action .lamp .color) ≡ enhancedHueModes
+  acted-modes ColorLoopActionEnum.Deactivate n = absurd (n refl)
+  acted-modes ColorLoopActionEnum.ActivateFromColorLoopStartEnhancedHue n = activated-modes (l .looping .start)
+  acted-modes ColorLoopActionEnum.ActivateFromEnhancedCurrentHue n = activated-modes (l .color .hue)
 
 module _ (l : Lamp) (flags : ℕ) (action : ColorLoopActionEnum) (direction : ColorLoopDirectionEnum)
     (time startHue : ℕ) where
@@ -119,6 +132,12 @@ module _ (l : Lamp) (flags : ℕ) (action : ColorLoopActionEnum) (direction : Co
         answer l setting .task ≡ GivenTask.Given Task.Stop
     unfolding loopSet deactivated
     loop-task-off e a h = set-by (λ m t. t ≡ GivenTask.Given Task.Stop) (rw (a, e, h))
+
+    -- an activation leaves the modes of the enhanced hue, of which the text says nothing here
+    pub loop-modes : hasFlag flags updateAction ≡ true → (action ≡ ColorLoopActionEnum.Deactivate → ⊥) →
+        modesOf (answer l setting .lamp .color) ≡ enhancedHueModes
+    unfolding loopSet
+    loop-modes e n = set-by (λ m t. modesOf (m .color) ≡ enhancedHueModes) (rw e (acted-modes _ (updatedTold flags) action n))
 
     -- without the action flag nothing is given and what turns turns on as it did, where the text's loop follows the
     -- attributes

@@ -12,6 +12,7 @@ use borrow.Author.Tests.{leb-false, lt-leb, ltb-true, ltb-false, ne-eqb}
 use Rattle.matter.specs.declared.limits.Bounds.{Bounds}
 use Rattle.matter.specs.declared.commands.Command.{Command}
 use Rattle.matter.specs.declared.commands.CommandOptions.{CommandOptions}
+use Rattle.matter.specs.declared.enums.StepModeEnum.{StepModeEnum}
 use Rattle.matter.specs.declared.enums.MoveModeEnum.{MoveModeEnum}
 use Rattle.matter.specs.declared.enums.OnOff.{OnOff}
 use Rattle.matter.proofs.Laws.{cond-both}
@@ -32,7 +33,7 @@ use Rattle.matter.specs.Rules.{signed}
 use Rattle.lamp.specs.Passes.{moved, temperaturePass}
 use Rattle.lamp.specs.Typed.{Call, command, start}
 use Rattle.commands.specs.Answers.{cause, answer, allowed, commandDone}
-use Rattle.commands.specs.Commands.{CommandEffect, asked, lo, hi, stopMode, commandEffect}
+use Rattle.commands.specs.Commands.{CommandEffect, asked, lo, hi, stopMode, crossed, commandEffect}
 use Rattle.commands.proofs.Kept.{answer-both}
 use Rattle.conformance.specs.Limits.{Allowed, Closest}
 use Rattle.conformance.proofs.Ran.{granted-is}
@@ -65,6 +66,20 @@ module _ (bounds : Bounds) where
         fieldMinimum = λ z. omega (arith, asked-is (bounds .min) minimum z);
         fieldMaximum = λ z. omega (arith, asked-is (bounds .max) maximum z);
       }
+
+  -- the limits of a step cross exactly where no mired is allowed
+  module _ (mode : StepModeEnum) (size time minimum maximum : ℕ) (options : CommandOptions) where
+    abbrev theStep : Command
+    theStep = Command.StepColorTemperature mode size time minimum maximum options
+
+    pub crossed-none : (n : ℕ) → crossed bounds theStep ≡ true → Allowed bounds minimum maximum n → ⊥
+    crossed-none n e a =
+        omega (arith, ltb-true (hi bounds maximum) (lo bounds minimum) e, allowed-within minimum maximum n a)
+
+    pub uncrossed-some : crossed bounds theStep ≡ false → Allowed bounds minimum maximum (lo bounds minimum)
+    uncrossed-some e =
+        within-allowed minimum maximum (lo bounds minimum) (omega arith)
+        (ltb-false (hi bounds maximum) (lo bounds minimum) e)
 
 -- ---- MoveColorTemperature: the task that it is answered with, started on a lamp with the same bounds
 
