@@ -1,3 +1,4 @@
 pub mod Cases
 pub mod Claim
 pub mod Lists
+pub mod Answers
