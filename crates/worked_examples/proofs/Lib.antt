@@ -1,3 +1,5 @@
 pub mod Claim
 pub mod Lists
 pub mod Answers
+pub mod Runs
+pub mod Busy

@@ -17,7 +17,7 @@ use Rattle.lamp.specs.Calls.{hueSaturationStart, temperatureToStart, temperatur
 use Rattle.commands.specs.Commands.{deactivated, activated, loopSet, commandEffect}
 use Rattle.commands.specs.Answers.{commandCause, commandAnswer}
 use Rattle.worked_examples.specs.Cases.{next, stepsAt}
-use Rattle.worked_examples.specs.Lists.{FadeCommand, FadeTold, FadeWaits, StartTold, AtOnceTold, LoopTold, NoFlagTold, TransitionsTold, BusyRuns, SnapAt}
+use Rattle.worked_examples.specs.Lists.{FadeCommand, FadeTold, FadeWaits, StartTold, AtOnceTold, LoopTold, NoFlagTold, SnapAt}
 
 fade-command : FadeCommand
 unfolding hasFlag defaultColorMode allTrue colorForm runningForm lampForm formOrClock clamp distance pathDelta commandEffect commandCause commandAnswer
@@ -46,14 +46,6 @@ loop-told = refl
 no-flag-told : NoFlagTold
 unfolding hasFlag defaultColorMode allTrue colorForm runningForm lampForm formOrClock clamp filled loopSet commandEffect commandCause commandAnswer
 no-flag-told = refl
-
-transitions-told : TransitionsTold
-unfolding hasFlag defaultColorMode allTrue colorForm moveToForm hueMoveForm saturationMoveForm taskForm runningForm lampForm formOrClock clamp distance pathDelta movedHue permilleOf snapped loopTurn told filled hueSet hueTold saturationSet saturationTold miredsSet miredsTold hueSaturationPass huePass saturationPass temperatureToPass temperaturePass loopPass hueSaturationStart temperatureToStart temperatureStart started stepped startAnswer stepAnswer activated loopSet commandEffect commandCause commandAnswer next stepsAt
-transitions-told = refl
-
-busy-runs : BusyRuns
-unfolding hasFlag defaultColorMode allTrue colorForm moveToForm taskForm runningForm lampForm formOrClock clamp distance pathDelta movedHue permilleOf told filled hueSet hueTold saturationSet saturationTold hueSaturationPass hueSaturationStart started stepped startAnswer stepAnswer activated loopSet commandEffect commandCause commandAnswer next
-busy-runs = refl
 
 snap-at : SnapAt
 unfolding snapped

@@ -21,7 +21,7 @@ use Rattle.lamp.specs.declared.Lamp.{Lamp}
 use Rattle.lamp.specs.declared.LoopSettings.{LoopSettings}
 use Rattle.lamp.specs.declared.Answer.{Answer}
 use Rattle.commands.specs.Answers.{commandAnswer}
-use Rattle.worked_examples.specs.Cases.{lamp, noOptions, listed, busy}
+use Rattle.worked_examples.specs.Cases.{lamp, noOptions, listed, bare, busy}
 
 -- ---- a row: a command, on or off, and its whole answer on a lamp
 
@@ -57,16 +57,6 @@ gave task l =
       wait = 0;
     }
 
-abbrev pub gaveNothing : ℕ → Lamp → Answer
-gaveNothing number l =
-    record {
-      number = number;
-      lamp = l;
-      notices = record { places = replicate 16 0; len = 0 };
-      task = GivenTask.Nothing;
-      wait = 0;
-    }
-
 -- a task and 17; off, the same; off, passed over: no task, the clock set; refused: the lamp as it was
 abbrev pub gives : Command → Task → Row
 gives c task = record { command = c; onOff = OnOff.On; answer = gave task }
@@ -75,13 +65,13 @@ abbrev pub givesOff : Command → Task → Row
 givesOff c task = record { command = c; onOff = OnOff.Off; answer = gave task }
 
 abbrev pub passes : Command → Row
-passes c = record { command = c; onOff = OnOff.Off; answer = λ (l : Lamp). gaveNothing 0 (later l) }
+passes c = record { command = c; onOff = OnOff.Off; answer = λ (l : Lamp). bare 0 (later l) }
 
 abbrev pub refuses : Command → ℕ → Row
-refuses c number = record { command = c; onOff = OnOff.On; answer = gaveNothing number }
+refuses c number = record { command = c; onOff = OnOff.On; answer = bare number }
 
 abbrev pub refusesOff : Command → ℕ → Row
-refusesOff c number = record { command = c; onOff = OnOff.Off; answer = gaveNothing number }
+refusesOff c number = record { command = c; onOff = OnOff.Off; answer = bare number }
 
 abbrev pub Says : Lamp → List Row → Type 0
 Says l rows =

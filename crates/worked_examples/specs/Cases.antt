@@ -67,8 +67,11 @@ stepsAt a (elapsed ∷ later) =
     stepped ∷ stepsAt stepped later
 
 -- the answers to the start and to the steps
+abbrev pub answersOn : Lamp → Command → List ℕ → List Answer
+answersOn l c times = startedOn l c ∷ stepsAt (startedOn l c) times
+
 abbrev pub answers : Command → List ℕ → List Answer
-answers c times = started c ∷ stepsAt (started c) times
+answers c times = answersOn lamp c times
 
 -- moves to hue 128 in so many tenths, one behind the other: the answer to the last start
 unfoldable pub fades : Answer → List ℕ → Answer
@@ -100,7 +103,7 @@ abbrev miredsSeen : Answer → ℕ × ℕ × Bool
 miredsSeen a = (a .number, a .lamp .color .mireds, idle a)
 
 -- the lamp idle, all else as it was
-abbrev idled : Lamp → Lamp
+abbrev pub idled : Lamp → Lamp
 idled l =
     record {
       clock = l .clock;
@@ -112,11 +115,11 @@ idled l =
       running = Running.Idle;
     }
 
--- accepted with no notice, task or wait: this lamp
-abbrev nothing : Lamp → Answer
-nothing l =
+-- no notice, task or wait: this number and this lamp
+abbrev pub bare : ℕ → Lamp → Answer
+bare number l =
     record {
-      number = 0;
+      number = number;
       lamp = l;
       notices = record { places = replicate 16 0; len = 0 };
       task = GivenTask.Nothing;
@@ -174,9 +177,9 @@ Holds (mireds c start points) =
 Holds (left c start points) =
     map tenthsSeen (answers c (map (λ (p : Point). p .0) points)) ≡ ((0, start) ∷ map (λ (p : Point). (0, p .1)) points)
 Holds (remaining old new start answer) = told old new start ≡ answer
-Holds (startTells times list) = listSeen (fades (nothing lamp) times) ≡ (0, list)
+Holds (startTells times list) = listSeen (fades (bare 0 lamp) times) ≡ (0, list)
 Holds (tenths ms answer) = tenthsOf ms ≡ answer
-Holds (stays l c) = startedOn l c ≡ nothing (idled l)
+Holds (stays l c) = startedOn l c ≡ bare 0 (idled l)
 
 -- every case of a list holds
 abbrev pub Each : List Case → Type 0
@@ -191,7 +194,7 @@ loop direction = Command.ColorLoopSet 7 ColorLoopActionEnum.ActivateFromEnhanced
 abbrev pub upBetween : ℕ → ℕ → Command
 upBetween min max = Command.MoveColorTemperature MoveModeEnum.Up 100 min max noOptions
 
--- a lamp whose loop is active, halfway through a move of hue and saturation (`busy-runs` in Lists)
+-- a lamp whose loop is active, halfway through a move of hue and saturation (`busy-runs` in Busy)
 abbrev pub busy : Lamp
 busy =
     next

@@ -2,3 +2,5 @@ pub mod Cases
 pub mod Claim
 pub mod Lists
 pub mod Answers
+pub mod Runs
+pub mod Busy

@@ -1,6 +1,5 @@
 -- Notice lists in their order, by computation: the three lines that document 01 gives for `fade`, and the lists that
--- docs/DECISIONS.md fixes (points 1 and 5); those of each transition at its start, on its way, within a second of a
--- notice and at its end; and the numbers of the loop's snap.
+-- docs/DECISIONS.md fixes (points 1 and 5); and the numbers of the loop's snap.
 use Prim.Native.Nat.{ℕ}
 use mathlib.Core.Bool.{Bool, true, false}
 use mathlib.Core.List.{List, [], _∷_, map}
@@ -10,19 +9,17 @@ use Rattle.matter.specs.declared.enums.ColorLoopActionEnum.{ColorLoopActionEnum
 use Rattle.matter.specs.declared.enums.ColorLoopDirectionEnum.{ColorLoopDirectionEnum}
 use Rattle.matter.specs.declared.commands.Command.{Command}
 use Rattle.matter.specs.declared.enums.DirectionEnum.{DirectionEnum}
-use Rattle.matter.specs.declared.enums.MoveModeEnum.{MoveModeEnum}
 use Rattle.matter.specs.declared.enums.OnOff.{OnOff}
 use Rattle.progress.specs.Progress.{snapped}
 use Rattle.tasks.specs.declared.GivenTask.{GivenTask}
 use Rattle.tasks.specs.declared.HueDelta.{HueDelta}
 use Rattle.tasks.specs.declared.TargetSaturation.{TargetSaturation}
 use Rattle.tasks.specs.declared.Task.{Task}
-use Rattle.tasks.specs.Runs.{runs}
 use Rattle.lamp.specs.declared.Lamp.{Lamp}
 use Rattle.lamp.specs.declared.Answer.{Answer}
 use Rattle.lamp.specs.Calls.{started, startAnswer}
 use Rattle.commands.specs.Answers.{commandAnswer}
-use Rattle.worked_examples.specs.Cases.{lamp, noOptions, given, answers, listed, loop, upBetween, busy}
+use Rattle.worked_examples.specs.Cases.{lamp, noOptions, given, answers, listed}
 
 -- a move-to of a way, with a saturation or without, started on a lamp at clock 5000; and on the lamp of the cases
 abbrev pub begunOn : Lamp → HueDelta → TargetSaturation → ℕ → Bool → Answer
@@ -103,125 +100,6 @@ LoopTold =
 abbrev pub NoFlagTold : Type 0
 NoFlagTold =
     listed (loopFlags 0 ColorLoopActionEnum.ActivateFromEnhancedCurrentHue lamp) ≡ (13 ∷ [])
-
--- ---- each transition: its start, where nothing has moved; on its way; within a second of a notice; later; at its end,
--- which tells within a second too
-
--- what is heard of an answer: its number, its notices and its wait
-abbrev pub Heard : Type 0
-Heard = ℕ × List ℕ × ℕ
-
-abbrev pub heard : Answer → Heard
-heard a = (a .number, listed a, a .wait)
-
--- a command to the lamp of the cases, the times of the steps after its start, and what is heard of the start and of each
--- step
-pub record Run : Type 0 where
-  pub command : Command
-  pub times : List ℕ
-  pub hears : List Heard
-
--- a pass that tells of the mireds, and one that tells of the saturation; the others are written out
-abbrev pub ofMireds : List ℕ
-ofMireds = 13 ∷ 5 ∷ 6 ∷ 7 ∷ 14 ∷ 16 ∷ []
-
-abbrev pub ofSaturation : List ℕ
-ofSaturation = 13 ∷ 4 ∷ 6 ∷ 7 ∷ 14 ∷ 15 ∷ []
-
-abbrev pub transitions : List Run
-transitions =
-    -- mireds from 250 to 153 in 10 tenths; in 11 tenths; and from 250 to 250, with no way
-    record {
-      command = Command.MoveToColorTemperature 153 10 noOptions;
-      times = 500 ∷ 600 ∷ 1000 ∷ [];
-      hears =
-          (0, 16 ∷ [], 100) ∷ (0, ofMireds, 100) ∷ (0, 13 ∷ 14 ∷ 16 ∷ [], 100)
-          ∷ (0, 13 ∷ 5 ∷ 6 ∷ 7 ∷ 14 ∷ 16 ∷ 1 ∷ [], 0)
-          ∷ [];
-    }
-    ∷ record {
-      command = Command.MoveToColorTemperature 153 11 noOptions;
-      times = [];
-      hears = (0, 1 ∷ 16 ∷ [], 100) ∷ [];
-    }
-    ∷ record {
-      command = Command.MoveToColorTemperature 250 11 noOptions;
-      times = [];
-      hears = (0, 1 ∷ 13 ∷ 5 ∷ 6 ∷ 7 ∷ 14 ∷ 16 ∷ 1 ∷ [], 0) ∷ [];
-    }
-    -- mireds up at 100 a second from 250 to 500
-    ∷ record {
-      command = upBetween 0 0;
-      times = 100 ∷ 200 ∷ 2000 ∷ 2500 ∷ [];
-      hears =
-          (0, 16 ∷ [], 100) ∷ (0, ofMireds, 100) ∷ (0, 13 ∷ 14 ∷ 16 ∷ [], 100) ∷ (0, ofMireds, 100) ∷ (0, ofMireds, 0)
-          ∷ [];
-    }
-    -- saturation up at 100 a second from 0 to 254
-    ∷ record {
-      command = Command.MoveSaturation MoveModeEnum.Up 100 noOptions;
-      times = 100 ∷ 200 ∷ 2000 ∷ 2540 ∷ [];
-      hears =
-          (0, 15 ∷ [], 100) ∷ (0, ofSaturation, 100) ∷ (0, 13 ∷ 14 ∷ 15 ∷ [], 100) ∷ (0, ofSaturation, 100)
-          ∷ (0, ofSaturation, 0)
-          ∷ [];
-    }
-    -- hue and saturation to 128 and 100 in 10 tenths
-    ∷ record {
-      command = Command.MoveToHueAndSaturation 128 100 10 false 0 noOptions;
-      times = 500 ∷ 600 ∷ 1000 ∷ [];
-      hears =
-          (0, 15 ∷ [], 100) ∷ (0, 13 ∷ 2 ∷ 6 ∷ 7 ∷ 14 ∷ 13 ∷ 4 ∷ 6 ∷ 7 ∷ 14 ∷ 15 ∷ [], 100)
-          ∷ (0, 13 ∷ 14 ∷ 13 ∷ 14 ∷ 15 ∷ [], 100)
-          ∷ (0, 13 ∷ 2 ∷ 6 ∷ 7 ∷ 14 ∷ 13 ∷ 4 ∷ 6 ∷ 7 ∷ 14 ∷ 15 ∷ 1 ∷ [], 0)
-          ∷ [];
-    }
-    -- hue to 128 in the longest time, 65,535 tenths
-    ∷ record {
-      command = Command.MoveToHue 128 DirectionEnum.Shortest 65535 noOptions;
-      times = 6_553_499 ∷ 6_553_500 ∷ [];
-      hears =
-          (0, 1 ∷ 15 ∷ [], 100) ∷ (0, 13 ∷ 2 ∷ 6 ∷ 7 ∷ 14 ∷ 15 ∷ [], 1) ∷ (0, 13 ∷ 2 ∷ 6 ∷ 7 ∷ 14 ∷ 15 ∷ 1 ∷ [], 0)
-          ∷ [];
-    }
-    -- hue up at 10 plain numbers a second, and down at 1000 enhanced ones
-    ∷ record {
-      command = Command.MoveHue MoveModeEnum.Up 10 false noOptions;
-      times = 100 ∷ 200 ∷ 1100 ∷ [];
-      hears =
-          (0, 15 ∷ [], 100) ∷ (0, 13 ∷ 2 ∷ 6 ∷ 7 ∷ 14 ∷ 15 ∷ [], 100) ∷ (0, 13 ∷ 14 ∷ 15 ∷ [], 100)
-          ∷ (0, 13 ∷ 2 ∷ 6 ∷ 7 ∷ 14 ∷ 15 ∷ [], 100)
-          ∷ [];
-    }
-    ∷ record {
-      command = Command.EnhancedMoveHue MoveModeEnum.Down 1000 noOptions;
-      times = 100 ∷ 200 ∷ [];
-      hears = (0, 15 ∷ [], 100) ∷ (0, 13 ∷ 2 ∷ 3 ∷ 6 ∷ 7 ∷ 14 ∷ 15 ∷ [], 100) ∷ (0, 13 ∷ 14 ∷ 15 ∷ [], 100) ∷ [];
-    }
-    -- the colour loop up, a second a turn, which tells at its command
-    ∷ record {
-      command = loop ColorLoopDirectionEnum.Increment;
-      times = 5 ∷ 995 ∷ 1005 ∷ 1006 ∷ [];
-      hears =
-          (0, 15 ∷ [], 100) ∷ (0, 14 ∷ 15 ∷ [], 100) ∷ (0, 14 ∷ 15 ∷ [], 5) ∷ (0, 15 ∷ [], 100)
-          ∷ (0, 2 ∷ 3 ∷ 6 ∷ 7 ∷ 14 ∷ 15 ∷ [], 100)
-          ∷ [];
-    }
-    ∷ []
-
-abbrev pub TransitionsTold : Type 0
-TransitionsTold =
-    map (λ (r : Run). map heard (answers (r .command) (r .times))) transitions
-    ≡ map (λ (r : Run). r .hears) transitions
-
--- ---- K11's busy lamp: its hue, saturation and remaining tenths, and that it runs
-
-abbrev pub shown : Lamp → ℕ × ℕ × ℕ × Bool
-shown l = (l .color .hue, l .color .saturation, l .remaining .tenths, runs (l .running))
-
-abbrev pub BusyRuns : Type 0
-BusyRuns =
-    shown busy ≡ (16384, 50, 6, true)
 
 -- ---- the snap at its numbers: a turn's part of 65,152 and more goes up, one of 384 and less goes down, but in the first turn
 
