@@ -1,3 +1,4 @@
 pub mod Setters
 pub mod Form
 pub mod Making
+pub mod Changes

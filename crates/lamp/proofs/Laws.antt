@@ -68,6 +68,17 @@ module _ (bounds : Bounds) (features options clock : ℕ) (ordered : bounds .min
   unfolding lampForm runningForm
   fresh-form = all-of _ (le-leb clock clockLimit timely, (new-color-form, (refl, tt)))
 
+-- ---- "clock earlier than the lamp's, or above 1,099,511,627,776": the limit itself is good, the number above it is not
+
+pub clock-limit : (l : Lamp) → l .clock ≤ 1099511627776 → (badClock l 1099511627776 ≡ false) × (badClock l 1099511627777 ≡ true)
+clock-limit l h = (simp (le-ltb _ _ h), simp (le-ltb 1099511627777 (l .clock) (omega arith)))
+
+-- the lamp's own clock is good, the number below it is not
+pub clock-own : (l : Lamp) (before : ℕ) → l .clock ≤ 1099511627776 → before < l .clock →
+    (badClock l (l .clock) ≡ false) × (badClock l before ≡ true)
+clock-own l before h k =
+    (simp (le-ltb (l .clock) (l .clock) (omega arith), le-ltb 1099511627776 (l .clock) h), simp (lt-ltb before (l .clock) k))
+
 -- ---- 8 exactly out of form, whatever the clock; 4 exactly in form at a bad clock
 
 module _ (l : Lamp) (clock : ℕ) where

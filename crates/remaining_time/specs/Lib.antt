@@ -1,1 +1,2 @@
 pub mod RemainingTime
+pub mod Examples

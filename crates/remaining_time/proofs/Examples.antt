@@ -1,0 +1,7 @@
+-- The examples, by computation.
+-- Assumes nothing.
+use mathlib.Core.Path.{refl}
+use Rattle.remaining_time.specs.Examples.{TenthsWrap}
+
+pub tenths-wrap : TenthsWrap
+tenths-wrap = refl
