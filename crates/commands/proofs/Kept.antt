@@ -132,7 +132,7 @@ module _ (l : Lamp) (Q : ℕ → Type 0) (hue : Q (l .color .hue)) (time : Q (l 
       cond-both (λ (e : CommandEffect). P (e .lamp)) (hasFlag flags updateAction) _ _ (λ e. acted-by (updatedTold flags) action u ut uf stored) (λ e. kept u ut uf stored)
 
 -- what holds whatever colour and settings of the loop are left holds after any command
-done-any : (l : Lamp) (P : Lamp → Type 0) → ((c : Color) (s : LoopSettings) → P (withLoop l c s)) → (c : Command) (onOff : OnOff) → P (commandDone l c onOff .lamp)
+pub done-any : (l : Lamp) (P : Lamp → Type 0) → ((c : Color) (s : LoopSettings) → P (withLoop l c s)) → (c : Command) (onOff : OnOff) → P (commandDone l c onOff .lamp)
 done-any l P any c onOff =
     done-by l (λ (e : CommandEffect). P (e .lamp)) (λ t. any (l .color) (l .looping)) c onOff (any (l .color) (l .looping))
     (λ flags action direction time hue options e. loop-by l (λ n. Unit) tt tt tt tt P (λ s t f u. any _ s) (λ new s n t f u. any _ s) flags action direction time hue tt tt)
