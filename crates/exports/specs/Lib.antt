@@ -7,3 +7,4 @@ pub mod Calls
 pub mod Answers
 pub mod Exported
 pub mod RoundTrips
+pub mod Examples
