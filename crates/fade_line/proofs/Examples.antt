@@ -1,0 +1,10 @@
+-- When a line is settled, by computation.
+-- Assumes nothing.
+use mathlib.Core.Path.{refl}
+use Rattle.fade_line.specs.Reading.{nextWord, nextDigit, readByte, readAll}
+use Rattle.fade_line.specs.Examples.{Settled}
+
+pub settled-at : Settled
+unfolding nextWord nextDigit readByte readAll
+settled-at =
+    record { letter = refl; other = refl; blank = refl; fifth = refl; large = refl; newline = refl; open-yet = refl }
