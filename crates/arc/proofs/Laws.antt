@@ -1,5 +1,4 @@
 -- The test says exactly that: it answers true where some hue of the band is on the arc, and in no other case.
--- Assumes nothing.
 use Prim.Native.Nat.{ℕ, suc, _+_, _-_, _*_, _/_, _%_, _≤_, _<_}
 use mathlib.Core.Bool.{Bool, true, false, cond, _&&_, _||_, true≢false}
 use mathlib.Core.Logic.{_⊎_, inl, inr, _↔_}

@@ -1,5 +1,4 @@
 -- The arc of a fade, bands of hues, and the test whether they meet: document 01, "Arc". Hues are stored ones.
--- Assumes nothing.
 use Prim.Native.Nat.{ℕ, _+_, _*_, _≤_}
 use mathlib.Core.Bool.{Bool, true, cond, _&&_, _||_}
 use mathlib.Core.Path.{_≡_}

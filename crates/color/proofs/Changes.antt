@@ -1,5 +1,4 @@
 -- The setters change and tell what document 01 says: one argument for the three of them.
--- Assumes nothing.
 use Prim.Native.Nat.{ℕ, _+_, _≤_, _<_}
 use mathlib.Core.Bool.{Bool, true, false, not, cond, _&&_, _||_, true≢false, and-false}
 use mathlib.Core.List.{List, [], _∷_, _++_, append-assoc}

@@ -1,5 +1,4 @@
 -- The setters keep the form of the colour at the clock they set it at, form lasts as the clock goes on, and a setter tells few notices.
--- Assumes nothing.
 use Prim.Native.Nat.{ℕ, _+_, _≤_}
 use mathlib.Core.Bool.{Bool, true, false, cond}
 use mathlib.Core.List.{List, [], _∷_}

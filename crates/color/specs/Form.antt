@@ -1,5 +1,4 @@
 -- What of a lamp's form its colour, its bounds and its clock decide: document 01, "Lamp out of form".
--- Assumes nothing.
 use Prim.Native.Nat.{ℕ}
 use mathlib.Core.Bool.{Bool}
 use mathlib.Core.List.{[], _∷_}

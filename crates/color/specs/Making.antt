@@ -1,5 +1,4 @@
 -- The colour of a fresh lamp: document 01, leaf 4.
--- Assumes nothing.
 use Prim.Native.Nat.{ℕ}
 use lib.IntN.{pos}
 use Rattle.matter.specs.Rules.{colorModeOf, defaultColorMode}

@@ -1,6 +1,5 @@
 -- Every call, refused ones too, keeps form, widths, bounds and options; an accepted one sets the clock, and a command other than
 -- the colour loop's sets nothing else. The number of an answer is its cause. A command tells few notices.
--- Assumes nothing.
 use Prim.Native.Nat.{ℕ, _≤_}
 use mathlib.Core.Bool.{true, false, cond, true≢false}
 use mathlib.Core.List.{List, [], _∷_}

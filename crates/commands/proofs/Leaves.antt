@@ -1,5 +1,4 @@
 -- What a call leaves as it was.
--- Assumes nothing.
 use Prim.Native.Nat.{ℕ}
 use mathlib.Core.Bool.{true, false, true≢false}
 use mathlib.Core.Path.{_≡_, refl, sym}

@@ -1,6 +1,5 @@
 -- A task that a command gives, other than Stop, is in form: so a start of it on a lamp in form at a good clock is
 -- accepted.
--- Assumes nothing.
 use Prim.Native.Nat.{ℕ, suc, _*_, _%_, _<_, _≤_}
 use mathlib.Core.Bool.{Bool, true, false, not, _&&_, true≢false}
 use mathlib.Core.List.{List}

@@ -1,5 +1,4 @@
 -- What the commands that give a task share: their order of looks, over what each of them brings.
--- Assumes nothing.
 use Prim.Native.Nat.{ℕ}
 use mathlib.Core.Bool.{Bool, cond}
 use lib.Dec.{eqb}

@@ -1,6 +1,5 @@
 -- A transition from an accepted start on: it begins with the numbers that the lamp had, goes its way, and from its time
 -- on is there, by what a lamp shows (ShownAgrees). Between its ends it is compared in TransitionAgrees.
--- Assumes nothing.
 use Prim.Native.Nat.{ℕ, suc, _+_, _-_, _<_}
 use mathlib.Core.Path.{_≡_, ap, _∙_}
 use native.Mathlib.Omega.{arith}

@@ -1,6 +1,5 @@
 -- After ColorLoopSet the attributes are the text's, for every lamp and every field. A loop that turns is not changed
 -- by new attributes, where the text's is.
--- Assumes nothing.
 use Prim.Native.Nat.{ℕ, _/_, _%_}
 use mathlib.Core.Bool.{Bool, true, false, cond}
 use mathlib.Core.List.{List}

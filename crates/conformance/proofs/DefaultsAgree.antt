@@ -1,5 +1,4 @@
 -- A fresh lamp has the text's defaults, but for the direction of its loop.
--- Assumes nothing.
 use Prim.Native.Nat.{ℕ, _≤_}
 use mathlib.Core.Bool.{true, false}
 use mathlib.Core.Path.{_≡_, refl}

@@ -1,6 +1,5 @@
 -- The port refuses with ConstraintError exactly the commands whose fields are out of the text's constraints, where times and
 -- mireds are within the text's; and with InvalidCommand exactly the text's invalid ones, for every command.
--- Assumes nothing.
 use Prim.Native.Nat.{ℕ, zero, suc, _≤_}
 use mathlib.Core.Bool.{Bool, true, false, not, cond, _&&_, _||_}
 use mathlib.Core.Path.{_≡_, refl, sym, ap, _∙_}

@@ -1,5 +1,4 @@
 -- The shown hue is the text's CurrentHue below 65,280; from there on it is 255, which the text does not have.
--- Assumes nothing.
 use Prim.Native.Nat.{ℕ, _≤_, _<_}
 use mathlib.Core.Path.{_≡_, refl}
 use native.Mathlib.Omega.{arith}

@@ -1,6 +1,5 @@
 -- The port's bounds of a move or a step of mireds are the text's, a started move runs between them, and a target is brought to
 -- the closest mireds.
--- Assumes nothing.
 use Prim.Native.Nat.{ℕ, zero, suc, _≤_, _<_, min, max}
 use mathlib.Core.Bool.{Bool, true, false, cond, true≢false}
 use mathlib.Core.List.{[]}

@@ -1,5 +1,4 @@
 -- The port's turn of the loop is the text's outside the snap, and less than 385 places from it there.
--- Assumes nothing.
 use Prim.Native.Nat.{ℕ, zero, suc, _+_, _*_, _%_, _≤_, _<_, min}
 use mathlib.Core.Logic.{_⊎_, inr}
 use mathlib.Core.Path.{_≡_, refl, ap, _∙_}

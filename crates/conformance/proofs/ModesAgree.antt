@@ -1,6 +1,5 @@
 -- The modes that a command leads to are the text's; the port sets them when a number first moves or at the end, the text on
 -- receipt.
--- Assumes nothing.
 use Prim.Native.Nat.{ℕ}
 use mathlib.Core.Bool.{Bool, true, false, cond, true≢false, _||_, and-false}
 use mathlib.Core.Path.{_≡_, refl, sym, ap, _∙_}

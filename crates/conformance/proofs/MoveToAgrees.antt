@@ -1,6 +1,5 @@
 -- The task of a move to a hue does what the text asks, for all hues, directions and times. What a lamp shows in a
 -- move-to stands in ShownAgrees.
--- Assumes nothing.
 use Prim.Native.Nat.{ℕ, _*_, _-_, _≤_, _<_}
 use mathlib.Core.Bool.{Bool, true, false}
 use mathlib.Core.Path.{_≡_, refl}

@@ -1,6 +1,5 @@
 -- What a lamp shows in a move at a rate and in the colour loop is the text's, unit by unit (StepsAgree,
 -- LoopTurnAgrees): after every accepted step, and from an accepted start on, as long as it runs and after.
--- Assumes nothing.
 use Prim.Native.Nat.{ℕ, _-_, _≤_, _<_}
 use mathlib.Core.Bool.{Bool, true, false, true≢false}
 use mathlib.Core.Logic.{inl, ⊎-elim}

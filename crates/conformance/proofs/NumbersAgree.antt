@@ -1,5 +1,4 @@
 -- The port's numbers of the enums are the tables, and its flags the bits.
--- Assumes nothing.
 use Prim.Native.Nat.{ℕ}
 use mathlib.Core.List.{List, map}
 use mathlib.Core.Path.{_≡_, refl}

@@ -1,5 +1,4 @@
 -- Leave to run is the text's rule, for every bitmap; the commands heed it, but for Stop mode.
--- Assumes nothing.
 use Prim.Native.Nat.{ℕ, zero, suc, _/_, _%_, _<_}
 use mathlib.Core.Bool.{Bool, true, false, not, cond}
 use mathlib.Core.Path.{_≡_, refl, sym}

@@ -1,6 +1,5 @@
 -- The lamps that an accepted start and accepted steps after it leave; what the start saves, and that the steps run it
 -- till nothing runs.
--- Assumes nothing.
 use Prim.Native.Nat.{ℕ, _-_, _≤_}
 use mathlib.Core.Bool.{Bool, true, false, true≢false}
 use mathlib.Core.Logic.{_⊎_, inl, inr}

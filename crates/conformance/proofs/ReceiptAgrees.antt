@@ -1,7 +1,6 @@
 -- Every command that moves a number does what the text asks of it, from its fields to the numbers that a lamp shows:
 -- the call is accepted and gives a task in form, and every lamp on which that task is started, and stepped, shows
 -- what the text has then.
--- Assumes nothing.
 use Prim.Native.Nat.{ℕ, zero, suc, _-_, _≤_, _<_, min, max}
 use mathlib.Core.Bool.{Bool, true, false, cond, true≢false}
 use mathlib.Core.Path.{_≡_, refl, sym, ap, subst, _∙_}

@@ -1,6 +1,5 @@
 -- The remaining time is told exactly where the text has it reportable, for all numbers; a colour attribute is told of a change
 -- exactly where the text allows it, by its setter and in every accepted step. Where the port tells more, or less.
--- Assumes nothing.
 use Prim.Native.Nat.{ℕ, zero, suc, _+_, _-_, _<_}
 use mathlib.Core.Bool.{Bool, true, false, not, cond, _&&_, true≢false, _||_, or-true, or-false, or-assoc, and-true, and-false}
 use mathlib.Core.List.{List, [], _∷_, _++_, append-assoc}

@@ -1,5 +1,4 @@
 -- The setters set the number that they are given, whether they tell or not, and leave the others.
--- Assumes nothing.
 use Prim.Native.Nat.{ℕ}
 use mathlib.Core.Bool.{Bool, not, cond}
 use mathlib.Core.Path.{_≡_, refl}

@@ -2,7 +2,6 @@
 -- runs and after. The hue is that of the start and the part of its way (`gone`, the part's size, is compared with the
 -- text's in TransitionAgrees); the saturation and the mireds are the numbers on their lines; the remaining time is the
 -- text's.
--- Assumes nothing.
 use Prim.Native.Nat.{ℕ, zero, suc, _-_, _%_, _≤_, _<_, min}
 use mathlib.Core.Bool.{Bool, true, false, cond, _&&_, _||_, or-true, true≢false}
 use mathlib.Core.Logic.{_⊎_, inl, inr, ⊎-elim}

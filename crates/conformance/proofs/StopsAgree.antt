@@ -1,6 +1,5 @@
 -- A stop is the text's while no colour loop is active, but for the remaining time; an active loop is stopped too, and replaced
 -- by what is started.
--- Assumes nothing.
 use Prim.Native.Nat.{ℕ}
 use mathlib.Core.Bool.{Bool, true, false, _&&_, true≢false}
 use mathlib.Core.Path.{_≡_, refl, sym, ap, _∙_}

@@ -1,6 +1,5 @@
 -- The port's transition is the text's at its start, at its end and wherever the elapsed time is a whole number of thousandths
 -- of the time; between, it is behind the text's by less than a thousandth of the way and one unit, and never ahead.
--- Assumes nothing.
 use Prim.Native.Nat.{ℕ, zero, suc, _+_, _-_, _*_, _/_, _≤_, _<_, min}
 use mathlib.Core.Bool.{Bool, true, false, cond}
 use mathlib.Core.Path.{_≡_, refl, sym, ap, _∙_}

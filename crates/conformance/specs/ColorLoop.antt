@@ -1,7 +1,6 @@
 -- ColorLoopSet: Matter Application Cluster Specification, Color Control, ColorLoopSet ("UpdateFlags", "Action", "Effect on
 -- receipt") and the attributes ColorLoopActive, ColorLoopDirection, ColorLoopTime, ColorLoopStartEnhancedHue,
 -- ColorLoopStoredEnhancedHue. Written from that text as known, what stands in quotes too: no copy was at hand.
--- Assumes nothing.
 use Prim.Native.Nat.{ℕ}
 use mathlib.Core.Bool.{Bool, true, false, cond}
 use lib.Dec.{eqb}

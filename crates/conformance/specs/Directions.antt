@@ -1,7 +1,6 @@
 -- Which way round: Matter Application Cluster Specification, Color Control, MoveToHue and EnhancedMoveToHue, field Direction
 -- and "Effect on receipt"; DirectionEnum. Written from that text as known, what stands in quotes too: no copy was at hand. A
 -- hue is one of the places of a circle, numbered upward from 0; a way is a number of places, positive upward.
--- Assumes nothing.
 use Prim.Native.Nat.{ℕ, suc, _+_, _%_, _≤_}
 use mathlib.Core.Logic.{_⊎_}
 use mathlib.Core.Path.{_≡_}

@@ -1,7 +1,6 @@
 -- What a command's fields may hold, and which commands are invalid: Matter Application Cluster Specification, Color Control,
 -- the tables of fields of the commands, and their "Effect on receipt". Written from that text as known, what stands in quotes
 -- too: no copy was at hand. A field out of its constraint is answered with CONSTRAINT_ERROR.
--- Assumes nothing.
 use Prim.Native.Nat.{ℕ}
 use mathlib.Core.Bool.{Bool, true, false, cond, _&&_}
 use mathlib.Core.List.{List, [], _∷_}

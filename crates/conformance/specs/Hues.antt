@@ -1,6 +1,5 @@
 -- CurrentHue and EnhancedCurrentHue: Matter Application Cluster Specification, Color Control, the attributes of these names.
 -- Written from that text as known, what stands in quotes too: no copy was at hand.
--- Assumes nothing.
 use Prim.Native.Nat.{ℕ, suc, _*_, _≤_, _<_}
 
 -- "The upper 8 bits of this attribute SHALL be used as an index": the number of whole 256s in it

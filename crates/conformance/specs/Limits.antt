@@ -1,7 +1,6 @@
 -- The bounds of the mireds: Matter Application Cluster Specification, Color Control, fields ColorTemperatureMinimumMireds and
 -- ColorTemperatureMaximumMireds of MoveColorTemperature and StepColorTemperature; "Generic usage notes". Written from that text
 -- as known, what stands in quotes too: no copy was at hand.
--- Assumes nothing.
 use Prim.Native.Nat.{ℕ, _+_, _-_, _≤_}
 use mathlib.Core.Path.{_≡_}
 use Rattle.matter.specs.declared.limits.Bounds.{Bounds}

@@ -1,7 +1,6 @@
 -- ColorMode and EnhancedColorMode: Matter Application Cluster Specification, Color Control, the attributes of these names,
 -- "Note on change of ColorMode" and "Effect on receipt" of each command. Written from that text as known, what stands in quotes
 -- too: no copy was at hand.
--- Assumes nothing.
 use mathlib.Core.Bool.{cond}
 use Rattle.matter.specs.declared.commands.Command.{Command}
 use Rattle.matter.specs.declared.enums.ColorModeEnum.{ColorModeEnum}

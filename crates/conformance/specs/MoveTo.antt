@@ -1,6 +1,5 @@
 -- What MoveToHue and EnhancedMoveToHue ask for: Matter Application Cluster Specification, Color Control, "Effect on receipt" of
 -- both. Written from that text as known, what stands in quotes too: no copy was at hand.
--- Assumes nothing.
 use Prim.Native.Nat.{ℕ}
 use mathlib.Core.Path.{_≡_}
 use lib.IntN.{ℤ}

@@ -1,6 +1,5 @@
 -- The numbers of the enums: Matter Application Cluster Specification, Color Control, "Data types". Written from that text as
 -- known, what stands in quotes too: no copy was at hand. A number that is not in a table is reserved.
--- Assumes nothing.
 use Prim.Native.Nat.{ℕ}
 use mathlib.Core.List.{List, [], _∷_}
 use Rattle.matter.specs.declared.enums.ColorLoopActionEnum.{ColorLoopActionEnum}

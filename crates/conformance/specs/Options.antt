@@ -1,6 +1,5 @@
 -- ExecuteIfOff: Matter Application Cluster Specification, Color Control, "Options attribute" and "Use of the OptionsMask and
 -- OptionsOverride fields". Written from that text as known, what stands in quotes too: no copy was at hand.
--- Assumes nothing.
 use Prim.Native.Nat.{ℕ, _+_, _*_, _/_, _%_, _^_}
 use mathlib.Core.Bool.{Bool, true, false, not, cond, _&&_}
 use lib.Dec.{eqb}

@@ -1,7 +1,6 @@
 -- What a command asks of the hue, the saturation and the mireds: Matter Application Cluster Specification, Color
 -- Control, "Effect on receipt" of the commands that move a number. Written from that text as known, what stands in
 -- quotes too: no copy was at hand. A hue is EnhancedCurrentHue's; a time that has passed is in milliseconds.
--- Assumes nothing.
 use Prim.Native.Nat.{ℕ, _*_, _≤_, _<_}
 use mathlib.Core.Bool.{Bool, true, false, cond}
 use mathlib.Core.Path.{_≡_}

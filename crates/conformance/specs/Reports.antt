@@ -1,7 +1,6 @@
 -- How RemainingTime and the colour attributes are reported: Matter Application Cluster Specification, Color Control, the
 -- attributes RemainingTime, CurrentHue, CurrentSaturation, EnhancedCurrentHue, ColorTemperatureMireds, ColorMode,
 -- EnhancedColorMode. Written from that text as known, what stands in quotes too: no copy was at hand.
--- Assumes nothing.
 use Prim.Native.Nat.{ℕ, _+_, _*_, _≤_, _<_}
 use mathlib.Core.Bool.{Bool, true, false, _||_}
 use mathlib.Core.List.{List, [], _∷_}

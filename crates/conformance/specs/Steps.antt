@@ -1,7 +1,6 @@
 -- Steps and moves, by one unit at a time: Matter Application Cluster Specification, Color Control, "Effect on receipt" of
 -- MoveHue, StepHue, MoveSaturation, StepSaturation, EnhancedMoveHue, EnhancedStepHue, MoveColorTemperature,
 -- StepColorTemperature. Written from that text as known, what stands in quotes too: no copy was at hand.
--- Assumes nothing.
 use Prim.Native.Nat.{ℕ, zero, suc, _+_, _-_, _*_, _/_}
 use mathlib.Core.Bool.{cond}
 use lib.Dec.{leb, eqb}

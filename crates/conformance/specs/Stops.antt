@@ -1,7 +1,6 @@
 -- What stops a movement, and what does not stop a colour loop: Matter Application Cluster Specification, Color Control,
 -- StopMoveStep, the Stop mode of the Move commands, and "Generic usage notes". Written from that text as known, what stands in
 -- quotes too: no copy was at hand.
--- Assumes nothing.
 use mathlib.Core.Bool.{Bool, true, false, not, cond}
 use mathlib.Core.Path.{_≡_}
 use Rattle.tasks.specs.declared.Running.{Running}

@@ -2,7 +2,6 @@
 -- MoveToHue, MoveToSaturation, MoveToColorTemperature and the others with a TransitionTime. Written from that text as known,
 -- what stands in quotes too: no copy was at hand. "The movement SHALL be continuous, i.e., not a step function, and the time
 -- taken to move to the new [..] SHALL be equal to the TransitionTime field". That it goes at one speed is our reading.
--- Assumes nothing.
 use Prim.Native.Nat.{ℕ, _+_, _-_, _*_, _/_}
 use mathlib.Core.Bool.{cond}
 use lib.Dec.{leb}

@@ -1,5 +1,4 @@
 -- The theorems, of the fades that meet the premises by computation.
--- Assumes nothing.
 use mathlib.Core.Bool.{true}
 use mathlib.Core.List.{List, _++_}
 use mathlib.Core.Path.{_≡_, sym, _∙_, ap}

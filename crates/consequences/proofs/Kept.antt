@@ -1,5 +1,4 @@
 -- The claim, of a fade with named parts; and that its hues fit their width.
--- Assumes nothing.
 use Prim.Native.Nat.{_<_}
 use mathlib.Core.Bool.{true}
 use mathlib.Core.List.{List, _++_}

@@ -1,5 +1,4 @@
 -- *Never through*, proved: the claim says how far the way travelled is, so that each hue shown is on the arc.
--- Assumes nothing.
 use Prim.Native.Nat.{ℕ, _≤_, _<_}
 use mathlib.Core.Bool.{cond}
 use lib.Dec.{leb·zero}

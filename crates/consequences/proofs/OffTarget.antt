@@ -1,7 +1,6 @@
 -- Where a fade ends whose hue moved between command and start, proved: until done the lamp runs the way that the command fixed
 -- from the hue that the start found, and the whole of that way leads to the target and as far beside it as that hue is from the
 -- one that the command found.
--- Assumes nothing.
 use Prim.Native.Nat.{ℕ, suc, _+_, _-_, _%_, _<_, _≤_}
 use mathlib.Core.Bool.{Bool, true, false, not, _&&_, _||_, and-true}
 use mathlib.Core.List.{List, [], _∷_}

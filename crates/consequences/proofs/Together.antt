@@ -1,6 +1,5 @@
 -- *Together*, proved: the schedule shows the fade at the clock of the last accepted step, and the claim says that the lamp shows
 -- what the schedule does.
--- Assumes nothing.
 use Prim.Native.Nat.{ℕ, suc}
 use mathlib.Core.Bool.{Bool, true, false, cond}
 use mathlib.Core.List.{List, [], _∷_, _++_, append-assoc}

@@ -1,6 +1,5 @@
 -- *Never through*: if a band of hues (say green's) has no hue on the chosen arc, no hue shown from the start to done lies in
 -- it. Said of the arc itself, and of the test that a console asks before it sends the fade.
--- Assumes nothing.
 use Prim.Native.Nat.{ℕ}
 use mathlib.Core.Bool.{false}
 use mathlib.Core.List.{List, _++_}

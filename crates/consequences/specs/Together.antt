@@ -1,7 +1,6 @@
 -- *Together*: two lamps that found the same hue, were given the same move to a hue and started it at the same clock, and were
 -- stepped by accepted steps at the same clocks, show the same hue and remaining time after each, under the claim's premises of
 -- both. Whatever else these leave room for, before, between and after: refused calls, other commands, at other clocks.
--- Assumes nothing.
 use Prim.Native.Nat.{ℕ}
 use mathlib.Core.Bool.{cond}
 use mathlib.Core.List.{List, [], _∷_, _++_}

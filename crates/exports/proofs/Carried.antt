@@ -1,7 +1,6 @@
 -- A lamp carried in words: from one that was made, through any list of calls, the words are those of the lamp that the
 -- lamp's own definitions leave, and no call finds them to be no lamp. Whatever the words of a call are, and whether its
 -- answer has room or not; a call's clock is a word of 64 bits.
--- Assumes nothing.
 use Prim.Native.Nat.{ℕ, zero, suc, _%_, _^_, _<_, _≤_}
 use mathlib.Core.Bool.{Bool, true, false, cond, not, _&&_}
 use mathlib.Core.List.{List, [], _∷_}

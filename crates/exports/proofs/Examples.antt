@@ -1,5 +1,4 @@
 -- The words for C, by computation.
--- Assumes nothing.
 use mathlib.Core.Path.{refl}
 use Rattle.matter.specs.Flags.{hasFlag}
 use Rattle.matter.specs.Rules.{defaultColorMode}

@@ -1,5 +1,4 @@
 -- An enum's number past eight bits is read as 255: neither has a case, so that the same is found.
--- Assumes nothing.
 use Prim.Native.Nat.{ℕ, _<_}
 use mathlib.Core.Bool.{Bool, true, false, _&&_}
 use mathlib.Core.List.{List, [], _∷_}

@@ -1,7 +1,6 @@
 -- Reading inverts writing: what is written of an enum, a task, a running record or a lamp is known, and is read as what it
 -- was. Of a lamp this asks that its numbers are within their types and that it is in form, which bounds its ways: the
 -- smallest number of 64 bits with a sign has a size that no field takes.
--- Assumes nothing.
 use Prim.Native.Nat.{ℕ, suc, _%_, _^_, _<_}
 use mathlib.Core.Bool.{Bool, true, false, not, _&&_}
 use mathlib.Core.Path.{_≡_, refl, ap}

@@ -1,5 +1,4 @@
 -- A signed number of its sign and size, and back: the bits that the machine holds, and what fits 64 of them.
--- Assumes nothing.
 use Prim.Native.Nat.{ℕ, suc, _^_, _%_, _<_, _≤_}
 use mathlib.Core.Path.{_≡_, refl, sym, ap, subst, subst⁻¹, _∙_}
 use mathlib.Core.Bool.{true, false}

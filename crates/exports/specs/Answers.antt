@@ -1,5 +1,4 @@
 -- An answer in 25 words: its number, the sixteen notices, the task it gives and the wait.
--- Assumes nothing.
 use Prim.Native.Nat.{ℕ}
 use mathlib.Core.Bool.{cond}
 use mathlib.Core.List.{List, [], _∷_, _++_}

@@ -1,6 +1,5 @@
 -- A call in ten words: its kind, the clock, the on/off number; then a command's mask, override and five arguments, or a
 -- task's kind and six numbers.
--- Assumes nothing.
 use Prim.Native.Nat.{ℕ}
 use mathlib.Core.Bool.{Bool, cond, not, _&&_, _||_}
 use mathlib.Core.List.{List}

@@ -1,5 +1,4 @@
 -- What the exported functions leave: their number, and the words of the slices that they may change.
--- Assumes nothing.
 use Prim.Native.Nat.{ℕ}
 use mathlib.Core.Bool.{cond, not}
 use mathlib.Core.List.{List}

@@ -1,6 +1,5 @@
 -- The kinds of calls: a command's is its number in the cluster (Matter Application Cluster Specification, Color Control,
 -- commands); a start, a step and a halt have numbers past those.
--- Assumes nothing.
 use Prim.Native.Nat.{ℕ}
 
 abbrev pub moveToHue : ℕ

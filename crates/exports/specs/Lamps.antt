@@ -1,6 +1,5 @@
 -- A lamp in 28 words: the protocol's eighteen fields in their order; then the running record: its clock, the two numbers
 -- found at its start, its task's kind and six numbers.
--- Assumes nothing.
 use Prim.Native.Nat.{ℕ}
 use mathlib.Core.Bool.{Bool, _&&_}
 use mathlib.Core.List.{List, [], _∷_, _++_}

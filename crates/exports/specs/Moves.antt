@@ -1,7 +1,6 @@
 -- Tasks and running records as numbers: a kind and its numbers in the protocol's order, unused places 0.
 -- Kinds: 0 no task, or an idle lamp; 1 HueSaturationMoveTo; 2 HueMove; 3 SaturationMove; 4 ColorTemperatureMoveTo;
 -- 5 ColorTemperatureMove; 6 ColorLoop; 7 Stop.
--- Assumes nothing.
 use Prim.Native.Nat.{ℕ}
 use mathlib.Core.Bool.{Bool, cond, not, _&&_, _||_}
 use lib.Dec.{eqb, leb}

@@ -1,5 +1,4 @@
 -- Words and numbers. A lamp, a call and an answer are lists of 64-bit words.
--- Assumes nothing.
 use Prim.Native.Nat.{ℕ, _%_, _^_}
 use mathlib.Core.Bool.{Bool, cond}
 use mathlib.Core.List.{List}

@@ -1,5 +1,4 @@
 -- When a line is settled, by computation.
--- Assumes nothing.
 use mathlib.Core.Path.{refl}
 use Rattle.fade_line.specs.Reading.{nextWord, nextDigit, readByte, readAll}
 use Rattle.fade_line.specs.Examples.{Settled}

@@ -1,5 +1,4 @@
 -- Read a byte at a time, in parts of any sizes, an input asks for what its line says.
--- Assumes nothing.
 use Prim.Native.Nat.{ℕ, zero, suc, _+_, _-_, _*_, _^_, _≤_, _<_}
 use mathlib.Core.Bool.{Bool, true, false, cond, not, _&&_, _||_, false≢true, and-true, and-false}
 use mathlib.Core.List.{List, [], _∷_, _++_, append-assoc, append-nil}

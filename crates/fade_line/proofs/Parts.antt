@@ -1,5 +1,4 @@
 -- A list from a place on: its element there, and the list from the next place on.
--- Assumes nothing.
 use Prim.Native.Nat.{ℕ, zero, suc, _+_, _<_}
 use mathlib.Core.List.{List, [], _∷_}
 use mathlib.Core.Path.{_≡_, refl, subst⁻¹}

@@ -1,5 +1,4 @@
 -- Laws of the texts: one after the other in a slice, how long they are, and that the digits of a number read back.
--- Assumes nothing.
 use Prim.Native.Nat.{ℕ, zero, suc, _+_, _-_, _*_, _/_, _%_, _^_, _≤_, _<_, min}
 use native.Mathlib.Nat.{add-zero, add-assoc, pow-suc}
 use native.Mathlib.Numerals.{add-one}

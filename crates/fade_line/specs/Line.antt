@@ -1,6 +1,5 @@
 -- The line that `fade` reads: document 01, "The program `fade`". Bytes are numbers; 10 is the newline, 32 the blank,
 -- 48 to 57 the digits.
--- Assumes nothing.
 use Prim.Native.Nat.{ℕ, _+_, _-_, _*_, _^_}
 use mathlib.Core.Bool.{Bool, true, false, cond, _&&_}
 use mathlib.Core.List.{List, [], _∷_}

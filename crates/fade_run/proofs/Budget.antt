@@ -1,6 +1,5 @@
 -- As many steps as the fade has tenths are enough: with more, the run is the same. So it ends because it is done, or refused,
 -- and never for want of steps.
--- Assumes nothing.
 use Prim.Native.Nat.{ℕ, zero, suc, _+_, _-_, _*_, _≤_, _<_, min}
 use mathlib.Core.Bool.{Bool, true, false, cond, _&&_, _||_, false≢true}
 use mathlib.Core.List.{List, [], _++_}

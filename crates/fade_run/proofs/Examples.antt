@@ -1,5 +1,4 @@
 -- `fade` on document 01's line, and on lines at the edges, by computation. Bytes are written as their numbers.
--- Assumes nothing.
 use Prim.Native.Nat.{ℕ}
 use mathlib.Core.List.{List, [], _∷_, _++_}
 use mathlib.Core.Path.{_≡_, refl}

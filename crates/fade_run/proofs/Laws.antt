@@ -1,6 +1,5 @@
 -- A run's text, a line at a time: the next line and the rest, the room that a line takes, and that what is left to write shrinks; and
 -- the clock of the next step, which fits in 64 bits.
--- Assumes nothing.
 use Prim.Native.Nat.{ℕ, zero, suc, _+_, _-_, _^_, _≤_, _<_, min}
 use mathlib.Core.Bool.{Bool, true, false, cond, _&&_, _||_, true≢false, or-true}
 use mathlib.Core.List.{List, [], _∷_, _++_, append-nil, append-assoc}

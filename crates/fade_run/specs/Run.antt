@@ -1,6 +1,5 @@
 -- The program `fade`: document 01, "Checked by sums". "It makes this lamp at that clock, gives the plain command, starts it, and
 -- steps at each wait until done."
--- Assumes nothing.
 use Prim.Native.Nat.{ℕ, zero, suc, _+_, _-_}
 use mathlib.Core.Bool.{Bool, true, false, cond, _&&_, _||_}
 use mathlib.Core.List.{List, [], _++_}

@@ -1,6 +1,5 @@
 -- What follows from the definitions of hues: a hue moved up and down, the distance as one remainder, and that a way is small,
 -- arrives, and is zero between equal hues alone. The sums of document 01 come first.
--- Assumes nothing.
 use mathlib.Core.Path.{_≡_, refl, ap}
 use mathlib.Core.Bool.{Bool, true, false, cond}
 use Prim.Native.Nat.{ℕ, zero, suc, _+_, _-_, _%_, _<_, _≤_}

@@ -1,6 +1,5 @@
 -- Hues on their circle: document 01, leaf 1, "The arithmetic of a step" and the shown hue.
 -- A hue is a number below 65,536; sums of hues and ways are over the integers, modulo 65,536.
--- Assumes nothing.
 use Prim.Native.Nat.{ℕ, _-_, _/_, _%_}
 use mathlib.Core.Bool.{cond}
 use lib.Dec.{leb, ltb}

@@ -1,6 +1,5 @@
 -- Integers by their signs: products and quotients of `pos n` and of `negℤ (pos n)`, a product divided in two parts, what a test
 -- of an integer tells of its sign, and a summand taken across a test.
--- Assumes nothing.
 use mathlib.Core.Path.{_≡_, refl, sym, ap, subst, subst⁻¹, _∙_}
 use mathlib.Core.Bool.{true, false, not, _&&_, _||_}
 use Prim.Native.Nat.{ℕ, zero, suc, _+_, _*_, _/_, _%_, _<_, _≤_, zero-le}

@@ -1,6 +1,5 @@
 -- The sizes of integers: of a negation, a product, a quotient, a remainder and a sum; that an integer fits a width by its size;
 -- and an i32 read as an i64. Each law goes by the cases of the sign.
--- Assumes nothing.
 use mathlib.Core.Path.{_≡_, refl}
 use mathlib.Core.Bool.{Bool, true, false, cond}
 use Prim.Native.Nat.{ℕ, zero, suc, _+_, _-_, _*_, _/_, _%_, _^_, _≤_, _<_, max}

@@ -1,6 +1,5 @@
 -- Form is kept: by the clock that goes on, by every pass, start and step, and by the answers of starts, steps and halts.
 -- A start or step tells few notices.
--- Assumes nothing.
 use Prim.Native.Nat.{ℕ, zero, suc, _-_, _≤_, _<_, zero-le}
 use mathlib.Core.Bool.{Bool, true, false, cond, not, _||_, true≢false}
 use mathlib.Core.List.{List, _++_}

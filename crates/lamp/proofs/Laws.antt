@@ -1,5 +1,4 @@
 -- Making and refusals: each number in its cause and in no other, and a lamp that is made is in form.
--- Assumes nothing.
 use Prim.Native.Nat.{ℕ, _≤_, _<_}
 use mathlib.Core.Option.{some, none}
 use mathlib.Core.Bool.{Bool, true, false, cond}

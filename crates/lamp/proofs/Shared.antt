@@ -1,6 +1,5 @@
 -- Laws that the proofs of several functions cite: what a form says of an integer's size, and that notices pushed one after the
 -- other are pushed as one list.
--- Assumes nothing.
 use Prim.Native.Nat.{ℕ, _≤_, _<_}
 use mathlib.Core.Bool.{true, not}
 use mathlib.Core.List.{List, [], _∷_, _++_}

@@ -1,5 +1,4 @@
 -- A start or step changes the colour, the remaining time and the running record alone, and keeps the widths of a lamp's numbers.
--- Assumes nothing.
 use Prim.Native.Nat.{ℕ, _-_, _≤_}
 use mathlib.Core.Bool.{Bool, true, false}
 use mathlib.Core.Path.{_≡_, refl}

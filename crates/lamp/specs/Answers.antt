@@ -1,5 +1,4 @@
 -- What the answers of all calls share: document 01, "Why a call is turned away".
--- Assumes nothing.
 use Prim.Native.Nat.{ℕ}
 use mathlib.Core.Bool.{Bool, not, cond, _||_}
 use mathlib.Core.List.{[]}

@@ -1,5 +1,4 @@
 -- Starts, steps and halts: document 01, leaf 6, halt of "Added by design", and their rows of the table of causes.
--- Assumes nothing.
 use Prim.Native.Nat.{ℕ, _-_, min, max}
 use mathlib.Core.Bool.{Bool, true, not, cond, _&&_, _||_}
 use mathlib.Core.List.{List, [], _++_}

@@ -1,5 +1,4 @@
 -- The form of a lamp: document 01, "Lamp out of form".
--- Assumes nothing.
 use mathlib.Core.Bool.{Bool}
 use mathlib.Core.List.{[], _∷_}
 use lib.Dec.{leb}

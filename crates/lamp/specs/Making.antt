@@ -1,5 +1,4 @@
 -- Making: document 01, leaf 4, and the row of the table that has no lamp.
--- Assumes nothing.
 use Prim.Native.Nat.{ℕ}
 use mathlib.Core.Bool.{false, cond}
 use mathlib.Core.Option.{Option, some, none}

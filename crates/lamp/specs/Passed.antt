@@ -1,5 +1,4 @@
 -- What the code of a pass hands on: an effect, with its notices behind the list so far.
--- Assumes nothing.
 use Rattle.notices.specs.declared.Notices.{Notices}
 use Rattle.notices.specs.Notices.{pushedAll}
 use Rattle.lamp.specs.declared.passes.Passed.{Passed}

@@ -1,6 +1,5 @@
 -- One pass of each transition: document 01, leaf 6 and "The arithmetic of a step". A pass is given the lamp at the call's
 -- clock and the running record, and says what it leaves, what it tells in its order, and the wait.
--- Assumes nothing.
 use Prim.Native.Nat.{ℕ, _-_}
 use mathlib.Core.Bool.{Bool, true, false, cond, _&&_, _||_}
 use mathlib.Core.List.{List, [], _∷_, _++_}

@@ -1,6 +1,5 @@
 -- The widths of the numbers of a lamp and of a call: facts that every lamp and call of a program has, and the premise of
 -- theorems over every list of calls. They are no part of form.
--- Assumes nothing.
 use Prim.Native.Nat.{ℕ}
 use Rattle.matter.specs.declared.commands.Command.{Command}
 use Rattle.matter.specs.declared.enums.OnOff.{OnOff}

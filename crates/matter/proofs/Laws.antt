@@ -1,5 +1,4 @@
 -- Laws of the vocabulary: a choice, a list of tests that hold, and numbers looked up.
--- Assumes nothing.
 use Prim.Native.Nat.{ℕ, _≤_}
 use mathlib.Core.Bool.{Bool, true, false, cond, _&&_, _||_, true≢false}
 use mathlib.Core.List.{List, [], _∷_}

@@ -1,5 +1,4 @@
 -- Why a call is turned away: the numbers of document 01's table. 0 is an accepted call's.
--- Assumes nothing.
 use Prim.Native.Nat.{ℕ}
 
 abbrev pub accepted : ℕ

@@ -1,5 +1,4 @@
 -- The bitmaps of the cluster: OptionsBitmap, UpdateFlagsBitmap, Feature. A flag is the power of two of its bit.
--- Assumes nothing.
 use Prim.Native.Nat.{ℕ, _/_, _%_}
 use mathlib.Core.Bool.{Bool, false, cond}
 use lib.Dec.{eqb}

@@ -1,5 +1,4 @@
 -- The limits that document 01 sets.
--- Assumes nothing.
 use Prim.Native.Nat.{ℕ}
 
 -- the largest clock, in milliseconds

@@ -1,6 +1,5 @@
 -- The numbers of the cluster's enums: Matter Application Cluster Specification, Color Control, data types.
 -- Each enum's numbers are stated once; the case that a number means is looked up in them.
--- Assumes nothing.
 use Prim.Native.Nat.{ℕ}
 use mathlib.Core.Bool.{cond}
 use mathlib.Core.List.{List, [], _∷_}

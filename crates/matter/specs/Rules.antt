@@ -1,5 +1,4 @@
 -- Leave to run (document 01, leaf 3), a rate with its sign, and which mode goes with which (leaf 4).
--- Assumes nothing.
 use Prim.Native.Nat.{ℕ}
 use mathlib.Core.Bool.{Bool, true, cond}
 use lib.IntN.{ℤ, pos, negℤ}

@@ -1,6 +1,5 @@
 -- Numbers of a declared type fit its width, which a definition over ℕ does not know. These facts say so of a command;
 -- every command that a program holds has them.
--- Assumes nothing.
 use Prim.Native.Nat.{ℕ, _<_, _^_}
 use Rattle.matter.specs.declared.limits.Bounds.{Bounds}
 use Rattle.matter.specs.declared.commands.Command.{Command}

@@ -1,5 +1,4 @@
 -- Calls one after another, each of ten words, on one lamp, with the sums over every number of every answer.
--- Assumes nothing.
 use Prim.Native.Nat.{ℕ, zero, suc, _*_, _/_}
 use mathlib.Core.List.{List}
 use lib.ListN.{length, take, drop}

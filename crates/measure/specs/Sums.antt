@@ -1,5 +1,4 @@
 -- A checksum over words: two sums that wrap at 64 bits, the second one of the first's values, so that the order counts.
--- Assumes nothing.
 use Prim.Native.Nat.{ℕ, _+_, _%_, _^_}
 use mathlib.Core.List.{List, [], _∷_}
 use Rattle.lamp.specs.declared.Answer.{Answer}

@@ -1,5 +1,4 @@
 -- What is pushed stands in the list in its order, with zeros behind it, as long as it fits.
--- Assumes nothing.
 use Prim.Native.Nat.{ℕ, suc, _+_, _-_, _≤_, _<_}
 use mathlib.Core.Bool.{Bool, true, false}
 use mathlib.Core.Path.{_≡_, refl, ap, _∙_}

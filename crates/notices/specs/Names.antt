@@ -1,5 +1,4 @@
 -- "Notice numbers, in decimal, one byte each": document 01's list, under the attributes' names.
--- Assumes nothing.
 use Prim.Native.Nat.{ℕ}
 
 abbrev pub RemainingTime : ℕ

@@ -1,5 +1,4 @@
 -- Notice lists: "at most 14 in a list of sixteen places, unused places 0".
--- Assumes nothing.
 use Prim.Native.Nat.{ℕ, _+_, _-_}
 use mathlib.Core.Bool.{Bool, cond}
 use mathlib.Core.List.{List, [], _∷_, _++_}

@@ -1,5 +1,4 @@
 -- What follows from the definitions of a step's arithmetic: bounds, and what grows with what. The sums of document 01 come first.
--- Assumes nothing.
 use mathlib.Core.Path.{_≡_, refl, ap, _∙_}
 use mathlib.Core.Logic.{_⊎_, inl, inr, ⊎-elim}
 use mathlib.Core.Bool.{Bool, true, false, cond, _&&_}

@@ -1,6 +1,5 @@
 -- The arithmetic of a step: document 01, the section of that name. Times are whole milliseconds; ways and rates are
 -- integers, and `quotZ` is their division that drops the fraction toward zero.
--- Assumes nothing.
 use Prim.Native.Nat.{ℕ, _+_, _-_, _*_, _/_, _%_, min}
 use mathlib.Core.Bool.{cond, _&&_}
 use lib.Dec.{leb, eqb}

@@ -1,5 +1,4 @@
 -- The examples, by computation.
--- Assumes nothing.
 use mathlib.Core.Path.{refl}
 use Rattle.remaining_time.specs.Examples.{TenthsWrap}
 

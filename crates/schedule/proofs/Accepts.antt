@@ -1,5 +1,4 @@
 -- Which calls a lamp in form accepts, that a refused one leaves it as it was, and what an accepted one gives.
--- Assumes nothing.
 use Prim.Native.Nat.{ℕ}
 use mathlib.Core.Bool.{Bool, true, false, not, cond, _&&_, _||_}
 use mathlib.Core.Logic.{inl, inr}

@@ -1,6 +1,5 @@
 -- The arithmetic of a fade: the way travelled, read off a hue, is the size of the part; the end is permille 1000; the remaining
 -- time fits its sixteen bits.
--- Assumes nothing.
 use Prim.Native.Nat.{ℕ, zero, suc, _*_, _-_, _/_, _≤_, _<_}
 use mathlib.Core.Bool.{cond}
 use mathlib.Core.Logic.{inl, inr}

@@ -1,5 +1,4 @@
 -- The schedule alone: what holds of it at every time, where it ends, and that the way travelled never shrinks.
--- Assumes nothing.
 use Prim.Native.Nat.{ℕ, _+_, _-_, _≤_, _<_, min}
 use mathlib.Core.Bool.{Bool, true, false, cond, _&&_, _||_, or-false, true≢false}
 use mathlib.Core.Logic.{inl, inr}

@@ -1,6 +1,5 @@
 -- Fades that meet every premise of the claim at once, and what their lamps show, by computation: with each wait kept, with no
 -- way, with no time, down past 0, and with refused calls, foreign commands and a jump of the clock inside.
--- Assumes nothing.
 use Prim.Native.Nat.{ℕ, _<_}
 use mathlib.Core.Bool.{true, false}
 use mathlib.Core.List.{List, [], _∷_, map}

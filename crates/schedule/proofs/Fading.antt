@@ -1,5 +1,4 @@
 -- A lamp that fades as the schedule says: what holds between the two, over one call and at the start.
--- Assumes nothing.
 use Prim.Native.Nat.{ℕ, _-_, _≤_, _<_, min}
 use mathlib.Core.Bool.{Bool, true, false, not, cond, _&&_, _||_, and-true, or-false}
 use mathlib.Core.Logic.{inl, inr}

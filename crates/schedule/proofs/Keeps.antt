@@ -1,5 +1,4 @@
 -- The claim, proved: a move to a hue gives its task, and once that is started keeps its schedule, over every list of calls.
--- Assumes nothing.
 use Prim.Native.Nat.{ℕ, _+_, _-_, _%_, _≤_, _<_}
 use mathlib.Core.Bool.{not, _&&_, true}
 use mathlib.Core.List.{List, _∷_, _++_}

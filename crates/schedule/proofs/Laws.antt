@@ -1,5 +1,4 @@
 -- The lamp's own ExecuteIfOff, which the schedule is fed, counts only where a mired step with crossed limits comes.
--- Assumes nothing.
 use mathlib.Core.Bool.{Bool, true, false, not, and-false}
 use mathlib.Core.List.{List, [], _∷_}
 use mathlib.Core.Path.{_≡_, refl, ap, _∙_}

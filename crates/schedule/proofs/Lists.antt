@@ -1,5 +1,4 @@
 -- Lists of calls, put together and taken apart, and what a whole list keeps of a lamp.
--- Assumes nothing.
 use mathlib.Core.Bool.{true, not, _&&_}
 use mathlib.Core.List.{List, [], _∷_, _++_}
 use mathlib.Core.Path.{_≡_, refl, _∙_}

@@ -1,6 +1,5 @@
 -- Over every quiet list the lamp fades as the schedule says, is done exactly from the time on, and takes at most a step for
 -- each tenth where every wait is kept.
--- Assumes nothing.
 use Prim.Native.Nat.{ℕ, _+_, _*_, _-_, _≤_, min}
 use mathlib.Core.Bool.{Bool, true, false, cond, _&&_, _||_, or-false, or-assoc}
 use mathlib.Core.List.{List, [], _∷_}

@@ -1,5 +1,4 @@
 -- One pass of a fade's running record shows what the schedule shows at the pass's clock.
--- Assumes nothing.
 use Prim.Native.Nat.{ℕ, _-_}
 use mathlib.Core.Bool.{Bool, true, false, not, cond}
 use mathlib.Core.Logic.{inl, inr}

@@ -1,5 +1,4 @@
 -- Tests taken apart: by cases with the equation kept, a disjunction that does not hold, and two orders with one test.
--- Assumes nothing.
 use Prim.Native.Nat.{ℕ, _≤_, _<_}
 use mathlib.Core.Bool.{Bool, true, false, not, true≢false}
 use mathlib.Core.Logic.{_⊎_, inl, inr}

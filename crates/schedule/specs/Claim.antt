@@ -1,7 +1,6 @@
 -- The claim about every list of commands, starts, steps and halts, refused ones too, from any lamp in form: each move to a hue
 -- that is accepted with leave to run gives its task and, once a start of that task is accepted, keeps its schedule. One statement
 -- over a lamp and a whole list. Premises: the lamp is in form; lamp and calls are typed; the demand's own.
--- Assumes nothing.
 use Prim.Native.Nat.{ℕ, _+_, _≤_}
 use mathlib.Core.Bool.{true, cond, _||_}
 use mathlib.Core.List.{List, [], _∷_, _++_}

@@ -1,6 +1,5 @@
 -- A fade, with a name for each of its parts: a lamp, a list of calls, in it a move to a hue, a start of the task that it gives,
 -- and the calls that follow; the claim's premises of it; and what its lamp shows.
--- Assumes nothing.
 use Prim.Native.Nat.{ℕ, _+_}
 use mathlib.Core.Bool.{Bool, true}
 use mathlib.Core.List.{List, [], _∷_, _++_}

@@ -1,7 +1,6 @@
 -- The schedule of a fade: document 01, "Demand 3's schedule". A machine of its own. It is fed a move to a hue, the hue that the
 -- command found, the lamp's bounds and its ExecuteIfOff, and from the accepted start on the calls alone; it sees no lamp and no
 -- answer, and keeps its own clock and its own done.
--- Assumes nothing.
 use Prim.Native.Nat.{ℕ, _-_, _*_, min}
 use mathlib.Core.Bool.{Bool, true, false, not, cond, _&&_, _||_}
 use mathlib.Core.List.{List, [], _∷_}

@@ -1,6 +1,5 @@
 -- The form of a task and of a running record: document 01, "Task out of form" and, in "Lamp out of form", the running
 -- record. A definition here says what is in form; the comment quotes the sentence that says what is out of it.
--- Assumes nothing.
 use Prim.Native.Nat.{ℕ, _%_}
 use mathlib.Core.Bool.{Bool, true, false, not, _&&_, _||_}
 use mathlib.Core.List.{[], _∷_}

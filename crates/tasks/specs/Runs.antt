@@ -1,5 +1,4 @@
 -- Whether a record runs: every one but idle.
--- Assumes nothing.
 use mathlib.Core.Bool.{Bool, true, false}
 use Rattle.tasks.specs.declared.Running.{Running}
 

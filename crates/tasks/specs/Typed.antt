@@ -1,5 +1,4 @@
 -- The widths of the numbers of a task and of a running record: facts that every one a program holds has.
--- Assumes nothing.
 use Prim.Native.Nat.{_<_, _^_}
 use lib.IntN.{ℤ}
 use lib.Signed.{mag}

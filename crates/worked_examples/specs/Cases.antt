@@ -1,6 +1,5 @@
 -- The cases marked K in document 01: what a case says, and the list of all of them. A case of a transition goes through
 -- the command, its start and its steps.
--- Assumes nothing.
 use Prim.Native.Nat.{ℕ, _+_, _<_}
 use mathlib.Core.Bool.{Bool, true, false, not, cond}
 use mathlib.Core.List.{List, [], _∷_, map}

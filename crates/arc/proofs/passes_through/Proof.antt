@@ -1,5 +1,4 @@
 -- `arc::passes_through`: the sign of the way chooses the run.
--- Assumes nothing.
 use mathlib.Core.Path.{_≡_, _∙_}
 use mir.Syntax.{w32}
 use mir.Val.{toZ, ofZ}

@@ -1,5 +1,4 @@
 -- `arc::runs_meet`: the first test decides, or else the second.
--- Assumes nothing.
 use native.Mathlib.Omega.{arith}
 use borrow.Author.Needs.{needs}
 use borrow.Author.Tests.{le-leb, lt-leb}

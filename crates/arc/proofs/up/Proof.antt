@@ -1,5 +1,4 @@
 -- `arc::up`: the way up is the distance up, which fits sixteen bits.
--- Assumes nothing.
 use mathlib.Core.Path.{_≡_, _∙_}
 use native.Mathlib.Omega.{arith}
 use lib.IntN.{pos}

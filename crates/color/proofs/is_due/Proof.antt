@@ -1,5 +1,4 @@
 -- A difference of a second or more is a stamp a second or more before the clock.
--- Assumes nothing.
 use Prim.Native.Nat.{_+_}
 use Rattle.color.proofs.Laws.{second-old}
 use borrow.Author.Tests.{lt-leb}

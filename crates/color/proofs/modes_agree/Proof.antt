@@ -1,5 +1,4 @@
 -- The modes agree where their numbers are equal.
--- Assumes nothing.
 use borrow.Author.Needs.{needs}
 use Rattle.color.proofs.modes_agree.Statement.{statement}
 use Rattle.color.proofs.modes_agree.Tie as tie

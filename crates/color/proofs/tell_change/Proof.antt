@@ -1,5 +1,4 @@
 -- Of six notices those that are told are the change's.
--- Assumes nothing.
 use mathlib.Core.Path.{ap, _∙_}
 use Rattle.notices.specs.Notices.{pushedAll}
 use Rattle.color.proofs.Laws.{change-chosen}

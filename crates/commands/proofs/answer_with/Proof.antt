@@ -1,5 +1,4 @@
 -- The looks in their order: 8 and 4, Stop mode, the numbers, off, crossed limits.
--- Assumes nothing.
 use borrow.Author.Tests.{not-true, not-false, eq-eqb, ne-eqb}
 use Rattle.commands.specs.Shared.{taskAnswer}
 use borrow.Author.Needs.{needs}

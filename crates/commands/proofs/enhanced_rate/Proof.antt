@@ -1,5 +1,4 @@
 -- A plain rate is multiplied by 256.
--- Assumes nothing.
 use borrow.Author.Needs.{needs}
 use Rattle.commands.proofs.enhanced_rate.Statement.{statement}
 use Rattle.commands.proofs.enhanced_rate.Tie as tie

@@ -1,5 +1,4 @@
 -- A task given brings the notice 17 alone.
--- Assumes nothing.
 use native.Mathlib.Omega.{arith}
 use mathlib.Core.List.{[]}
 use Rattle.notices.proofs.Laws.{pushed-noted}

@@ -1,5 +1,4 @@
 -- Each arm is its function.
--- Assumes nothing.
 use borrow.Author.Needs.{needs}
 use Rattle.commands.proofs.invoke.Statement.{statement}
 use Rattle.commands.proofs.invoke.Tie as tie

@@ -1,5 +1,4 @@
 -- 0 asks for the physical limit.
--- Assumes nothing.
 use borrow.Author.Tests.{eq-eqb, ne-eqb}
 use Rattle.commands.proofs.limit_asked.Statement.{statement}
 use Rattle.commands.proofs.limit_asked.Tie as tie

@@ -1,5 +1,4 @@
 -- A pass-over has an empty list and no task.
--- Assumes nothing.
 use borrow.Author.Needs.{needs}
 use Rattle.commands.proofs.passed_over.Statement.{statement}
 use Rattle.commands.proofs.passed_over.Tie as tie

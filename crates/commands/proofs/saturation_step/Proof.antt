@@ -1,5 +1,4 @@
 -- A step up stops at 254, one down at 0.
--- Assumes nothing.
 use native.Mathlib.Omega.{arith}
 use borrow.Author.Needs.{needs}
 use Rattle.commands.proofs.saturation_step.Statement.{statement}

@@ -1,5 +1,4 @@
 -- A size of sixteen bits, with its sign.
--- Assumes nothing.
 use native.Mathlib.Omega.{arith}
 use Rattle.commands.proofs.Laws.{plus-back, minus-fits, minus-back}
 use borrow.Author.Needs.{needs}

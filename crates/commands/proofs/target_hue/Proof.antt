@@ -1,5 +1,4 @@
 -- A plain hue is taken to the stored circle.
--- Assumes nothing.
 use borrow.Author.Needs.{needs}
 use Rattle.commands.proofs.target_hue.Statement.{statement}
 use Rattle.commands.proofs.target_hue.Tie as tie

@@ -1,5 +1,4 @@
 -- `yemkruos_call`: the definition takes the case that the tests on the way have found.
--- Assumes nothing.
 use Prim.Native.Nat.{ℕ}
 use mathlib.Core.Path.{_≡_, sym, ap, _∙_}
 use mathlib.Core.Bool.{true, false, not}

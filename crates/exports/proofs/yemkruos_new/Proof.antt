@@ -1,5 +1,4 @@
 -- `yemkruos_new`: the definition takes the case that the tests on the way have found.
--- Assumes nothing.
 use Prim.Native.Nat.{ℕ}
 use mathlib.Core.Path.{_≡_, sym, ap, _∙_}
 use mathlib.Core.List.{List}

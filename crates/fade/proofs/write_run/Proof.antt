@@ -1,5 +1,4 @@
 -- The text that is left is the measure: each turn writes some of it.
--- Assumes nothing.
 use mathlib.Core.Path.{_≡_, refl, sym, _∙_}
 use native.Mathlib.Omega.{arith}
 use lib.ListN.{length}

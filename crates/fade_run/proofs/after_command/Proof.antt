@@ -1,5 +1,4 @@
 -- A refused command ends the run; an accepted one is followed by its start.
--- Assumes nothing.
 use borrow.Author.Tests.{eq-eqb, ne-eqb}
 use borrow.Author.Needs.{needs}
 use Rattle.fade_run.proofs.after_command.Statement.{statement}

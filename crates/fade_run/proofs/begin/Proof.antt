@@ -1,5 +1,4 @@
 -- The making, which is refused or gives the lamp that the command is sent to.
--- Assumes nothing.
 use Rattle.fade_run.specs.Run.{afterMaking}
 use mathlib.Core.Path.{sym, ap, _∙_}
 use borrow.Author.Needs.{needs}

@@ -1,5 +1,4 @@
 -- The command of the line, and what follows it.
--- Assumes nothing.
 use borrow.Author.Needs.{needs}
 use Rattle.fade_run.proofs.command.Statement.{statement}
 use Rattle.fade_run.proofs.command.Tie as tie

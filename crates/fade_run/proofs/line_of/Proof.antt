@@ -1,5 +1,4 @@
 -- A line has the answer's numbers.
--- Assumes nothing.
 use mathlib.Core.Path.{refl}
 use Rattle.fade_run.specs.Run.{lineOf}
 use Rattle.fade_run.proofs.line_of.Statement.{statement}

@@ -1,5 +1,4 @@
 -- The next step fits in 64 bits, and what is told is the answer to the start.
--- Assumes nothing.
 use Rattle.fade_run.proofs.Laws.{start-clock}
 use Rattle.lamp.specs.declared.Answer.{Answer}
 use Prim.Native.Nat.{_+_, _<_, _^_}

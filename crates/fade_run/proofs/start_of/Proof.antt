@@ -1,5 +1,4 @@
 -- The task that is given, where one is, is the one that is started.
--- Assumes nothing.
 use borrow.Author.Needs.{needs}
 use Rattle.fade_run.proofs.start_of.Statement.{statement}
 use Rattle.fade_run.proofs.start_of.Tie as tie

@@ -1,5 +1,4 @@
 -- The tests are those of the rule.
--- Assumes nothing.
 use Rattle.fade_run.specs.Run.{stepOf}
 use mathlib.Core.Path.{sym, _∙_}
 use native.Mathlib.Omega.{arith}

@@ -1,5 +1,4 @@
 -- An accepted answer is a line, a refusal its number.
--- Assumes nothing.
 use mathlib.Core.Path.{sym}
 use borrow.Author.Tests.{lt-ltb, eq-eqb, ne-eqb, not-true, not-false}
 use borrow.Author.Needs.{needs}

@@ -1,5 +1,4 @@
 -- What is written is within the slice.
--- Assumes nothing.
 use lib.Seq.{length-take-le}
 use mathlib.Core.Path.{sym}
 use borrow.Author.Needs.{needs}

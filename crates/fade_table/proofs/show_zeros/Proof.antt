@@ -1,5 +1,4 @@
 -- A hundred turns.
--- Assumes nothing.
 use Prim.Native.Nat.{_≤_, _-_}
 use borrow.Author.Needs.{needs}
 use Rattle.fade_table.proofs.show_zeros.Statement.{statement}

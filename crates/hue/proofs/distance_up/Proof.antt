@@ -1,5 +1,4 @@
 -- `hue::distance_up`: the wrapping difference is the distance, which is one remainder.
--- Assumes nothing.
 use native.Mathlib.Omega.{arith}
 use borrow.Author.Needs.{needs}
 use Rattle.hue.proofs.Laws.{distance-is}

@@ -1,5 +1,4 @@
 -- `hue::hue_path_delta`: each arm gives what the definition chooses between the two distances.
--- Assumes nothing.
 use mathlib.Core.Path.{_≡_, ap, _∙_}
 use Prim.Native.Nat.{ℕ}
 use native.Mathlib.Omega.{arith}

@@ -1,5 +1,4 @@
 -- `hue::minus`: sixteen bits, negated, fit 32, so that the machine reads back what it wrote.
--- Assumes nothing.
 use native.Mathlib.Omega.{arith}
 use lib.IntN.{pos, negℤ, +ℤ-idl}
 use mir.Syntax.{w32}

@@ -1,6 +1,5 @@
 -- `hue::moved_hue`: whole turns move nothing, and what is left of the part is less than a turn, so that its size fits sixteen
 -- bits; the wrapping sum is the hue moved up by that size, the wrapping difference the hue moved down by it.
--- Assumes nothing.
 use mathlib.Core.Path.{_≡_, sym, ap, _∙_}
 use mathlib.Core.Bool.{true, false}
 use Prim.Native.Nat.{_+_, _-_, _%_, _<_}

@@ -1,5 +1,4 @@
 -- `hue::plus`: sixteen bits read as a 32-bit integer are the number itself.
--- Assumes nothing.
 use native.Mathlib.Omega.{arith}
 use mir.Syntax.{w32}
 use mir.Facts.{toZ-pos}

@@ -1,5 +1,4 @@
 -- The fields are those of the definition, the colour that of a fresh one.
--- Assumes nothing.
 use borrow.Author.Needs.{needs}
 use Rattle.lamp.proofs.fresh.Statement.{statement}
 use Rattle.lamp.proofs.fresh.Tie as tie

@@ -1,5 +1,4 @@
 -- The loop has run the first i calls.
--- Assumes nothing.
 use native.Mathlib.Omega.{arith}
 use native.Mathlib.Numerals.{add-one}
 use borrow.Author.Needs.{needs}

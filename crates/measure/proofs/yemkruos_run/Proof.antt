@@ -1,5 +1,4 @@
 -- `yemkruos_run`: the parts are those of the definition.
--- Assumes nothing.
 use borrow.Author.Needs.{needs}
 use Rattle.measure.proofs.yemkruos_run.Statement.{statement}
 use Rattle.measure.proofs.yemkruos_run.Tie as tie

@@ -1,6 +1,5 @@
 -- `progress::brought_within`: a test of the part against a bound less the start is one of the sum against the bound. Between the
 -- bounds the sum is no negative number and no larger than the upper.
--- Assumes nothing.
 use mathlib.Core.Path.{_≡_}
 use mathlib.Core.Bool.{false}
 use Prim.Native.Nat.{ℕ, _<_, _≤_}

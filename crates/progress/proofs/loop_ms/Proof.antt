@@ -1,5 +1,4 @@
 -- `progress::loop_ms`: the test picks the definition's case.
--- Assumes nothing.
 use borrow.Author.Needs.{needs}
 use borrow.Author.Tests.{ne-eqb}
 use Rattle.progress.proofs.loop_ms.Statement.{statement}

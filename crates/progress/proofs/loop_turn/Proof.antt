@@ -1,5 +1,4 @@
 -- `progress::loop_turn`: by the cases of the definition, which the code's tests tell apart. The quotient is at most 2 ^ 56.
--- Assumes nothing.
 use mathlib.Core.Path.{_≡_}
 use mathlib.Core.Logic.{inl, inr}
 use Prim.Native.Nat.{ℕ, _*_, _/_, _^_, _≤_}

@@ -1,5 +1,4 @@
 -- `progress::loop_way`: the turn is far below half of 64 bits, so that it and its negation fit.
--- Assumes nothing.
 use mathlib.Core.Path.{_≡_}
 use Prim.Native.Nat.{_<_, _^_}
 use native.Mathlib.Omega.{arith}

@@ -1,5 +1,4 @@
 -- `progress::moved_saturation`: what is brought within 0 and 254 fits a byte.
--- Assumes nothing.
 use mathlib.Core.Path.{_≡_}
 use native.Mathlib.Omega.{arith}
 use lib.IntN.{pos, _+ℤ_}

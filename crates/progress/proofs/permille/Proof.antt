@@ -1,5 +1,4 @@
 -- `progress::permille`: at the time and past it all is done; before it the quotient is below 1000.
--- Assumes nothing.
 use native.Mathlib.Nat.{div-lt-iff-lt-mul}
 use native.Mathlib.Omega.{arith}
 use borrow.Author.Needs.{needs}

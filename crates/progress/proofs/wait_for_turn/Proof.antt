@@ -1,5 +1,4 @@
 -- `progress::wait_for_turn`: what is left of the turn is the turn's time less the rest of the elapsed time.
--- Assumes nothing.
 use native.Mathlib.Nat.{mod-lt}
 use native.Mathlib.Omega.{arith}
 use borrow.Author.Needs.{needs}

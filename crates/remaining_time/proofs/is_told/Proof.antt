@@ -1,5 +1,4 @@
 -- The three cases, in the order of the definition.
--- Assumes nothing.
 use Rattle.remaining_time.specs.RemainingTime.{told}
 use borrow.Author.Needs.{needs}
 use Rattle.remaining_time.proofs.is_told.Statement.{statement}

@@ -1,5 +1,4 @@
 -- `replay::line_end`: the place stays between where it began and the end of the block.
--- Assumes nothing.
 use Prim.Native.Nat.{_≤_, _-_}
 use lib.ListN.{length}
 use borrow.Author.Needs.{needs}

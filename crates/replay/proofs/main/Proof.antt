@@ -1,5 +1,4 @@
 -- `replay::main` is safe and ends: the number of blocks that are left falls, and the buffers keep their lengths.
--- Assumes nothing.
 use mathlib.Core.Path.{_≡_}
 use lib.ListN.{length}
 use borrow.Author.Needs.{needs}

@@ -1,6 +1,5 @@
 -- `replay::take_block`: a line ends at or past the place it began, so each turn leaves less of the block; the buffers keep
 -- their lengths.
--- Assumes nothing.
 use mathlib.Core.Path.{_≡_}
 use Prim.Native.Nat.{_+_, _≤_, _-_}
 use lib.ListN.{length}

@@ -1,5 +1,4 @@
 -- `replay::within`: the count, or the buffer's length where that is less, counts bytes at the buffer's start.
--- Assumes nothing.
 use mathlib.Core.Path.{sym}
 use native.Mathlib.Omega.{arith}
 use lib.Seq.{length-take-le}

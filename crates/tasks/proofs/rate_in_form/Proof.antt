@@ -1,5 +1,4 @@
 -- A rate below 0 or above it has some size.
--- Assumes nothing.
 use mathlib.Core.Path.{_≡_}
 use mir.Syntax.{w64}
 use mir.Val.{toZ, ofZ}

@@ -1,5 +1,4 @@
 -- The tests of the code are the tests of the definition, in the same order.
--- Assumes nothing.
 use Rattle.matter.specs.All.{allTrue}
 use Rattle.color.specs.Form.{colorForm}
 use borrow.Author.Needs.{needs}

@@ -1,5 +1,4 @@
 -- The modes come from the features, and 250 is brought within the bounds.
--- Assumes nothing.
 use borrow.Author.Needs.{needs}
 use Rattle.color.proofs.Color.new.Statement.{statement}
 use Rattle.color.proofs.Color.new.Tie as tie

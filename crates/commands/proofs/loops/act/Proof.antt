@@ -1,5 +1,4 @@
 -- Each action goes to its function.
--- Assumes nothing.
 use borrow.Author.Needs.{needs}
 use Rattle.commands.proofs.loops.act.Statement.{statement}
 use Rattle.commands.proofs.loops.act.Tie as tie

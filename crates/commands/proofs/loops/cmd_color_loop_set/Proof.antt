@@ -1,5 +1,4 @@
 -- The looks in their order: 8 and 4, then off; the command has no number of its own.
--- Assumes nothing.
 use Rattle.commands.specs.Answers.{commandAnswer, commandCause}
 use Rattle.commands.specs.Commands.{commandEffect}
 use borrow.Author.Tests.{not-true, not-false, eq-eqb, ne-eqb}

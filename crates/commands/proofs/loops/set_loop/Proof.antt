@@ -1,5 +1,4 @@
 -- The flags first, then the action where its flag is set.
--- Assumes nothing.
 use Rattle.commands.proofs.Kept.{updated-few}
 use Rattle.commands.proofs.Laws.{acted-behind, few}
 use Rattle.commands.specs.Commands.{withLoop, updated, updatedTold, loopSet}

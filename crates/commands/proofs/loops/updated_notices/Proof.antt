@@ -1,5 +1,4 @@
 -- The notices of the flags, and the mark behind them.
--- Assumes nothing.
 use Rattle.matter.specs.Flags.{hasFlag, updateDirection, updateTime, updateStartHue}
 use Rattle.notices.specs.Notices.{noted}
 use mathlib.Core.List.{[]}

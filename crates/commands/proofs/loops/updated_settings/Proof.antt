@@ -1,5 +1,4 @@
 -- Each setting is the new one where its flag is set.
--- Assumes nothing.
 use borrow.Author.Needs.{needs}
 use Rattle.commands.proofs.loops.updated_settings.Statement.{statement}
 use Rattle.commands.proofs.loops.updated_settings.Tie as tie

@@ -1,5 +1,4 @@
 -- `answers::answer_words`: the parts are those of the definition.
--- Assumes nothing.
 use borrow.Author.Needs.{needs}
 use Rattle.exports.proofs.answers.answer_words.Statement.{statement}
 use Rattle.exports.proofs.answers.answer_words.Tie as tie

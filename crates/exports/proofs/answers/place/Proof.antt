@@ -1,5 +1,4 @@
 -- `answers::place`: the parts are those of the definition.
--- Assumes nothing.
 use borrow.Author.Tests.{le-ltb, lt-ltb}
 use borrow.Author.Needs.{needs}
 use Rattle.exports.proofs.answers.place.Statement.{statement}

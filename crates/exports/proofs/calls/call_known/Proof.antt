@@ -1,5 +1,4 @@
 -- `calls::call_known`: the parts are those of the definition.
--- Assumes nothing.
 use Rattle.exports.specs.Calls.{callKnown}
 use borrow.Author.Needs.{needs}
 use Rattle.exports.proofs.calls.call_known.Statement.{statement}

@@ -1,5 +1,4 @@
 -- `calls::command_numbers`: the parts are those of the definition.
--- Assumes nothing.
 use borrow.Author.Needs.{needs}
 use Rattle.exports.proofs.calls.command_numbers.Statement.{statement}
 use Rattle.exports.proofs.calls.command_numbers.Tie as tie

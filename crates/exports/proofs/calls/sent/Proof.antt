@@ -1,5 +1,4 @@
 -- `calls::sent`: the definition takes the case that the tests on the way have found.
--- Assumes nothing.
 use Rattle.commands.specs.Answers.{answer}
 use Rattle.exports.specs.Calls.{sent, callOf}
 use borrow.Author.Tests.{eq-eqb, le-ltb, lt-ltb, ne-eqb}

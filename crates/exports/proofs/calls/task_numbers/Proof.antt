@@ -1,5 +1,4 @@
 -- `calls::task_numbers`: the parts are those of the definition.
--- Assumes nothing.
 use borrow.Author.Needs.{needs}
 use Rattle.exports.proofs.calls.task_numbers.Statement.{statement}
 use Rattle.exports.proofs.calls.task_numbers.Tie as tie

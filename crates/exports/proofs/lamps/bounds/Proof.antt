@@ -1,5 +1,4 @@
 -- `lamps::bounds`: the parts are those of the definition.
--- Assumes nothing.
 use borrow.Author.Needs.{needs}
 use Rattle.exports.proofs.lamps.bounds.Statement.{statement}
 use Rattle.exports.proofs.lamps.bounds.Tie as tie

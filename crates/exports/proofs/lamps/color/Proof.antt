@@ -1,5 +1,4 @@
 -- `lamps::color`: the parts are those of the definition.
--- Assumes nothing.
 use borrow.Author.Needs.{needs}
 use Rattle.exports.proofs.lamps.color.Statement.{statement}
 use Rattle.exports.proofs.lamps.color.Tie as tie

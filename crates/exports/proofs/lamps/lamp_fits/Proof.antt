@@ -1,5 +1,4 @@
 -- `lamps::lamp_fits`: the parts are those of the definition.
--- Assumes nothing.
 use Rattle.exports.specs.Lamps.{lampFits}
 use borrow.Author.Needs.{needs}
 use Rattle.exports.proofs.lamps.lamp_fits.Statement.{statement}

@@ -1,5 +1,4 @@
 -- `lamps::lamp_known`: the parts are those of the definition.
--- Assumes nothing.
 use Rattle.exports.specs.Lamps.{lampKnown}
 use borrow.Author.Needs.{needs}
 use Rattle.exports.proofs.lamps.lamp_known.Statement.{statement}

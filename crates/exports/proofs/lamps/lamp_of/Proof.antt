@@ -1,5 +1,4 @@
 -- `lamps::lamp_of`: the parts are those of the definition.
--- Assumes nothing.
 use borrow.Author.Needs.{needs}
 use Rattle.exports.proofs.lamps.lamp_of.Statement.{statement}
 use Rattle.exports.proofs.lamps.lamp_of.Tie as tie

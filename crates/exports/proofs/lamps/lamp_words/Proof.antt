@@ -1,5 +1,4 @@
 -- `lamps::lamp_words`: the parts are those of the definition.
--- Assumes nothing.
 use borrow.Author.Needs.{needs}
 use Rattle.exports.proofs.lamps.lamp_words.Statement.{statement}
 use Rattle.exports.proofs.lamps.lamp_words.Tie as tie

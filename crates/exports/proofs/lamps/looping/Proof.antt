@@ -1,5 +1,4 @@
 -- `lamps::looping`: the parts are those of the definition.
--- Assumes nothing.
 use borrow.Author.Needs.{needs}
 use Rattle.exports.proofs.lamps.looping.Statement.{statement}
 use Rattle.exports.proofs.lamps.looping.Tie as tie

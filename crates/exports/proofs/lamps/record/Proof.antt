@@ -1,5 +1,4 @@
 -- `lamps::record`: the parts are those of the definition.
--- Assumes nothing.
 use borrow.Author.Needs.{needs}
 use Rattle.exports.proofs.lamps.record.Statement.{statement}
 use Rattle.exports.proofs.lamps.record.Tie as tie

@@ -1,5 +1,4 @@
 -- `moves::delta`: the parts are the definition's, and a signed one is read back from its bits.
--- Assumes nothing.
 use Rattle.exports.specs.Moves.{deltaOf}
 use borrow.Author.Tests.{eq-eqb, ne-eqb}
 use borrow.Author.Needs.{needs, sfits-of}

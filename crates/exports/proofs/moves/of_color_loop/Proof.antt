@@ -1,5 +1,4 @@
 -- `moves::of_color_loop`: the parts are those of the definition.
--- Assumes nothing.
 use borrow.Author.Needs.{needs}
 use Rattle.exports.proofs.moves.of_color_loop.Statement.{statement}
 use Rattle.exports.proofs.moves.of_color_loop.Tie as tie

@@ -1,5 +1,4 @@
 -- `moves::of_mireds_move`: the parts are the definition's, and a signed one is read back from its bits.
--- Assumes nothing.
 use mathlib.Core.Path.{_≡_}
 use mir.Syntax.{w64}
 use mir.Val.{toZ, ofZ}

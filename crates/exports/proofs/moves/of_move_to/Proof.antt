@@ -1,5 +1,4 @@
 -- `moves::of_move_to`: the parts are those of the definition.
--- Assumes nothing.
 use borrow.Author.Needs.{needs}
 use Rattle.exports.proofs.moves.of_move_to.Statement.{statement}
 use Rattle.exports.proofs.moves.of_move_to.Tie as tie

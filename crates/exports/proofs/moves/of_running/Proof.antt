@@ -1,5 +1,4 @@
 -- `moves::of_running`: the parts are the definition's, and a signed one is read back from its bits.
--- Assumes nothing.
 use Rattle.exports.specs.Moves.{recordNumbers}
 use mathlib.Core.Path.{_≡_}
 use mir.Syntax.{w64}

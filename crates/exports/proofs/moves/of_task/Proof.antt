@@ -1,5 +1,4 @@
 -- `moves::of_task`: the definition's case is the one matched.
--- Assumes nothing.
 use Rattle.exports.specs.Moves.{taskNumbers}
 use borrow.Author.Needs.{needs}
 use Rattle.exports.proofs.moves.of_task.Statement.{statement}

@@ -1,5 +1,4 @@
 -- `words::at`: the parts are those of the definition.
--- Assumes nothing.
 use borrow.Author.Needs.{needs}
 use mathlib.Core.Path.{sym}
 use lib.ListN.{List·getD-eq-default}

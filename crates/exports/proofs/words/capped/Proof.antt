@@ -1,5 +1,4 @@
 -- `words::capped`: the definition takes the case that the test has found.
--- Assumes nothing.
 use borrow.Author.Needs.{needs}
 use borrow.Author.Tests.{le-leb, lt-leb}
 use Rattle.exports.specs.Words.{capped}

@@ -1,5 +1,4 @@
 -- `words::flag`: the parts are those of the definition.
--- Assumes nothing.
 use borrow.Author.Needs.{needs}
 use Rattle.exports.specs.Words.{flag}
 use Rattle.exports.proofs.words.flag.Statement.{statement}

@@ -1,5 +1,4 @@
 -- `words::sign_of`: the parts are the definition's, and a signed one is read back from its bits.
--- Assumes nothing.
 use mir.Syntax.{w64}
 use mir.ValLaws.{toZ-ofZ}
 use Rattle.exports.specs.Words.{signOf}

@@ -1,5 +1,4 @@
 -- `words::signed`: the definition takes the case that the tests on the way have found.
--- Assumes nothing.
 use borrow.Author.Needs.{needs}
 use native.Mathlib.Omega.{arith}
 use borrow.Author.Tests.{eq-eqb, ne-eqb}

@@ -1,5 +1,4 @@
 -- `words::size_of`: the parts are those of the definition.
--- Assumes nothing.
 use borrow.Author.Needs.{needs}
 use Rattle.exports.proofs.Signs.{smallest-size, size-cast, turned-fits, turned-cast, turned-size}
 use Rattle.exports.proofs.words.size_of.Statement.{statement}

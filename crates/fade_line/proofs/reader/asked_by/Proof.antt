@@ -1,5 +1,4 @@
 -- Read a byte at a time, an input asks for what its line says.
--- Assumes nothing.
 use mathlib.Core.Path.{ap, _∙_}
 use borrow.Author.Needs.{needs}
 use Rattle.fade_line.specs.declared.reader.Reader.{Reader}

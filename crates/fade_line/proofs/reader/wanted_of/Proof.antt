@@ -1,5 +1,4 @@
 -- Each test is a part of the condition under which there is a fade.
--- Assumes nothing.
 use Rattle.fade_line.specs.Line.{wanted}
 use borrow.Author.Tests.{lt-ltb, le-ltb, le-leb, lt-leb, eq-eqb, ne-eqb, not-true, not-false}
 use borrow.Author.Needs.{needs}

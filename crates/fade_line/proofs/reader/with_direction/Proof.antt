@@ -1,5 +1,4 @@
 -- A direction that is found, and a number that none has.
--- Assumes nothing.
 use borrow.Author.Needs.{needs}
 use Rattle.fade_line.proofs.reader.with_direction.Statement.{statement}
 use Rattle.fade_line.proofs.reader.with_direction.Tie as tie

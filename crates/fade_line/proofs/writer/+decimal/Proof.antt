@@ -1,5 +1,4 @@
 -- `decimal` writes what stands before the last digit by calling itself, then that digit. The measure is the number.
--- Assumes nothing.
 use Prim.Native.Nat.{ℕ, _+_, _/_, _%_, _^_, _<_}
 use native.Mathlib.Omega.{arith}
 use mathlib.Core.Path.{ap}

@@ -1,5 +1,4 @@
 -- There is room where 512 places are left, which the code asks without a sum that could wrap.
--- Assumes nothing.
 use Prim.Native.Nat.{ℕ, _+_, _-_, _≤_}
 use native.Mathlib.Omega.{arith}
 use mathlib.Core.Path.{_≡_, refl, sym}

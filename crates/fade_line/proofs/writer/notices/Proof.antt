@@ -1,6 +1,5 @@
 -- The loop's invariant: the notices passed are written, at most 21 bytes each.
 -- The measure is what is left of the count.
--- Assumes nothing.
 use Prim.Native.Nat.{_+_, _-_, _*_, _≤_, _<_, min}
 use native.Mathlib.Numerals.{add-one}
 use native.Mathlib.Omega.{arith}

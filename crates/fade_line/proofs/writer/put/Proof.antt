@@ -1,5 +1,4 @@
 -- A byte at a place is a text of one byte there.
--- Assumes nothing.
 use borrow.Author.Needs.{needs}
 use Rattle.fade_line.proofs.TextLaws.{wrote-byte}
 use Rattle.fade_line.proofs.writer.put.Statement.{statement}

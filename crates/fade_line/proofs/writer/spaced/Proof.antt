@@ -1,5 +1,4 @@
 -- A blank, then the digits: at most 21 bytes.
--- Assumes nothing.
 use native.Mathlib.Omega.{arith}
 use mathlib.Core.List.{[], _∷_}
 use Rattle.fade_line.specs.Text.{decimal, spaced}

@@ -1,5 +1,4 @@
 -- Each number after what stands before it; none takes more than 21 bytes.
--- Assumes nothing.
 use Rattle.fade_line.specs.Text.{decimal, spaced, stateText}
 use Rattle.fade_line.proofs.TextLaws.{decimal-short, spaced-short, wrote-more}
 use mathlib.Core.List.{[], _∷_, _++_}

@@ -1,5 +1,4 @@
 -- The loop's invariant: the bytes passed are written. The measure is what is left of the text.
--- Assumes nothing.
 use mathlib.Core.Path.{_≡_, refl}
 use Prim.Native.Nat.{_-_, _≤_}
 use native.Mathlib.Omega.{arith}

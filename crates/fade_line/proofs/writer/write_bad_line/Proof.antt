@@ -1,5 +1,4 @@
 -- The words of a bad line, where there is room for a line.
--- Assumes nothing.
 use lib.ListN.{length}
 use Rattle.fade_line.specs.Text.{roomFor}
 use borrow.Author.Tests.{not-true, not-false}

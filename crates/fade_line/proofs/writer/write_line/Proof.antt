@@ -1,5 +1,4 @@
 -- The state, the notices and a newline where there is room, else nothing.
--- Assumes nothing.
 use Rattle.fade_line.specs.Text.{spacedAll, numbers, stateText, lineText, roomFor}
 use Rattle.fade_line.proofs.TextLaws.{room, state-short, spacedAll-short, wrote-more, wrote-fitting, wrote-nothing}
 use lib.ListN.{length, length-take}

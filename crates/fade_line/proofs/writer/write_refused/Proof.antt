@@ -1,5 +1,4 @@
 -- The word, the number after a blank and a newline where there is room, else nothing.
--- Assumes nothing.
 use Rattle.fade_line.specs.Text.{spaced, refusedWord, refusedText, roomFor}
 use Rattle.fade_line.proofs.TextLaws.{room, spaced-short, wrote-more, wrote-fitting, wrote-nothing}
 use lib.ListN.{length}

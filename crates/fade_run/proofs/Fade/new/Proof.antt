@@ -1,5 +1,4 @@
 -- A line that asks for no fade has the bad line as its run; another begins one.
--- Assumes nothing.
 use Rattle.fade_run.specs.Run.{fadeOf}
 use borrow.Author.Needs.{needs}
 use Rattle.fade_run.proofs.Fade.new.Statement.{statement}

@@ -1,5 +1,4 @@
 -- The loop: what was written so far, and the text of the run that is left, are the text of the run that it was given.
--- Assumes nothing.
 use Prim.Native.Nat.{_+_, _-_, _≤_}
 use mathlib.Core.Bool.{false}
 use mathlib.Core.List.{_++_}

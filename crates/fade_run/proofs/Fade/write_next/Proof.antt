@@ -1,5 +1,4 @@
 -- What each case writes and leaves is what its function says.
--- Assumes nothing.
 use Rattle.fade_run.proofs.Laws.{wrote-over}
 use mathlib.Core.Path.{refl}
 use borrow.Author.Needs.{needs}

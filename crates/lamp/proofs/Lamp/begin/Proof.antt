@@ -1,5 +1,4 @@
 -- `Lamp::begin`: the definition's case is the one matched, and the task's form is what the pass asks for.
--- Assumes nothing.
 use Rattle.notices.specs.Notices.{pushedAll}
 use Rattle.tasks.specs.Form.{taskForm}
 use Rattle.lamp.specs.Calls.{started}

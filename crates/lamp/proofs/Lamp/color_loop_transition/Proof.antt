@@ -1,5 +1,4 @@
 -- `Lamp::color_loop_transition`: each call's contract is its part of the definition.
--- Assumes nothing.
 use mir.Syntax.{w64}
 use mir.ValLaws.{toZ-ofZ}
 use borrow.Author.Needs.{sfits-of}

@@ -1,6 +1,5 @@
 -- `Lamp::color_temperature_move_transition`: each call's contract is its part of the definition; a rate in form is within ±65,535, so
 -- that it is read as it is.
--- Assumes nothing.
 use mathlib.Core.Path.{_≡_, ap, _∙_}
 use mir.Syntax.{w64}
 use mir.Val.{toZ, ofZ}

@@ -1,5 +1,4 @@
 -- The form is looked at first, then the clock.
--- Assumes nothing.
 use Rattle.lamp.specs.Answers.{formOrClock}
 use borrow.Author.Needs.{needs}
 use Rattle.lamp.proofs.Lamp.form_or_clock.Statement.{statement}

@@ -1,5 +1,4 @@
 -- `Lamp::halt`: the cause picks the definition's case.
--- Assumes nothing.
 use native.Mathlib.Omega.{arith}
 use borrow.Author.Tests.{eq-eqb, ne-eqb}
 use Rattle.lamp.specs.Calls.{haltAnswer}

@@ -1,5 +1,4 @@
 -- The tests of the clock, the colour and the running record, in the order of the definition.
--- Assumes nothing.
 use Rattle.matter.specs.All.{allTrue}
 use Rattle.lamp.specs.Form.{lampForm}
 use borrow.Author.Needs.{needs}

@@ -1,5 +1,4 @@
 -- `Lamp::move_to_color_temperature_transition`: each call's contract is its part of the definition.
--- Assumes nothing.
 use Rattle.lamp.specs.Passes.{temperatureToPass}
 use Rattle.notices.proofs.Laws.{pushed-append, pushed-behind}
 use borrow.Author.Needs.{needs}

@@ -1,5 +1,4 @@
 -- `Lamp::move_to_hue_saturation_transition`: each call's contract is its part of the definition; a task in form has a way in form.
--- Assumes nothing.
 use Rattle.matter.proofs.Laws.{each}
 use Rattle.tasks.specs.Form.{moveToForm}
 use Rattle.lamp.specs.Passes.{hueSaturationPass}

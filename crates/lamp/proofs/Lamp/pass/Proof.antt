@@ -1,5 +1,4 @@
 -- `Lamp::pass`: the definition's case is the one matched, and the running record's form is what the pass asks for.
--- Assumes nothing.
 use Rattle.matter.proofs.Laws.{each}
 use Rattle.notices.specs.Notices.{pushedAll}
 use Rattle.tasks.specs.Form.{runningForm}

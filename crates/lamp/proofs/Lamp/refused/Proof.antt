@@ -1,5 +1,4 @@
 -- A refusal is made of the lamp as it is and an empty list.
--- Assumes nothing.
 use borrow.Author.Needs.{needs}
 use Rattle.lamp.proofs.Lamp.refused.Statement.{statement}
 use Rattle.lamp.proofs.Lamp.refused.Tie as tie

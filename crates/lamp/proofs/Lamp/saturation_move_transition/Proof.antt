@@ -1,5 +1,4 @@
 -- `Lamp::saturation_move_transition`: each call's contract is its part of the definition; a rate in form is read as it is.
--- Assumes nothing.
 use Prim.Native.Nat.{_≤_}
 use native.Mathlib.Omega.{arith}
 use borrow.Author.Tests.{leb-true}

@@ -1,5 +1,4 @@
 -- `Lamp::start`: the cause picks the definition's case. A start tells at most fourteen notices, so that the list holds them all.
--- Assumes nothing.
 use native.Mathlib.Omega.{arith}
 use mathlib.Core.List.{[]}
 use borrow.Author.Tests.{eq-eqb, ne-eqb, not-true, not-false}

@@ -1,5 +1,4 @@
 -- `Lamp::start_color_temperature`: the test picks the definition's case, and each call's contract is its part of it.
--- Assumes nothing.
 use mathlib.Core.Path.{_≡_}
 use native.Mathlib.Omega.{arith}
 use mir.Syntax.{w64}

@@ -1,5 +1,4 @@
 -- `Lamp::start_color_temperature_to`: each call's contract is its part of the definition; what is told before the pass stands before it.
--- Assumes nothing.
 use Prim.Native.Nat.{_+_}
 use mathlib.Core.Path.{_≡_}
 use native.Mathlib.Omega.{arith}

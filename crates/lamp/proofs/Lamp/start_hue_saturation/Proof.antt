@@ -1,5 +1,4 @@
 -- `Lamp::start_hue_saturation`: each call's contract is its part of the definition; what is told before the pass stands before it.
--- Assumes nothing.
 use Rattle.notices.proofs.Laws.{pushed-append}
 use Rattle.lamp.specs.Calls.{hueSaturationStart}
 use borrow.Author.Needs.{needs}

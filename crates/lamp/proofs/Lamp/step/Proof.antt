@@ -1,6 +1,5 @@
 -- `Lamp::step`: the cause picks the definition's case. What runs stays in form as the clock goes on, and a step tells at most fourteen
 -- notices, so that the list holds them all.
--- Assumes nothing.
 use native.Mathlib.Omega.{arith}
 use mathlib.Core.List.{[]}
 use borrow.Author.Tests.{ltb-false, not-true, not-false}

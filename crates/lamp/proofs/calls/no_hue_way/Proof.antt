@@ -1,5 +1,4 @@
 -- `calls::no_hue_way`: the definition's case is the one matched.
--- Assumes nothing.
 use mathlib.Core.Path.{_≡_}
 use mir.Syntax.{w64}
 use mir.Val.{toZ, ofZ}

@@ -1,5 +1,4 @@
 -- `calls::no_saturation_way`: the definition's case is the one matched.
--- Assumes nothing.
 use borrow.Author.Needs.{needs}
 use Rattle.lamp.proofs.calls.no_saturation_way.Statement.{statement}
 use Rattle.lamp.proofs.calls.no_saturation_way.Tie as tie

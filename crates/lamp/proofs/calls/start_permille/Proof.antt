@@ -1,5 +1,4 @@
 -- `calls::start_permille`: the test picks the definition's case.
--- Assumes nothing.
 use Rattle.lamp.proofs.calls.start_permille.Statement.{statement}
 use Rattle.lamp.proofs.calls.start_permille.Tie as tie
 

@@ -1,5 +1,4 @@
 -- `passes::left_unless`: the test picks the definition's case.
--- Assumes nothing.
 use borrow.Author.Needs.{needs}
 use Rattle.lamp.proofs.passes.left_unless.Statement.{statement}
 use Rattle.lamp.proofs.passes.left_unless.Tie as tie

@@ -1,5 +1,4 @@
 -- `passes::move_hue`: the definition's case is the one matched; a way in form is within ±65,535, so that it is read as it is.
--- Assumes nothing.
 use mathlib.Core.Path.{_≡_, ap, _∙_}
 use mir.Syntax.{w64}
 use mir.Val.{toZ, ofZ}

@@ -1,5 +1,4 @@
 -- `passes::move_saturation`: the definition's case is the one matched, and the calls' contracts are its parts.
--- Assumes nothing.
 use Rattle.notices.specs.Notices.{pushedAll}
 use borrow.Author.Needs.{needs}
 use Rattle.lamp.proofs.passes.move_saturation.Statement.{statement}

@@ -1,5 +1,4 @@
 -- `passes::saturation_done`: the definition's case is the one matched.
--- Assumes nothing.
 use borrow.Author.Needs.{needs}
 use Rattle.lamp.proofs.passes.saturation_done.Statement.{statement}
 use Rattle.lamp.proofs.passes.saturation_done.Tie as tie

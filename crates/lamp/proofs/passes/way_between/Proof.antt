@@ -1,5 +1,4 @@
 -- A difference of two sixteen-bit numbers fits 64 bits, so that the machine reads back what it wrote.
--- Assumes nothing.
 use native.Mathlib.Omega.{arith}
 use lib.IntN.{pos, negℤ, _-ℤ_}
 use mir.Syntax.{w64}

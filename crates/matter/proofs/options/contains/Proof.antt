@@ -1,8 +1,6 @@
 -- The bit is read by a quotient and a remainder, as in the definition, once the flag 0 is out of the way.
--- Assumes nothing.
 use Rattle.matter.specs.Flags.{hasFlag}
 -- `contains` reads the bit by a quotient and a remainder, as its definition does, once the flag 0 is out of the way.
--- Assumes nothing.
 use borrow.Author.Tests.{eq-eqb, ne-eqb}
 use borrow.Author.Needs.{needs}
 use Rattle.matter.proofs.options.contains.Statement.{statement}

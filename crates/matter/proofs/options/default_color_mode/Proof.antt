@@ -1,5 +1,4 @@
 -- The features are looked at in the order of the definition.
--- Assumes nothing.
 use Rattle.matter.specs.Rules.{defaultColorMode}
 use borrow.Author.Needs.{needs}
 use Rattle.matter.proofs.options.default_color_mode.Statement.{statement}

@@ -1,5 +1,4 @@
 -- Off alone looks at the bits: the mask says whose ExecuteIfOff decides.
--- Assumes nothing.
 use borrow.Author.Needs.{needs}
 use Rattle.matter.proofs.options.should_continue.Statement.{statement}
 use Rattle.matter.proofs.options.should_continue.Tie as tie

@@ -1,5 +1,4 @@
 -- A new list is empty: sixteen zeros.
--- Assumes nothing.
 use mathlib.Core.Path.{refl}
 use Rattle.notices.specs.Notices.{filled}
 use Rattle.notices.proofs.Notices.new.Statement.{statement}

@@ -1,5 +1,4 @@
 -- A push takes the first free place, where there is one.
--- Assumes nothing.
 use borrow.Author.Tests.{lt-ltb, le-ltb}
 use Rattle.notices.specs.Notices.{pushed}
 use borrow.Author.Needs.{needs}

@@ -1,5 +1,4 @@
 -- The loop conserves what is still to be pushed: the list so far with the notices left gives what the whole call gives.
--- Assumes nothing.
 use Prim.Native.Nat.{ℕ, zero, suc, _+_, _-_, _≤_, _<_, zero-le}
 use mathlib.Core.Path.{_≡_, refl, sym, ap, _∙_}
 use mathlib.Core.Bool.{Bool, true, false}

@@ -1,5 +1,4 @@
 -- A push where the test holds, and the list as it is where not.
--- Assumes nothing.
 use Rattle.notices.specs.Notices.{pushedAll}
 use borrow.Author.Needs.{needs}
 use Rattle.notices.proofs.Notices.push_if.Statement.{statement}

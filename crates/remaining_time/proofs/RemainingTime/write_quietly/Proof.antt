@@ -1,6 +1,5 @@
 -- The thin write, by hand: a walk of its MIR. The borrow is opened and the record behind it is copied, the rule by value is called on the
 -- copy, what it answers is stored, and the borrow is closed at the new record. All that is known of the rule is that it meets its contract.
--- Assumes nothing.
 use mathlib.Core.Path.{_≡_, refl, ap}
 use mathlib.Core.Bool.{Bool}
 use Prim.Native.Nat.{ℕ, _<_, _^_}

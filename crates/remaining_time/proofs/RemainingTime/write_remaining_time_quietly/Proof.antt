@@ -1,7 +1,6 @@
 -- The record in and out by value, by hand: a walk of its MIR. The record is copied to a local, the local is lent to the thin write for a
 -- lifetime that is made for the call, the lifetime is ended, and the local comes back at the record that the write left there.
 -- All that is known of the thin write is that it meets its contract.
--- Assumes nothing.
 use mathlib.Core.Path.{_≡_, refl, ap}
 use mathlib.Core.Bool.{Bool}
 use Prim.Native.Nat.{ℕ, _<_, _^_}

@@ -1,5 +1,4 @@
 -- What is stored is the new number in tenths, and what is told is the rule on it and the old number.
--- Assumes nothing.
 use borrow.Author.Needs.{needs}
 use Rattle.remaining_time.proofs.RemainingTime.written_quietly.Statement.{
   statement,

@@ -1,5 +1,4 @@
 -- `replay::print::notices` is safe and ends: no more than sixteen places are read, and the buffer keeps its length.
--- Assumes nothing.
 use mathlib.Core.Path.{_≡_}
 use Prim.Native.Nat.{_≤_, _-_}
 use lib.ListN.{length}

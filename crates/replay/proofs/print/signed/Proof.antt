@@ -1,5 +1,4 @@
 -- `replay::print::signed`: a number that is not below 0 is its own size, and fits 64 bits.
--- Assumes nothing.
 use mathlib.Core.Path.{_≡_, subst}
 use mathlib.Core.Bool.{true, false}
 use lib.Dec.{T}

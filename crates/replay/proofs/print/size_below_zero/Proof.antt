@@ -1,6 +1,5 @@
 -- `replay::print::size_below_zero`: a number below 0 that is not the least has a negation within 64 bits, and that is not
 -- below 0.
--- Assumes nothing.
 use mathlib.Core.Path.{_≡_, subst}
 use mathlib.Core.Bool.{true, false}
 use Prim.Native.Nat.{_<_}

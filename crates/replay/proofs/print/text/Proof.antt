@@ -1,5 +1,4 @@
 -- `replay::print::text` is safe and ends: each turn leaves less of the text, and the buffer keeps its length.
--- Assumes nothing.
 use mathlib.Core.Path.{_≡_}
 use Prim.Native.Nat.{_≤_, _-_}
 use lib.ListN.{length}

@@ -1,5 +1,4 @@
 -- `replay::run::delta`: a way of 32 bits fits 64.
--- Assumes nothing.
 use mir.Val.{SFits}
 use mir.Syntax.{w32}
 use mir.ValLaws.{toZ-ofZ}

@@ -1,5 +1,4 @@
 -- `replay::words::below_zero`: a size below 2^63 is negated within 64 bits.
--- Assumes nothing.
 use native.Mathlib.Omega.{arith}
 use lib.IntN.{pos, negℤ, +ℤ-idl}
 use mir.Syntax.{w64}

@@ -1,6 +1,5 @@
 -- `replay::words::digits`: the number read so far is at most the bound, which the test before each digit keeps; each turn leaves
 -- less of the line.
--- Assumes nothing.
 use Prim.Native.Nat.{_≤_, _-_}
 use lib.ListN.{length}
 use borrow.Author.Needs.{needs}

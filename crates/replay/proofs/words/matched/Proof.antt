@@ -1,5 +1,4 @@
 -- `replay::words::matched` is safe and ends: each turn leaves less of the text.
--- Assumes nothing.
 use Prim.Native.Nat.{_≤_, _-_}
 use lib.ListN.{length}
 use borrow.Author.Needs.{needs}

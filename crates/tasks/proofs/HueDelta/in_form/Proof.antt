@@ -1,5 +1,4 @@
 -- The way is read back as it was written, and tested on both sides.
--- Assumes nothing.
 use mathlib.Core.Path.{_≡_}
 use mir.Val.{toZ, ofZ}
 use mir.Syntax.{w64}

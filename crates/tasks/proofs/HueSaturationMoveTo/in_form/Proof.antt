@@ -1,5 +1,4 @@
 -- Each test is what the function called for it ensures.
--- Assumes nothing.
 use Rattle.matter.specs.All.{allTrue}
 use Rattle.tasks.specs.Form.{moveToForm}
 use borrow.Author.Needs.{needs}

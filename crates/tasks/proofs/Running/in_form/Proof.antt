@@ -1,5 +1,4 @@
 -- Each arm makes the tests of its record, in the order of the definition.
--- Assumes nothing.
 use mir.Syntax.{w64}
 use mir.Val.{toZ, ofZ}
 use mathlib.Core.Path.{_≡_}

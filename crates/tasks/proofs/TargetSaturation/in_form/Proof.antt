@@ -1,5 +1,4 @@
 -- Each arm gives what the definition gives for its case.
--- Assumes nothing.
 use borrow.Author.Needs.{needs}
 use Rattle.tasks.proofs.TargetSaturation.in_form.Statement.{statement}
 use Rattle.tasks.proofs.TargetSaturation.in_form.Tie as tie

@@ -1,5 +1,4 @@
 -- Each arm gives what the definition gives for its case; the mired rate is read back as it was written.
--- Assumes nothing.
 use mir.Syntax.{w64}
 use mir.Val.{toZ, ofZ}
 use mathlib.Core.Path.{_≡_}

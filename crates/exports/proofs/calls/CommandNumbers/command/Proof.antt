@@ -1,5 +1,4 @@
 -- `calls::CommandNumbers::command`: the definition takes the case that the tests on the way have found.
--- Assumes nothing.
 use Rattle.exports.specs.Calls.{commandOf}
 use borrow.Author.Tests.{eq-eqb, le-leb, lt-leb, ne-eqb}
 use borrow.Author.Needs.{needs}

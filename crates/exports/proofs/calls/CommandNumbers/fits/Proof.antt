@@ -1,5 +1,4 @@
 -- `calls::CommandNumbers::fits`: the parts are those of the definition.
--- Assumes nothing.
 use Rattle.exports.specs.Calls.{commandFits}
 use mathlib.Core.Path.{refl}
 use Rattle.exports.proofs.calls.CommandNumbers.fits.Statement.{statement}

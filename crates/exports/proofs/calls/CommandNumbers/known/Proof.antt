@@ -1,5 +1,4 @@
 -- `calls::CommandNumbers::known`: the parts are those of the definition.
--- Assumes nothing.
 use Rattle.exports.specs.Calls.{commandKnown}
 use borrow.Author.Needs.{needs}
 use Rattle.exports.proofs.calls.CommandNumbers.known.Statement.{statement}

@@ -1,5 +1,4 @@
 -- `calls::CommandNumbers::loop_command`: the parts are those of the definition.
--- Assumes nothing.
 use Rattle.exports.specs.Calls.{loopCommand}
 use borrow.Author.Needs.{needs}
 use Rattle.exports.proofs.calls.CommandNumbers.loop_command.Statement.{statement}

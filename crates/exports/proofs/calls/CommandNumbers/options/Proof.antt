@@ -1,5 +1,4 @@
 -- `calls::CommandNumbers::options`: the parts are those of the definition.
--- Assumes nothing.
 use Rattle.exports.specs.Calls.{optionsRead}
 use borrow.Author.Needs.{needs}
 use Rattle.exports.proofs.calls.CommandNumbers.options.Statement.{statement}

@@ -1,5 +1,4 @@
 -- `moves::RecordNumbers::known`: the parts are those of the definition.
--- Assumes nothing.
 use Rattle.exports.specs.Moves.{recordKnown}
 use borrow.Author.Needs.{needs}
 use Rattle.exports.proofs.moves.RecordNumbers.known.Statement.{statement}

@@ -1,5 +1,4 @@
 -- `moves::RecordNumbers::running`: the definition's case is the one matched.
--- Assumes nothing.
 use mathlib.Core.Path.{sym, _∙_}
 use borrow.Author.Needs.{needs}
 use Rattle.exports.proofs.moves.RecordNumbers.running.Statement.{statement}

@@ -1,5 +1,4 @@
 -- `moves::TaskNumbers::color_loop`: the parts are those of the definition.
--- Assumes nothing.
 use Rattle.exports.specs.Moves.{colorLoopOf}
 use borrow.Author.Needs.{needs}
 use Rattle.exports.proofs.moves.TaskNumbers.color_loop.Statement.{statement}

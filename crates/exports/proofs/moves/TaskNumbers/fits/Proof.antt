@@ -1,5 +1,4 @@
 -- `moves::TaskNumbers::fits`: the parts are those of the definition.
--- Assumes nothing.
 use Rattle.exports.specs.Moves.{taskFits}
 use mathlib.Core.Path.{refl}
 use Rattle.exports.proofs.moves.TaskNumbers.fits.Statement.{statement}

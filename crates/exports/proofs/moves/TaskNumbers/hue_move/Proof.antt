@@ -1,5 +1,4 @@
 -- `moves::TaskNumbers::hue_move`: the parts are those of the definition.
--- Assumes nothing.
 use Rattle.exports.specs.Moves.{hueMoveOf}
 use borrow.Author.Needs.{needs}
 use Rattle.exports.proofs.moves.TaskNumbers.hue_move.Statement.{statement}

@@ -1,5 +1,4 @@
 -- `moves::TaskNumbers::known`: the parts are those of the definition.
--- Assumes nothing.
 use Rattle.exports.specs.Moves.{taskKnown}
 use borrow.Author.Needs.{needs}
 use Rattle.exports.proofs.moves.TaskNumbers.known.Statement.{statement}

@@ -1,5 +1,4 @@
 -- `moves::TaskNumbers::mireds_move`: the parts are the definition's, and a signed one is read back from its bits.
--- Assumes nothing.
 use Rattle.exports.specs.Moves.{miredsMoveOf}
 use borrow.Author.Needs.{needs, sfits-of}
 use mir.Syntax.{w64}

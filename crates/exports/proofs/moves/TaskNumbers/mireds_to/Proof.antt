@@ -1,5 +1,4 @@
 -- `moves::TaskNumbers::mireds_to`: the parts are those of the definition.
--- Assumes nothing.
 use Rattle.exports.specs.Moves.{miredsToOf}
 use borrow.Author.Needs.{needs}
 use Rattle.exports.proofs.moves.TaskNumbers.mireds_to.Statement.{statement}

@@ -1,5 +1,4 @@
 -- `moves::TaskNumbers::move_to`: the parts are those of the definition.
--- Assumes nothing.
 use Rattle.exports.specs.Moves.{moveToOf}
 use borrow.Author.Needs.{needs}
 use Rattle.exports.proofs.moves.TaskNumbers.move_to.Statement.{statement}

@@ -1,5 +1,4 @@
 -- `moves::TaskNumbers::saturation_move`: the parts are those of the definition.
--- Assumes nothing.
 use Rattle.exports.specs.Moves.{saturationMoveOf}
 use borrow.Author.Needs.{needs}
 use Rattle.exports.proofs.moves.TaskNumbers.saturation_move.Statement.{statement}

@@ -1,5 +1,4 @@
 -- `moves::TaskNumbers::task`: the definition takes the case that the tests on the way have found.
--- Assumes nothing.
 use Rattle.exports.specs.Moves.{taskOf}
 use borrow.Author.Tests.{eq-eqb, ne-eqb}
 use borrow.Author.Needs.{needs}

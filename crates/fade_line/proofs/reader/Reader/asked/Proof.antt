@@ -1,5 +1,4 @@
 -- A line that is not spoilt, with three blanks and a digit after the last, has four numbers.
--- Assumes nothing.
 use Rattle.fade_line.specs.Reading.{lineRead}
 use borrow.Author.Tests.{lt-ltb, le-ltb, le-leb, lt-leb, eq-eqb, ne-eqb, not-true, not-false}
 use borrow.Author.Needs.{needs}

@@ -1,5 +1,4 @@
 -- The number and its next digit fit in 64 bits exactly where the test lets them.
--- Assumes nothing.
 use Prim.Native.Nat.{_+_, _*_, _^_}
 use Rattle.fade_line.specs.Reading.{nextDigit}
 use native.Mathlib.Omega.{arith}

@@ -1,5 +1,4 @@
 -- A blank after no digit, or after the fourth word, spoils the line.
--- Assumes nothing.
 use Rattle.fade_line.specs.Reading.{nextWord}
 use borrow.Author.Tests.{lt-ltb, le-ltb, le-leb, lt-leb, eq-eqb, ne-eqb, not-true, not-false}
 use borrow.Author.Needs.{needs}

@@ -1,5 +1,4 @@
 -- The loop has read the first bytes: what it has, with the bytes that are left, reads as the whole part does.
--- Assumes nothing.
 use Rattle.fade_line.specs.declared.reader.Reader.{Reader}
 use lib.ListN.{drop-of-length-le}
 use Rattle.fade_line.proofs.Parts.{drop-next}

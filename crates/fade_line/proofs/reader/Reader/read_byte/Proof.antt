@@ -1,5 +1,4 @@
 -- The tests are those of the rule, in its order.
--- Assumes nothing.
 use Rattle.fade_line.specs.Reading.{readByte}
 use borrow.Author.Tests.{lt-ltb, le-ltb, le-leb, lt-leb, eq-eqb, ne-eqb, not-true, not-false}
 use borrow.Author.Needs.{needs}

@@ -1,5 +1,4 @@
 -- `ColorLoopDirectionEnum::of_number` looks the number up: a test that holds gives its case, and none holds of a reserved number.
--- Assumes nothing.
 use borrow.Author.Tests.{ne-eqb}
 use Rattle.matter.proofs.enums.ColorLoopDirectionEnum.of_number.Statement.{statement}
 use Rattle.matter.proofs.enums.ColorLoopDirectionEnum.of_number.Tie as tie

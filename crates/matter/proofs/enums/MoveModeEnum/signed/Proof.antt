@@ -1,5 +1,4 @@
 -- `MoveModeEnum::signed`: a rate of 32 bits and its negation fit 64, so that the machine reads back what it wrote.
--- Assumes nothing.
 use native.Mathlib.Omega.{arith}
 use lib.IntN.{+ℤ-idl}
 use mir.Syntax.{w64}

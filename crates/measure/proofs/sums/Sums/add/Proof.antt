@@ -1,5 +1,4 @@
 -- `sums::Sums::add`: the parts are those of the definition.
--- Assumes nothing.
 use Rattle.measure.specs.Sums.{added}
 use borrow.Author.Needs.{needs}
 use Rattle.measure.proofs.sums.Sums.add.Statement.{statement}
