@@ -164,10 +164,12 @@ module _ (l : Lamp) (formed : lampForm l ≡ true) (hued : l .color .hue < 65536
   move-to-hue-does : (hue : ℕ) (direction : DirectionEnum) (time : ℕ) (options : CommandOptions) →
       Asked (Command.MoveToHue hue direction time options)
   unfolding commandEffect
-  move-to-hue-does hue direction time options t z =
-      (λ m clock. refl, λ m n begun b k r clock lasts.
-      with-hue (move-to-follows m begun _ k n r clock lasts)
-      (goes-to (stored hue) time direction _ _ _ (omega (arith, t .0))))
+  move-to-hue-does hue direction time options t z = (
+    λ m clock. refl,
+    λ m n begun b k r clock lasts.
+        with-hue (move-to-follows m begun _ k n r clock lasts)
+        (goes-to (stored hue) time direction _ _ _ (omega (arith, t .0))),
+  )
 
   move-hue-does : (mode : MoveModeEnum) (rate : ℕ) (enhanced : Bool) (options : CommandOptions) →
       Asked (Command.MoveHue mode rate enhanced options)
@@ -180,10 +182,12 @@ module _ (l : Lamp) (formed : lampForm l ≡ true) (hued : l .color .hue < 65536
   step-hue-does : (mode : StepModeEnum) (size time : ℕ) (options : CommandOptions) →
       Asked (Command.StepHue mode size time options)
   unfolding commandEffect
-  step-hue-does mode size time options t z =
-      (λ m clock. refl, λ m n begun b k r clock lasts.
-      with-hue (move-to-follows m begun _ k n r clock lasts)
-      (step-goes mode (stored size) _ _ _ _ (omega (arith, not-0 size 1 z))))
+  step-hue-does mode size time options t z = (
+    λ m clock. refl,
+    λ m n begun b k r clock lasts.
+        with-hue (move-to-follows m begun _ k n r clock lasts)
+        (step-goes mode (stored size) _ _ _ _ (omega (arith, not-0 size 1 z))),
+  )
 
   move-to-saturation-does : (saturation time : ℕ) (options : CommandOptions) →
       Asked (Command.MoveToSaturation saturation time options)
@@ -200,27 +204,33 @@ module _ (l : Lamp) (formed : lampForm l ≡ true) (hued : l .color .hue < 65536
   step-saturation-does : (mode : StepModeEnum) (size time : ℕ) (options : CommandOptions) →
       Asked (Command.StepSaturation mode size time options)
   unfolding commandEffect
-  step-saturation-does mode size time options t z =
-      (λ m clock. refl, λ m n begun b k r clock lasts.
-      with-saturation (move-to-follows m begun _ k n r clock lasts)
-      (subst (λ (to : ℕ). Reaches (m .color .saturation) to (milliseconds time) (clock - begun) (n .color .saturation))
-      (saturation-step-agrees mode (l .color .saturation) size (form-saturation _ _ _ (form-color l formed)))))
+  step-saturation-does mode size time options t z = (
+    λ m clock. refl,
+    λ m n begun b k r clock lasts.
+        with-saturation (move-to-follows m begun _ k n r clock lasts)
+        (subst (λ (to : ℕ). Reaches (m .color .saturation) to (milliseconds time) (clock - begun) (n .color .saturation))
+        (saturation-step-agrees mode (l .color .saturation) size (form-saturation _ _ _ (form-color l formed)))),
+  )
 
   move-to-hue-and-saturation-does : (hue saturation time : ℕ) (enhanced : Bool) (enhancedHue : ℕ)
       (options : CommandOptions) → Asked (Command.MoveToHueAndSaturation hue saturation time enhanced enhancedHue options)
   unfolding commandEffect
-  move-to-hue-and-saturation-does hue saturation time enhanced enhancedHue options t z =
-      (λ m clock. refl, λ m n begun b k r clock lasts.
-      with-hue (move-to-follows m begun _ k n r clock lasts)
-      (goes-to (cond enhanced enhancedHue (stored hue)) time DirectionEnum.Shortest _ _ _
-      (cond-both (λ n. n < 65536) enhanced enhancedHue (stored hue) (λ e. t .3) (λ e. omega (arith, t .0)))))
+  move-to-hue-and-saturation-does hue saturation time enhanced enhancedHue options t z = (
+    λ m clock. refl,
+    λ m n begun b k r clock lasts.
+        with-hue (move-to-follows m begun _ k n r clock lasts)
+        (goes-to (cond enhanced enhancedHue (stored hue)) time DirectionEnum.Shortest _ _ _
+        (cond-both (λ n. n < 65536) enhanced enhancedHue (stored hue) (λ e. t .3) (λ e. omega (arith, t .0)))),
+  )
 
   enhanced-move-to-hue-does : (hue : ℕ) (direction : DirectionEnum) (time : ℕ) (options : CommandOptions) →
       Asked (Command.EnhancedMoveToHue hue direction time options)
   unfolding commandEffect
-  enhanced-move-to-hue-does hue direction time options t z =
-      (λ m clock. refl, λ m n begun b k r clock lasts.
-      with-hue (move-to-follows m begun _ k n r clock lasts) (goes-to hue time direction _ _ _ (t .0)))
+  enhanced-move-to-hue-does hue direction time options t z = (
+    λ m clock. refl,
+    λ m n begun b k r clock lasts.
+        with-hue (move-to-follows m begun _ k n r clock lasts) (goes-to hue time direction _ _ _ (t .0)),
+  )
 
   enhanced-move-hue-does : (mode : MoveModeEnum) (rate : ℕ) (options : CommandOptions) →
       Asked (Command.EnhancedMoveHue mode rate options)
@@ -231,65 +241,73 @@ module _ (l : Lamp) (formed : lampForm l ≡ true) (hued : l .color .hue < 65536
   enhanced-step-hue-does : (mode : StepModeEnum) (size time : ℕ) (options : CommandOptions) →
       Asked (Command.EnhancedStepHue mode size time options)
   unfolding commandEffect
-  enhanced-step-hue-does mode size time options t z =
-      (λ m clock. refl, λ m n begun b k r clock lasts.
-      with-hue (move-to-follows m begun _ k n r clock lasts) (step-goes mode size _ _ _ _ (not-0 size 1 z)))
+  enhanced-step-hue-does mode size time options t z = (
+    λ m clock. refl,
+    λ m n begun b k r clock lasts.
+        with-hue (move-to-follows m begun _ k n r clock lasts) (step-goes mode size _ _ _ _ (not-0 size 1 z)),
+  )
 
   move-to-color-temperature-does : (mireds time : ℕ) (options : CommandOptions) →
       Asked (Command.MoveToColorTemperature mireds time options)
   unfolding commandEffect
-  move-to-color-temperature-does mireds time options t z =
-      (λ m clock. refl, λ m n begun b k r clock lasts.
-      let selected : ℕ = clamp (l .bounds .min) (l .bounds .max) (pos mireds) in
-      with-mireds
-      (to-mireds selected time m n begun b (clamp-within (l .bounds .min) (l .bounds .max) (pos mireds) ordered) r clock
-      lasts)
-      (λ g. record {
-        selected = selected;
-        closest = closest-agrees (l .bounds .min) (l .bounds .max) mireds ordered;
-        reaches = g;
-      }))
+  move-to-color-temperature-does mireds time options t z = (
+    λ m clock. refl,
+    λ m n begun b k r clock lasts.
+        let selected : ℕ = clamp (l .bounds .min) (l .bounds .max) (pos mireds) in
+        with-mireds
+        (to-mireds selected time m n begun b (clamp-within (l .bounds .min) (l .bounds .max) (pos mireds) ordered) r clock
+        lasts)
+        (λ g. record {
+          selected = selected;
+          closest = closest-agrees (l .bounds .min) (l .bounds .max) mireds ordered;
+          reaches = g;
+        }),
+  )
 
   move-color-temperature-does : (mode : MoveModeEnum) (rate min max : ℕ) (options : CommandOptions) →
       Asked (Command.MoveColorTemperature mode rate min max options)
   unfolding commandEffect
-  move-color-temperature-does mode rate min max options t z =
-      (λ m clock. refl, λ m n begun b k r clock lasts least most ends allow.
-      let e : lower (m .bounds) (asked (l .bounds .min) min) ≡ least =
-      ap (λ (q : Bounds). lower q (asked (l .bounds .min) min)) b ∙ least-is (l .bounds) min max least most
-      (m .color .mireds) ends allow
-      in
-      let f : upper (m .bounds) (asked (l .bounds .max) max) ≡ most =
-      ap (λ (q : Bounds). upper q (asked (l .bounds .max) max)) b ∙ most-is (l .bounds) min max least most
-      (m .color .mireds) ends allow
-      in
-      let i = ends .between (m .color .mireds) allow in
-      with-mireds
-      (mireds-move-follows m begun mode rate _ _ (omega (arith, e, i)) (omega (arith, f, i)) n r clock lasts)
-      (λ g. g
-      ∙ ap (λ (q : ℕ). moveTo mode q (upper (m .bounds) (asked (l .bounds .max) max)) (stepsMade rate (clock - begun))
-      (m .color .mireds)) e
-      ∙ ap (λ (q : ℕ). moveTo mode least q (stepsMade rate (clock - begun)) (m .color .mireds)) f))
+  move-color-temperature-does mode rate min max options t z = (
+    λ m clock. refl,
+    λ m n begun b k r clock lasts least most ends allow.
+        let e : lower (m .bounds) (asked (l .bounds .min) min) ≡ least =
+        ap (λ (q : Bounds). lower q (asked (l .bounds .min) min)) b ∙ least-is (l .bounds) min max least most
+        (m .color .mireds) ends allow
+        in
+        let f : upper (m .bounds) (asked (l .bounds .max) max) ≡ most =
+        ap (λ (q : Bounds). upper q (asked (l .bounds .max) max)) b ∙ most-is (l .bounds) min max least most
+        (m .color .mireds) ends allow
+        in
+        let i = ends .between (m .color .mireds) allow in
+        with-mireds
+        (mireds-move-follows m begun mode rate _ _ (omega (arith, e, i)) (omega (arith, f, i)) n r clock lasts)
+        (λ g. g
+        ∙ ap (λ (q : ℕ). moveTo mode q (upper (m .bounds) (asked (l .bounds .max) max)) (stepsMade rate (clock - begun))
+        (m .color .mireds)) e
+        ∙ ap (λ (q : ℕ). moveTo mode least q (stepsMade rate (clock - begun)) (m .color .mireds)) f),
+  )
 
   step-color-temperature-does : (mode : StepModeEnum) (size time min max : ℕ) (options : CommandOptions) →
       Asked (Command.StepColorTemperature mode size time min max options)
   unfolding commandEffect
-  step-color-temperature-does mode size time min max options t z =
-      (λ m clock. refl, λ m n begun b k r clock lasts least most ends allow.
-      let from : ℕ = l .color .mireds in
-      let target : ℕ = clamp (lo (l .bounds) min) (hi (l .bounds) max) (pos from +ℤ stepWay mode size) in
-      let i : (lo (l .bounds) min ≤ from) × (from ≤ hi (l .bounds) max) =
-      allowed-within (l .bounds) min max from allow
-      in
-      let w : (lo (l .bounds) min ≤ target) × (target ≤ hi (l .bounds) max) =
-      clamp-within (lo (l .bounds) min) (hi (l .bounds) max) (pos from +ℤ stepWay mode size) (omega arith)
-      in
-      with-mireds (to-mireds target time m n begun b (omega (arith, w), omega (arith, w)) r clock lasts)
-      (subst (λ (to : ℕ). Reaches (m .color .mireds) to (milliseconds time) (clock - begun) (n .color .mireds))
-      (mireds-step-agrees (lo (l .bounds) min) (hi (l .bounds) max) from size (i .0) (i .1) mode
-      ∙ ap (λ (q : ℕ). stepTo mode q (hi (l .bounds) max) size from)
-      (least-is (l .bounds) min max least most from ends allow)
-      ∙ ap (λ (q : ℕ). stepTo mode least q size from) (most-is (l .bounds) min max least most from ends allow))))
+  step-color-temperature-does mode size time min max options t z = (
+    λ m clock. refl,
+    λ m n begun b k r clock lasts least most ends allow.
+        let from : ℕ = l .color .mireds in
+        let target : ℕ = clamp (lo (l .bounds) min) (hi (l .bounds) max) (pos from +ℤ stepWay mode size) in
+        let i : (lo (l .bounds) min ≤ from) × (from ≤ hi (l .bounds) max) =
+        allowed-within (l .bounds) min max from allow
+        in
+        let w : (lo (l .bounds) min ≤ target) × (target ≤ hi (l .bounds) max) =
+        clamp-within (lo (l .bounds) min) (hi (l .bounds) max) (pos from +ℤ stepWay mode size) (omega arith)
+        in
+        with-mireds (to-mireds target time m n begun b (omega (arith, w), omega (arith, w)) r clock lasts)
+        (subst (λ (to : ℕ). Reaches (m .color .mireds) to (milliseconds time) (clock - begun) (n .color .mireds))
+        (mireds-step-agrees (lo (l .bounds) min) (hi (l .bounds) max) from size (i .0) (i .1) mode
+        ∙ ap (λ (q : ℕ). stepTo mode q (hi (l .bounds) max) size from)
+        (least-is (l .bounds) min max least most from ends allow)
+        ∙ ap (λ (q : ℕ). stepTo mode least q size from) (most-is (l .bounds) min max least most from ends allow))),
+  )
 
   does : (c : Command) → moves c ≡ true → Asked c
   does (Command.MoveToHue hue direction time options) v = move-to-hue-does hue direction time options
