@@ -5,15 +5,15 @@ use Rattle.matter.specs.Flags.{hasFlag}
 use Rattle.matter.specs.Rules.{defaultColorMode}
 use Rattle.notices.specs.Notices.{filled}
 use Rattle.hue.specs.Hue.{distance, pathDelta, movedHue}
-use Rattle.progress.specs.Progress.{permilleOf, clamp, snapped, loopTurn}
+use Rattle.progress.specs.Progress.{permilleOf, clamp, snapped}
 use Rattle.remaining_time.specs.RemainingTime.{told}
-use Rattle.color.specs.Setters.{hueSet, hueTold, saturationSet, saturationTold, miredsSet, miredsTold}
+use Rattle.color.specs.Setters.{hueSet, hueTold, saturationSet, saturationTold}
 use Rattle.color.specs.Form.{colorForm}
-use Rattle.tasks.specs.Form.{moveToForm, hueMoveForm, saturationMoveForm, taskForm, runningForm}
+use Rattle.tasks.specs.Form.{moveToForm, taskForm, runningForm}
 use Rattle.lamp.specs.Answers.{formOrClock}
 use Rattle.lamp.specs.Form.{lampForm}
-use Rattle.lamp.specs.Passes.{hueSaturationPass, huePass, saturationPass, temperatureToPass, temperaturePass, loopPass}
-use Rattle.lamp.specs.Calls.{hueSaturationStart, temperatureToStart, temperatureStart, started, stepped, startAnswer, stepAnswer}
+use Rattle.lamp.specs.Passes.{hueSaturationPass}
+use Rattle.lamp.specs.Calls.{hueSaturationStart, started, stepped, startAnswer, stepAnswer}
 use Rattle.commands.specs.Commands.{deactivated, activated, loopSet, commandEffect}
 use Rattle.commands.specs.Answers.{commandCause, commandAnswer}
 use Rattle.worked_examples.specs.Cases.{next, stepsAt}

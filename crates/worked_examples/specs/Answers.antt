@@ -2,7 +2,7 @@
 -- command that gives a task changes nothing but the clock; the colour loop's command stands apart below.
 use Prim.Native.Nat.{ℕ}
 use mathlib.Core.Bool.{Bool, true, false}
-use mathlib.Core.List.{List, [], _∷_, map}
+use mathlib.Core.List.{List, [], _∷_, _++_, map}
 use mathlib.Core.Path.{_≡_}
 use lib.IntN.{ℤ, pos, negℤ}
 use lib.ListN.{replicate}
@@ -175,9 +175,10 @@ CommandsTold = Says lamp commands × Says busy busyCommands
 
 -- ---- the colour loop's command: one flag alone, and one with the action
 
--- its flags (direction down, 30 seconds, start hue 100, from the start hue); notices, task and settings after it
+-- its flags and seconds (direction down, start hue 100, from the start hue); notices, task and settings after it
 pub record LoopRow : Type 0 where
   pub flags : ℕ
+  pub seconds : ℕ
   pub list : List ℕ
   pub task : GivenTask
   pub looping : LoopSettings
@@ -187,32 +188,40 @@ settings active direction time start =
     record { active = active; direction = direction; time = time; start = start; stored = 0 }
 
 abbrev pub flagged : ℕ → List ℕ → LoopSettings → LoopRow
-flagged flags list looping = record { flags = flags; list = list; task = GivenTask.Nothing; looping = looping }
+flagged flags list looping = record { flags = flags; seconds = 30; list = list; task = GivenTask.Nothing; looping = looping }
+
+-- with the action: behind its flag's notice, and in the task the lamp's direction and time
+abbrev pub turned : ℕ → ℕ → List ℕ → ℕ → ℕ → LoopRow
+turned flags seconds list time start =
+    record {
+      flags = flags;
+      seconds = seconds;
+      list = list ++ (13 ∷ 12 ∷ 8 ∷ 2 ∷ 3 ∷ 6 ∷ 7 ∷ 14 ∷ 15 ∷ 17 ∷ []);
+      task = GivenTask.Given (Task.ColorLoop (record { direction = ColorLoopDirectionEnum.Increment; seconds = time }));
+      looping = settings true ColorLoopDirectionEnum.Increment time start;
+    }
 
 abbrev pub flagRows : List LoopRow
 flagRows =
     flagged 2 (9 ∷ 13 ∷ []) (settings false ColorLoopDirectionEnum.Decrement 25 8960)
     ∷ flagged 4 (10 ∷ 13 ∷ []) (settings false ColorLoopDirectionEnum.Increment 30 8960)
     ∷ flagged 8 (11 ∷ 13 ∷ []) (settings false ColorLoopDirectionEnum.Increment 25 100)
-    ∷ record {
-      flags = 9;
-      list = 11 ∷ 13 ∷ 12 ∷ 8 ∷ 2 ∷ 3 ∷ 6 ∷ 7 ∷ 14 ∷ 15 ∷ 17 ∷ [];
-      task = GivenTask.Given (Task.ColorLoop (record { direction = ColorLoopDirectionEnum.Increment; seconds = 25 }));
-      looping = settings true ColorLoopDirectionEnum.Increment 25 100;
-    }
+    ∷ turned 9 30 (11 ∷ []) 25 100
+    -- 0 seconds are carried as 0
+    ∷ turned 5 0 (10 ∷ []) 0 8960
     ∷ []
 
 abbrev pub loopSaid : Answer → ℕ × List ℕ × GivenTask × LoopSettings × ℕ
 loopSaid a = (a .number, listed a, a .task, a .lamp .looping, a .wait)
 
-abbrev pub withFlags : ℕ → Answer
-withFlags flags =
+abbrev pub withFlags : ℕ → ℕ → Answer
+withFlags flags seconds =
     commandAnswer lamp
     (Command.ColorLoopSet flags ColorLoopActionEnum.ActivateFromColorLoopStartEnhancedHue ColorLoopDirectionEnum.Decrement
-    30 100 noOptions)
+    seconds 100 noOptions)
     OnOff.On now
 
 abbrev pub FlagTold : Type 0
 FlagTold =
-    map (λ (r : LoopRow). loopSaid (withFlags (r .flags))) flagRows
+    map (λ (r : LoopRow). loopSaid (withFlags (r .flags) (r .seconds))) flagRows
     ≡ map (λ (r : LoopRow). (0, r .list, r .task, r .looping, 0)) flagRows

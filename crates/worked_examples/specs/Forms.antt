@@ -1,16 +1,13 @@
 -- What is in form and what is not: document 01, "Task out of form" and "Lamp out of form", clause by clause, each beside
 -- its nearest neighbour in form; the limit of clocks; and which cause comes first.
 use Prim.Native.Nat.{ℕ}
-use mathlib.Core.Bool.{Bool, true, false}
+use mathlib.Core.Bool.{false}
 use mathlib.Core.List.{List, [], _∷_, _++_, map}
 use mathlib.Core.Path.{_≡_}
 use lib.IntN.{ℤ, pos, negℤ}
-use Rattle.matter.specs.declared.limits.Bounds.{Bounds}
 use Rattle.matter.specs.declared.commands.Command.{Command}
 use Rattle.matter.specs.declared.enums.ColorLoopDirectionEnum.{ColorLoopDirectionEnum}
-use Rattle.matter.specs.declared.enums.ColorModeEnum.{ColorModeEnum}
 use Rattle.matter.specs.declared.enums.DirectionEnum.{DirectionEnum}
-use Rattle.matter.specs.declared.enums.EnhancedColorModeEnum.{EnhancedColorModeEnum}
 use Rattle.matter.specs.declared.enums.MoveModeEnum.{MoveModeEnum}
 use Rattle.matter.specs.declared.enums.OnOff.{OnOff}
 use Rattle.color.specs.declared.Color.{Color}

@@ -2,7 +2,7 @@
 -- docs/DECISIONS.md fixes (points 1 and 5); and the numbers of the loop's snap.
 use Prim.Native.Nat.{ℕ}
 use mathlib.Core.Bool.{Bool, true, false}
-use mathlib.Core.List.{List, [], _∷_, map}
+use mathlib.Core.List.{[], _∷_, map}
 use mathlib.Core.Path.{_≡_}
 use lib.IntN.{pos}
 use Rattle.matter.specs.declared.enums.ColorLoopActionEnum.{ColorLoopActionEnum}
@@ -17,7 +17,7 @@ use Rattle.tasks.specs.declared.TargetSaturation.{TargetSaturation}
 use Rattle.tasks.specs.declared.Task.{Task}
 use Rattle.lamp.specs.declared.Lamp.{Lamp}
 use Rattle.lamp.specs.declared.Answer.{Answer}
-use Rattle.lamp.specs.Calls.{started, startAnswer}
+use Rattle.lamp.specs.Calls.{startAnswer}
 use Rattle.commands.specs.Answers.{commandAnswer}
 use Rattle.worked_examples.specs.Cases.{lamp, noOptions, given, answers, listed}
 
