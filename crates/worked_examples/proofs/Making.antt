@@ -4,11 +4,8 @@ use Rattle.matter.specs.Flags.{hasFlag}
 use Rattle.matter.specs.Rules.{defaultColorMode}
 use Rattle.progress.specs.Progress.{clamp}
 use Rattle.lamp.specs.Making.{making}
-use Rattle.worked_examples.specs.Making.{MakingTold, TenthsWrap}
+use Rattle.worked_examples.specs.Making.{MakingTold}
 
 making-told : MakingTold
 unfolding hasFlag defaultColorMode clamp making
 making-told = refl
-
-tenths-wrap : TenthsWrap
-tenths-wrap = refl

@@ -4,7 +4,6 @@ use mathlib.Core.Bool.{false}
 use mathlib.Core.List.{List, [], _∷_, map}
 use mathlib.Core.Path.{_≡_}
 use Rattle.matter.specs.declared.enums.ColorLoopDirectionEnum.{ColorLoopDirectionEnum}
-use Rattle.remaining_time.specs.RemainingTime.{newTenths}
 use Rattle.tasks.specs.declared.Running.{Running}
 use Rattle.lamp.specs.declared.Made.{Made}
 use Rattle.lamp.specs.Making.{making}
@@ -79,9 +78,3 @@ abbrev pub MakingTold : Type 0
 MakingTold =
     map (λ (r : Row). making (record { min = r .min; max = r .max }) (r .features) (r .options) (r .clock)) rows
     ≡ map (λ (r : Row). r .made) rows
-
--- ---- the remaining tenths wrap at sixteen bits, as in the source
-
-abbrev pub TenthsWrap : Type 0
-TenthsWrap =
-    map newTenths (0 ∷ 1 ∷ 100 ∷ 101 ∷ 6_553_500 ∷ 6_553_501 ∷ []) ≡ (0 ∷ 1 ∷ 1 ∷ 2 ∷ 65535 ∷ 0 ∷ [])
