@@ -31,7 +31,8 @@ use Rattle.lamp.specs.Calls.{startCause, stepCause, startAnswer, stepAnswer, ha
 use Rattle.lamp.specs.Form.{lampForm}
 use Rattle.lamp.proofs.Kept.{form-clock, form-color, form-running, form-of, no-cause, ready, start-ready, step-ready, choose-both, start-form, step-form, halt-form}
 use Rattle.lamp.specs.Passes.{moved}
-use Rattle.lamp.specs.Typed.{Call, command, start, step, halt, TypedLamp, TypedCall}
+use Rattle.lamp.specs.declared.Call.{Call}
+use Rattle.lamp.specs.Typed.{TypedLamp, TypedCall}
 use Rattle.lamp.proofs.TypedKept.{changed, started-any, stepped-any, typed-of, clock-typed, changed-typed, started-typed, stepped-typed}
 use Rattle.commands.specs.Answers.{afterClock, allowed, commandCause, commandDone, commandAnswer, cause, answer, granted, clockOf, isLoopSet}
 use Rattle.commands.specs.Commands.{CommandEffect, passOver, giving, stopMode, withLoop, updated, updatedTold, acted, deactivated, activated, loopSet, commandEffect}
@@ -42,17 +43,17 @@ module _ (l : Lamp) where
   -- what holds of both holds of the answer
   pub answer-both : (P : Answer → Type 0) (x : Call) → (cause l x ≡ 0 → P (granted l x)) → ((cause l x ≡ 0 → ⊥) → P (refusal l (cause l x))) → P (answer l x)
   unfolding cause answer commandAnswer startAnswer stepAnswer haltAnswer
-  answer-both P (command c onOff clock) h k = choose-both P (commandCause l c onOff clock) l _ h k
-  answer-both P (start task clock) h k = choose-both P (startCause l task clock) l _ h k
-  answer-both P (step clock) h k = choose-both P (stepCause l clock) l _ h k
-  answer-both P (halt clock) h k = choose-both P (formOrClock l clock) l _ h k
+  answer-both P (Call.Command c onOff clock) h k = choose-both P (commandCause l c onOff clock) l _ h k
+  answer-both P (Call.Start task clock) h k = choose-both P (startCause l task clock) l _ h k
+  answer-both P (Call.Step clock) h k = choose-both P (stepCause l clock) l _ h k
+  answer-both P (Call.Halt clock) h k = choose-both P (formOrClock l clock) l _ h k
 
   -- what is granted has number 0
   granted-number : (x : Call) → granted l x .number ≡ 0
-  granted-number (command c onOff clock) = refl
-  granted-number (start task clock) = refl
-  granted-number (step clock) = refl
-  granted-number (halt clock) = refl
+  granted-number (Call.Command c onOff clock) = refl
+  granted-number (Call.Start task clock) = refl
+  granted-number (Call.Step clock) = refl
+  granted-number (Call.Halt clock) = refl
 
   -- the number of an answer is its cause
   pub number-is-cause : (x : Call) → answer l x .number ≡ cause l x
@@ -65,10 +66,10 @@ module _ (l : Lamp) where
   -- where a call is accepted, the lamp at its clock is in form
   pub granted-ready : (x : Call) → cause l x ≡ 0 → lampForm (atClock l (clockOf x)) ≡ true
   unfolding cause commandCause
-  granted-ready (command c onOff clock) e = ready l clock (no-cause (formOrClock l clock) (afterClock l c onOff) e .0)
-  granted-ready (start task clock) e = start-ready l clock task e .0
-  granted-ready (step clock) e = step-ready l clock e
-  granted-ready (halt clock) e = ready l clock e
+  granted-ready (Call.Command c onOff clock) e = ready l clock (no-cause (formOrClock l clock) (afterClock l c onOff) e .0)
+  granted-ready (Call.Start task clock) e = start-ready l clock task e .0
+  granted-ready (Call.Step clock) e = step-ready l clock e
+  granted-ready (Call.Halt clock) e = ready l clock e
 
 -- ---- what a command does: a task given, nothing, or the colour loop's
 
@@ -103,9 +104,9 @@ quiet-done l c onOff h =
     done-by l (λ (e : CommandEffect). e .lamp ≡ l) (λ t. refl) c onOff refl (λ flags action direction time hue options e. absurd (true≢false (sym (ap isLoopSet e) ∙ h)))
 
 -- accepted, it sets the clock alone
-pub quiet-command : (l : Lamp) (c : Command) (onOff : OnOff) (clock : ℕ) → isLoopSet c ≡ false → cause l (command c onOff clock) ≡ 0 → answer l (command c onOff clock) .lamp ≡ atClock l clock
+pub quiet-command : (l : Lamp) (c : Command) (onOff : OnOff) (clock : ℕ) → isLoopSet c ≡ false → cause l (Call.Command c onOff clock) ≡ 0 → answer l (Call.Command c onOff clock) .lamp ≡ atClock l clock
 quiet-command l c onOff clock h z =
-    answer-both l (λ a. a .lamp ≡ atClock l clock) (command c onOff clock) (λ e. quiet-done (atClock l clock) c onOff h) (λ n. absurd (n z))
+    answer-both l (λ a. a .lamp ≡ atClock l clock) (Call.Command c onOff clock) (λ e. quiet-done (atClock l clock) c onOff h) (λ n. absurd (n z))
 
 -- ---- the colour loop's command
 
@@ -158,10 +159,10 @@ done-typed l c onOff typed t =
 
 -- what holds at the call's clock with the same bounds and options holds of what is granted
 granted-any : (l : Lamp) (x : Call) (P : Lamp → Type 0) → ((m : Lamp) → P (record { clock = clockOf x; bounds = l .bounds; color = m .color; looping = m .looping; remaining = m .remaining; options = l .options; running = m .running })) → P (granted l x .lamp)
-granted-any l (command c onOff clock) P any = done-any (atClock l clock) P (λ d s. any (withLoop l d s)) c onOff
-granted-any l (start task clock) P any = started-any (atClock l clock) P (λ c r t. any (changed l c r t)) task
-granted-any l (step clock) P any = stepped-any (atClock l clock) P (λ c r t. any (changed l c r t)) (l .running)
-granted-any l (halt clock) P any = any (moved l (l .color) Running.Idle)
+granted-any l (Call.Command c onOff clock) P any = done-any (atClock l clock) P (λ d s. any (withLoop l d s)) c onOff
+granted-any l (Call.Start task clock) P any = started-any (atClock l clock) P (λ c r t. any (changed l c r t)) task
+granted-any l (Call.Step clock) P any = stepped-any (atClock l clock) P (λ c r t. any (changed l c r t)) (l .running)
+granted-any l (Call.Halt clock) P any = any (moved l (l .color) Running.Idle)
 
 module _ (l : Lamp) (x : Call) where
   -- an accepted call sets the clock
@@ -181,18 +182,18 @@ module _ (l : Lamp) (x : Call) where
 -- every call keeps form
 pub form-kept : (l : Lamp) (x : Call) → lampForm l ≡ true → lampForm (answer l x .lamp) ≡ true
 unfolding answer
-form-kept l (command c onOff clock) formed =
-    answer-both l (λ a. lampForm (a .lamp) ≡ true) (command c onOff clock) (λ e. done-form (atClock l clock) c onOff (granted-ready l (command c onOff clock) e)) (λ n. formed)
-form-kept l (start task clock) formed = start-form l clock formed task
-form-kept l (step clock) formed = step-form l clock formed
-form-kept l (halt clock) formed = halt-form l clock formed
+form-kept l (Call.Command c onOff clock) formed =
+    answer-both l (λ a. lampForm (a .lamp) ≡ true) (Call.Command c onOff clock) (λ e. done-form (atClock l clock) c onOff (granted-ready l (Call.Command c onOff clock) e)) (λ n. formed)
+form-kept l (Call.Start task clock) formed = start-form l clock formed task
+form-kept l (Call.Step clock) formed = step-form l clock formed
+form-kept l (Call.Halt clock) formed = halt-form l clock formed
 
 -- what is granted keeps widths
 granted-typed : (l : Lamp) (x : Call) → lampForm (atClock l (clockOf x)) ≡ true → TypedLamp l → TypedCall x → lampForm (granted l x .lamp) ≡ true → TypedLamp (granted l x .lamp)
-granted-typed l (command c onOff clock) before typed t formed = done-typed _ c onOff (clock-typed l typed clock before) (t .0) formed
-granted-typed l (start task clock) before typed t formed = started-typed _ task before formed (clock-typed l typed clock before) (t .0)
-granted-typed l (step clock) before typed t formed = stepped-typed _ (clock-typed l typed clock before) (l .running) (typed .running) formed
-granted-typed l (halt clock) before typed t formed =
+granted-typed l (Call.Command c onOff clock) before typed t formed = done-typed _ c onOff (clock-typed l typed clock before) (t .0) formed
+granted-typed l (Call.Start task clock) before typed t formed = started-typed _ task before formed (clock-typed l typed clock before) (t .0)
+granted-typed l (Call.Step clock) before typed t formed = stepped-typed _ (clock-typed l typed clock before) (l .running) (typed .running) formed
+granted-typed l (Call.Halt clock) before typed t formed =
     changed-typed _ (clock-typed l typed clock before) _ _ _ formed (typed .hue) (typed .remaining) tt
 
 -- every call keeps widths

@@ -14,7 +14,7 @@ use Rattle.lamp.specs.declared.Lamp.{Lamp}
 use Rattle.lamp.specs.Answers.{atClock}
 use Rattle.lamp.specs.Calls.{temperatureStart, started, stepped}
 use Rattle.lamp.specs.Passes.{Effect, huePass, saturationPass, temperaturePass, loopPass}
-use Rattle.lamp.specs.Typed.{Call, command, start, step, halt}
+use Rattle.lamp.specs.declared.Call.{Call}
 use Rattle.lamp.proofs.TypedKept.{started-any, stepped-any}
 use Rattle.commands.specs.Answers.{cause, answer, granted}
 use Rattle.commands.specs.Leaves.{bare, isMoveTo, movesTo, Leaves}
@@ -54,32 +54,32 @@ module _ (l : Lamp) where
   leaves =
       record {
         refusal = refused-same l;
-        halting = λ clock z. answer-both l (λ a. a ≡ granted l (halt clock)) (halt clock) (λ e. refl) (λ n. absurd (n z));
-        start-task = λ task clock. answer-both l (λ a. a .task ≡ GivenTask.Nothing) (start task clock) (λ e. refl) (λ n. refl);
-        step-task = λ clock. answer-both l (λ a. a .task ≡ GivenTask.Nothing) (step clock) (λ e. refl) (λ n. refl);
+        halting = λ clock z. answer-both l (λ a. a ≡ granted l (Call.Halt clock)) (Call.Halt clock) (λ e. refl) (λ n. absurd (n z));
+        start-task = λ task clock. answer-both l (λ a. a .task ≡ GivenTask.Nothing) (Call.Start task clock) (λ e. refl) (λ n. refl);
+        step-task = λ clock. answer-both l (λ a. a .task ≡ GivenTask.Nothing) (Call.Step clock) (λ e. refl) (λ n. refl);
         bounds = bounds-kept l;
         options = options-kept l;
         command-running =
             λ c onOff clock.
-            lamp-both (λ m. m .running ≡ l .running) (command c onOff clock)
+            lamp-both (λ m. m .running ≡ l .running) (Call.Command c onOff clock)
             (done-any (atClock l clock) (λ m. m .running ≡ l .running) (λ d s. refl) c onOff) refl;
         command-remaining =
             λ c onOff clock.
-            lamp-both (λ m. m .remaining ≡ l .remaining) (command c onOff clock)
+            lamp-both (λ m. m .remaining ≡ l .remaining) (Call.Command c onOff clock)
             (done-any (atClock l clock) (λ m. m .remaining ≡ l .remaining) (λ d s. refl) c onOff) refl;
-        command-wait = λ c onOff clock. answer-both l (λ a. a .wait ≡ 0) (command c onOff clock) (λ e. refl) (λ n. refl);
+        command-wait = λ c onOff clock. answer-both l (λ a. a .wait ≡ 0) (Call.Command c onOff clock) (λ e. refl) (λ n. refl);
         start-looping =
             λ task clock.
-            lamp-both (λ m. m .looping ≡ l .looping) (start task clock)
+            lamp-both (λ m. m .looping ≡ l .looping) (Call.Start task clock)
             (started-any (atClock l clock) (λ m. m .looping ≡ l .looping) (λ c r t. refl) task) refl;
         step-looping =
             λ clock.
-            lamp-both (λ m. m .looping ≡ l .looping) (step clock)
+            lamp-both (λ m. m .looping ≡ l .looping) (Call.Step clock)
             (stepped-any (atClock l clock) (λ m. m .looping ≡ l .looping) (λ c r t. refl) (l .running)) refl;
         start-remaining =
             λ task clock e.
-            lamp-both (λ m. m .remaining ≡ l .remaining) (start task clock) (started-remaining (atClock l clock) task e) refl;
+            lamp-both (λ m. m .remaining ≡ l .remaining) (Call.Start task clock) (started-remaining (atClock l clock) task e) refl;
         step-remaining =
             λ clock e.
-            lamp-both (λ m. m .remaining ≡ l .remaining) (step clock) (stepped-remaining (atClock l clock) (l .running) e) refl;
+            lamp-both (λ m. m .remaining ≡ l .remaining) (Call.Step clock) (stepped-remaining (atClock l clock) (l .running) e) refl;
       }

@@ -29,7 +29,7 @@ use Rattle.lamp.specs.Answers.{atClock, badClock, formOrClock}
 use Rattle.lamp.specs.Form.{lampForm}
 use Rattle.lamp.proofs.Kept.{form-color, no-cause}
 use Rattle.matter.specs.Rules.{signed}
-use Rattle.lamp.specs.Typed.{command, start}
+use Rattle.lamp.specs.declared.Call.{Call}
 use Rattle.commands.specs.Answers.{allowed, afterClock, commandCause, cause, answer}
 use Rattle.commands.specs.Commands.{CommandEffect, causeIf, isStop, stopMode, numberCause, crossed, stored, ms, hueTask, saturationTask, hueMoveTask, stepWay, saturationStep, acted, deactivated, activated, loopSet, commandEffect}
 use Rattle.commands.proofs.Kept.{answer-both, granted-ready}
@@ -144,18 +144,18 @@ effect-form l (Command.StopMoveStep options) s t m n = λ o. absurd (o refl)
 
 module _ (l : Lamp) (c : Command) (onOff : OnOff) (clock : ℕ) (typed : TypedCommand c) where
   -- an accepted command that is in no Stop mode has no cause of its own
-  own-none : cause l (command c onOff clock) ≡ 0 → stopMode c ≡ false → numberCause c ≡ 0
+  own-none : cause l (Call.Command c onOff clock) ≡ 0 → stopMode c ≡ false → numberCause c ≡ 0
   unfolding cause commandCause
   own-none e s =
       no-cause (numberCause c) (causeIf (allowed l c onOff && crossed (l .bounds) c) 3)
       (rw s at (no-cause (formOrClock l clock) (afterClock l c onOff) e .1)) .0
 
-  answer-form : Startable (answer l (command c onOff clock) .task)
+  answer-form : Startable (answer l (Call.Command c onOff clock) .task)
   answer-form =
-      answer-both l (λ a. Startable (a .task)) (command c onOff clock)
+      answer-both l (λ a. Startable (a .task)) (Call.Command c onOff clock)
       (λ e.
       let at : Lamp = atClock l clock in
-      let formed : lampForm at ≡ true = granted-ready l (command c onOff clock) e in
+      let formed : lampForm at ≡ true = granted-ready l (Call.Command c onOff clock) e in
       cond-both (λ (x : CommandEffect). Startable (x .task)) (stopMode c) _ _ (λ s n. absurd (n refl))
       (λ s. cond-both (λ (x : CommandEffect). Startable (x .task)) (allowed at c onOff) _ _
       (λ a. effect-form at c (form-saturation _ _ _ (form-color at formed)) typed s (own-none e s))
@@ -163,12 +163,12 @@ module _ (l : Lamp) (c : Command) (onOff : OnOff) (clock : ℕ) (typed : TypedCo
       (λ n. tt)
 
   -- a task that a command gives, other than Stop, is in form
-  pub given-form : (task : Task) → answer l (command c onOff clock) .task ≡ GivenTask.Given task
+  pub given-form : (task : Task) → answer l (Call.Command c onOff clock) .task ≡ GivenTask.Given task
       → (task ≡ Task.Stop → ⊥) → taskForm task ≡ true
   given-form task e = rw e at answer-form
 
   -- so a start of it is accepted on any lamp in form at a good clock
-  pub given-starts : (task : Task) → answer l (command c onOff clock) .task ≡ GivenTask.Given task
+  pub given-starts : (task : Task) → answer l (Call.Command c onOff clock) .task ≡ GivenTask.Given task
       → (task ≡ Task.Stop → ⊥) → (m : Lamp) (at : ℕ) → lampForm m ≡ true → badClock m at ≡ false
-      → cause m (start task at) ≡ 0
+      → cause m (Call.Start task at) ≡ 0
   given-starts task e n m at f b = start-0 m at task f b (given-form task e n)

@@ -16,7 +16,7 @@ use Rattle.lamp.specs.declared.Answer.{Answer}
 use Rattle.lamp.specs.Answers.{atClock, formOrClock}
 use Rattle.lamp.specs.Calls.{choose, done, started, stepped, startCause, stepCause, startAnswer, stepAnswer, haltAnswer}
 use Rattle.lamp.specs.Passes.{moved}
-use Rattle.lamp.specs.Typed.{Call, command, start, step, halt}
+use Rattle.lamp.specs.declared.Call.{Call}
 use Rattle.commands.specs.Commands.{CommandEffect, passOver, giving, optionsOf, causeIf, stopMode, numberCause, crossed, commandEffect}
 
 -- leave to run, of a command on a lamp
@@ -50,32 +50,32 @@ commandAnswer l c onOff clock = choose (commandCause l c onOff clock) l (command
 -- ---- every call
 
 unfoldable pub cause : Lamp → Call → ℕ
-cause l (command c onOff clock) = commandCause l c onOff clock
-cause l (start task clock) = startCause l task clock
-cause l (step clock) = stepCause l clock
-cause l (halt clock) = formOrClock l clock
+cause l (Call.Command c onOff clock) = commandCause l c onOff clock
+cause l (Call.Start task clock) = startCause l task clock
+cause l (Call.Step clock) = stepCause l clock
+cause l (Call.Halt clock) = formOrClock l clock
 
 unfoldable pub answer : Lamp → Call → Answer
-answer l (command c onOff clock) = commandAnswer l c onOff clock
-answer l (start task clock) = startAnswer l task clock
-answer l (step clock) = stepAnswer l clock
-answer l (halt clock) = haltAnswer l clock
+answer l (Call.Command c onOff clock) = commandAnswer l c onOff clock
+answer l (Call.Start task clock) = startAnswer l task clock
+answer l (Call.Step clock) = stepAnswer l clock
+answer l (Call.Halt clock) = haltAnswer l clock
 
 -- ---- what theorems say of a call
 
 -- its answer where it is accepted
 abbrev pub granted : Lamp → Call → Answer
-granted l (command c onOff clock) = commandAccepted (commandDone (atClock l clock) c onOff)
-granted l (start task clock) = done (started (atClock l clock) task)
-granted l (step clock) = done (stepped (atClock l clock) (l .running))
-granted l (halt clock) = done (record { lamp = moved (atClock l clock) (l .color) Running.Idle; told = []; wait = 0 })
+granted l (Call.Command c onOff clock) = commandAccepted (commandDone (atClock l clock) c onOff)
+granted l (Call.Start task clock) = done (started (atClock l clock) task)
+granted l (Call.Step clock) = done (stepped (atClock l clock) (l .running))
+granted l (Call.Halt clock) = done (record { lamp = moved (atClock l clock) (l .color) Running.Idle; told = []; wait = 0 })
 
 -- its clock
 abbrev pub clockOf : Call → ℕ
-clockOf (command c onOff clock) = clock
-clockOf (start task clock) = clock
-clockOf (step clock) = clock
-clockOf (halt clock) = clock
+clockOf (Call.Command c onOff clock) = clock
+clockOf (Call.Start task clock) = clock
+clockOf (Call.Step clock) = clock
+clockOf (Call.Halt clock) = clock
 
 -- whether a command is the colour loop's
 abbrev pub isLoopSet : Command → Bool

@@ -10,7 +10,7 @@ use Rattle.tasks.specs.declared.Running.{Running}
 use Rattle.tasks.specs.declared.Task.{Task}
 use Rattle.lamp.specs.declared.Answer.{Answer}
 use Rattle.lamp.specs.declared.Lamp.{Lamp}
-use Rattle.lamp.specs.Typed.{Call, command, start, step, halt}
+use Rattle.lamp.specs.declared.Call.{Call}
 use Rattle.commands.specs.Answers.{cause, answer}
 
 -- an answer without notices, task and wait
@@ -47,8 +47,8 @@ pub record Leaves (l : Lamp) : Type 0 where
   -- "the lamp is then what it was and the notice list is empty"; "A refusal has no task and wait 0"
   pub refusal : (x : Call) → (cause l x ≡ 0 → ⊥) → answer l x ≡ bare (cause l x) l
   -- "halt, which only makes the lamp idle"
-  pub halting : (clock : ℕ) → cause l (halt clock) ≡ 0 →
-      answer l (halt clock)
+  pub halting : (clock : ℕ) → cause l (Call.Halt clock) ≡ 0 →
+      answer l (Call.Halt clock)
       ≡ bare 0
       (record {
         clock = clock;
@@ -60,20 +60,20 @@ pub record Leaves (l : Lamp) : Type 0 where
         running = Running.Idle;
       })
   -- a task is a command's to give
-  pub start-task : (task : Task) (clock : ℕ) → answer l (start task clock) .task ≡ GivenTask.Nothing
-  pub step-task : (clock : ℕ) → answer l (step clock) .task ≡ GivenTask.Nothing
+  pub start-task : (task : Task) (clock : ℕ) → answer l (Call.Start task clock) .task ≡ GivenTask.Nothing
+  pub step-task : (clock : ℕ) → answer l (Call.Step clock) .task ≡ GivenTask.Nothing
   -- no call changes bounds or options
   pub bounds : (x : Call) → answer l x .lamp .bounds ≡ l .bounds
   pub options : (x : Call) → answer l x .lamp .options ≡ l .options
   -- no command, the colour loop's among them, changes what runs, nor the remaining time, nor has a wait
-  pub command-running : (c : Command) (onOff : OnOff) (clock : ℕ) → answer l (command c onOff clock) .lamp .running ≡ l .running
+  pub command-running : (c : Command) (onOff : OnOff) (clock : ℕ) → answer l (Call.Command c onOff clock) .lamp .running ≡ l .running
   pub command-remaining : (c : Command) (onOff : OnOff) (clock : ℕ) →
-      answer l (command c onOff clock) .lamp .remaining ≡ l .remaining
-  pub command-wait : (c : Command) (onOff : OnOff) (clock : ℕ) → answer l (command c onOff clock) .wait ≡ 0
+      answer l (Call.Command c onOff clock) .lamp .remaining ≡ l .remaining
+  pub command-wait : (c : Command) (onOff : OnOff) (clock : ℕ) → answer l (Call.Command c onOff clock) .wait ≡ 0
   -- no start or step changes the loop's settings
-  pub start-looping : (task : Task) (clock : ℕ) → answer l (start task clock) .lamp .looping ≡ l .looping
-  pub step-looping : (clock : ℕ) → answer l (step clock) .lamp .looping ≡ l .looping
+  pub start-looping : (task : Task) (clock : ℕ) → answer l (Call.Start task clock) .lamp .looping ≡ l .looping
+  pub step-looping : (clock : ℕ) → answer l (Call.Step clock) .lamp .looping ≡ l .looping
   -- "Rate moves, loops and halts leave the remaining time as it was" (DECISIONS 14)
   pub start-remaining : (task : Task) (clock : ℕ) → isMoveTo task ≡ false →
-      answer l (start task clock) .lamp .remaining ≡ l .remaining
-  pub step-remaining : (clock : ℕ) → movesTo (l .running) ≡ false → answer l (step clock) .lamp .remaining ≡ l .remaining
+      answer l (Call.Start task clock) .lamp .remaining ≡ l .remaining
+  pub step-remaining : (clock : ℕ) → movesTo (l .running) ≡ false → answer l (Call.Step clock) .lamp .remaining ≡ l .remaining

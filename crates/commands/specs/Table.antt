@@ -18,44 +18,44 @@ use Rattle.lamp.specs.declared.Lamp.{Lamp}
 use Rattle.lamp.specs.declared.Answer.{Answer}
 use Rattle.lamp.specs.Answers.{badClock}
 use Rattle.lamp.specs.Form.{lampForm}
-use Rattle.lamp.specs.Typed.{Call, command, start, step, halt}
+use Rattle.lamp.specs.declared.Call.{Call}
 use Rattle.commands.specs.Commands.{stopMode, numberCause, crossed}
 use Rattle.commands.specs.Answers.{allowed, cause, answer}
 
 -- steps 8, 7, 4; a step of a running lamp in form with a good clock is never refused
 pub record StepCauses (l : Lamp) (clock : ℕ) : Type 0 where
-  pub step-8 : lampForm l ≡ false → cause l (step clock) ≡ 8
-  pub step-7 : lampForm l ≡ true → runs (l .running) ≡ false → cause l (step clock) ≡ 7
-  pub step-4 : lampForm l ≡ true → runs (l .running) ≡ true → badClock l clock ≡ true → cause l (step clock) ≡ 4
-  pub step-0 : lampForm l ≡ true → runs (l .running) ≡ true → badClock l clock ≡ false → cause l (step clock) ≡ 0
+  pub step-8 : lampForm l ≡ false → cause l (Call.Step clock) ≡ 8
+  pub step-7 : lampForm l ≡ true → runs (l .running) ≡ false → cause l (Call.Step clock) ≡ 7
+  pub step-4 : lampForm l ≡ true → runs (l .running) ≡ true → badClock l clock ≡ true → cause l (Call.Step clock) ≡ 4
+  pub step-0 : lampForm l ≡ true → runs (l .running) ≡ true → badClock l clock ≡ false → cause l (Call.Step clock) ≡ 0
 
 -- halts 8, 4
 pub record HaltCauses (l : Lamp) (clock : ℕ) : Type 0 where
-  pub halt-8 : lampForm l ≡ false → cause l (halt clock) ≡ 8
-  pub halt-4 : lampForm l ≡ true → badClock l clock ≡ true → cause l (halt clock) ≡ 4
-  pub halt-0 : lampForm l ≡ true → badClock l clock ≡ false → cause l (halt clock) ≡ 0
+  pub halt-8 : lampForm l ≡ false → cause l (Call.Halt clock) ≡ 8
+  pub halt-4 : lampForm l ≡ true → badClock l clock ≡ true → cause l (Call.Halt clock) ≡ 4
+  pub halt-0 : lampForm l ≡ true → badClock l clock ≡ false → cause l (Call.Halt clock) ≡ 0
 
 -- starts 8, 4, 6
 pub record StartCauses (l : Lamp) (clock : ℕ) (task : Task) : Type 0 where
-  pub start-8 : lampForm l ≡ false → cause l (start task clock) ≡ 8
-  pub start-4 : lampForm l ≡ true → badClock l clock ≡ true → cause l (start task clock) ≡ 4
-  pub start-6 : lampForm l ≡ true → badClock l clock ≡ false → taskForm task ≡ false → cause l (start task clock) ≡ 6
-  pub start-0 : lampForm l ≡ true → badClock l clock ≡ false → taskForm task ≡ true → cause l (start task clock) ≡ 0
+  pub start-8 : lampForm l ≡ false → cause l (Call.Start task clock) ≡ 8
+  pub start-4 : lampForm l ≡ true → badClock l clock ≡ true → cause l (Call.Start task clock) ≡ 4
+  pub start-6 : lampForm l ≡ true → badClock l clock ≡ false → taskForm task ≡ false → cause l (Call.Start task clock) ≡ 6
+  pub start-0 : lampForm l ≡ true → badClock l clock ≡ false → taskForm task ≡ true → cause l (Call.Start task clock) ≡ 0
 
 -- commands 8, 4, Stop mode, the command's own numbers (1 or 2), off, 3
 pub record CommandCauses (l : Lamp) (clock : ℕ) (c : Command) (onOff : OnOff) : Type 0 where
-  pub command-8 : lampForm l ≡ false → cause l (command c onOff clock) ≡ 8
-  pub command-4 : lampForm l ≡ true → badClock l clock ≡ true → cause l (command c onOff clock) ≡ 4
+  pub command-8 : lampForm l ≡ false → cause l (Call.Command c onOff clock) ≡ 8
+  pub command-4 : lampForm l ≡ true → badClock l clock ≡ true → cause l (Call.Command c onOff clock) ≡ 4
   pub command-stop : lampForm l ≡ true → badClock l clock ≡ false → stopMode c ≡ true →
-      cause l (command c onOff clock) ≡ 0
+      cause l (Call.Command c onOff clock) ≡ 0
   pub command-number : lampForm l ≡ true → badClock l clock ≡ false → stopMode c ≡ false → eqb (numberCause c) 0 ≡ false →
-      cause l (command c onOff clock) ≡ numberCause c
+      cause l (Call.Command c onOff clock) ≡ numberCause c
   pub command-off : lampForm l ≡ true → badClock l clock ≡ false → stopMode c ≡ false → eqb (numberCause c) 0 ≡ true →
-      allowed l c onOff ≡ false → cause l (command c onOff clock) ≡ 0
+      allowed l c onOff ≡ false → cause l (Call.Command c onOff clock) ≡ 0
   pub command-3 : lampForm l ≡ true → badClock l clock ≡ false → stopMode c ≡ false → eqb (numberCause c) 0 ≡ true →
-      allowed l c onOff ≡ true → crossed (l .bounds) c ≡ true → cause l (command c onOff clock) ≡ 3
+      allowed l c onOff ≡ true → crossed (l .bounds) c ≡ true → cause l (Call.Command c onOff clock) ≡ 3
   pub command-0 : lampForm l ≡ true → badClock l clock ≡ false → stopMode c ≡ false → eqb (numberCause c) 0 ≡ true →
-      allowed l c onOff ≡ true → crossed (l .bounds) c ≡ false → cause l (command c onOff clock) ≡ 0
+      allowed l c onOff ≡ true → crossed (l .bounds) c ≡ false → cause l (Call.Command c onOff clock) ≡ 0
 
 -- an answer's list is some list of at most 14 in its places, with zeros behind
 pub record Few (a : Answer) : Type 0 where

@@ -5,6 +5,7 @@ mod loops;
 
 use hue::hue_path_delta;
 use lamp::Answer;
+use lamp::Call;
 use lamp::Lamp;
 pub use loops::cmd_color_loop_set;
 use matter::ACCEPTED;
@@ -35,7 +36,7 @@ use tasks::Task;
 ghost use mathlib.Core.Path.{_≡_};
 ghost use mathlib.Core.Bool.{cond};
 ghost use Rattle.commands.specs.Commands.{passOver, giving, isStop, causeIf, asked, lo, hi, hueTask, saturationTask, temperatureTask, saturationStep, stepWay, stored};
-ghost use Rattle.commands.specs.Answers.{commandAccepted, commandAnswer};
+ghost use Rattle.commands.specs.Answers.{commandAccepted, commandAnswer, answer};
 ghost use Rattle.commands.specs.Shared.{options, taskAnswer};
 ghost use Rattle.matter.specs.Rules.{signed};
 
@@ -845,5 +846,21 @@ pub fn invoke(lamp: Lamp, command: Command, on_off: OnOff, clock: u64) -> Answer
         Command::StopMoveStep { options } => {
             cmd_stop_move_step(lamp, options.mask, options.over, on_off, clock)
         }
+    }
+}
+
+// Any call of a lamp: the one door to commands, starts, steps and halts.
+pub fn call(lamp: Lamp, call: Call) -> Answer
+    ensures { λ r. ⌜ r ≡ answer lamp call ⌝ }
+{
+    match call {
+        Call::Command {
+            command,
+            on_off,
+            clock,
+        } => invoke(lamp, command, on_off, clock),
+        Call::Start { task, clock } => lamp.start(task, clock),
+        Call::Step { clock } => lamp.step(clock),
+        Call::Halt { clock } => lamp.halt(clock),
     }
 }

@@ -18,7 +18,7 @@ use Rattle.tasks.specs.declared.Running.{Running}
 use Rattle.lamp.specs.declared.Answer.{Answer}
 use Rattle.lamp.specs.declared.Lamp.{Lamp}
 use Rattle.lamp.specs.Answers.{atClock}
-use Rattle.lamp.specs.Typed.{Call, command}
+use Rattle.lamp.specs.declared.Call.{Call}
 use Rattle.commands.specs.Answers.{allowed, cause, answer}
 use Rattle.commands.specs.Commands.{withLoop, updated, updatedTold, deactivated, activated, acted, loopSet, commandEffect}
 use Rattle.commands.proofs.Kept.{answer-both}
@@ -91,7 +91,7 @@ module _ (l : Lamp) (flags : ℕ) (action : ColorLoopActionEnum) (direction : Co
 module _ (l : Lamp) (flags : ℕ) (action : ColorLoopActionEnum) (direction : ColorLoopDirectionEnum) (time startHue : ℕ)
     (options : CommandOptions) (onOff : OnOff) (clock : ℕ) where
   abbrev pub setting : Call
-  setting = command (Command.ColorLoopSet flags action direction time startHue options) onOff clock
+  setting = Call.Command (Command.ColorLoopSet flags action direction time startHue options) onOff clock
 
   -- the attributes that the text's command leaves
   abbrev pub set : LoopAttributes

@@ -30,7 +30,7 @@ use Rattle.lamp.specs.Calls.{done, started, temperatureStart}
 use Rattle.lamp.proofs.Kept.{start-ready}
 use Rattle.matter.specs.Rules.{signed}
 use Rattle.lamp.specs.Passes.{moved, temperaturePass}
-use Rattle.lamp.specs.Typed.{Call, command, start}
+use Rattle.lamp.specs.declared.Call.{Call}
 use Rattle.commands.specs.Answers.{cause, answer, allowed, commandDone}
 use Rattle.commands.specs.Commands.{CommandEffect, asked, lo, hi, stopMode, crossed, commandEffect}
 use Rattle.commands.proofs.Kept.{answer-both}
@@ -102,8 +102,8 @@ Answered l x task = answer l x .task ≡ GivenTask.Given task
 
 module _ (l : Lamp) (mode : MoveModeEnum) (rate minimum maximum : ℕ) (options : CommandOptions) (onOff : OnOff)
     (first : ℕ) (task : Task)
-    (given : Answered l (command (Command.MoveColorTemperature mode rate minimum maximum options) onOff first) task)
-    (m : Lamp) (same : m .bounds ≡ l .bounds) (clock : ℕ) (accepted : cause m (start task clock) ≡ 0) where
+    (given : Answered l (Call.Command (Command.MoveColorTemperature mode rate minimum maximum options) onOff first) task)
+    (m : Lamp) (same : m .bounds ≡ l .bounds) (clock : ℕ) (accepted : cause m (Call.Start task clock) ≡ 0) where
   abbrev asks : ColorTemperatureMove
   asks = record { rate = signed mode rate; min = asked (l .bounds .min) minimum; max = asked (l .bounds .max) maximum }
 
@@ -127,15 +127,15 @@ module _ (l : Lamp) (mode : MoveModeEnum) (rate minimum maximum : ℕ) (options 
   task-is : task ≡ Task.ColorTemperatureMove asks
   task-is =
       answer-both l (λ (a : Answer). a .task ≡ GivenTask.Given task → task ≡ Task.ColorTemperatureMove asks)
-      (command (Command.MoveColorTemperature mode rate minimum maximum options) onOff first)
+      (Call.Command (Command.MoveColorTemperature mode rate minimum maximum options) onOff first)
       (λ z. gives-by)
       (λ n g. let z : _≡_ {A = ℕ} 0 1 = cc in absurd (omega arith))
       given
 
-  start-is : answer m (start task clock) ≡ done (temperatureStart (atClock m clock) asks)
+  start-is : answer m (Call.Start task clock) ≡ done (temperatureStart (atClock m clock) asks)
   unfolding started
   start-is =
-      granted-is m (start task clock) accepted ∙ ap (λ (t : Task). done (started (atClock m clock) t)) task-is
+      granted-is m (Call.Start task clock) accepted ∙ ap (λ (t : Task). done (started (atClock m clock) t)) task-is
 
   low-is : lower (m .bounds) (asks .min) ≡ lo (l .bounds) minimum
   low-is = ap (λ (b : Bounds). lower b (asks .min)) same
@@ -157,14 +157,14 @@ module _ (l : Lamp) (mode : MoveModeEnum) (rate minimum maximum : ℕ) (options 
 
   -- where no two mireds are allowed, it is done at once: the lamp is idle, nothing else but the clock changes, nothing is told
   pub move-at-once : NoTwo (l .bounds) minimum maximum →
-      answer m (start task clock)
+      answer m (Call.Start task clock)
       ≡ done (record { lamp = moved (atClock m clock) (m .color) Running.Idle; told = []; wait = 0 })
   unfolding temperatureStart
   move-at-once h = start-is ∙ rw (high-is, low-is, crossed-by _ refl h)
 
   -- where two are, it runs between the mireds that are allowed and no others
   pub move-runs : (n k : ℕ) → Allowed (l .bounds) minimum maximum n → Allowed (l .bounds) minimum maximum k → n < k →
-      RunsWithin (l .bounds) minimum maximum (signed mode rate) m clock (answer m (start task clock))
+      RunsWithin (l .bounds) minimum maximum (signed mode rate) m clock (answer m (Call.Start task clock))
   unfolding temperatureStart
   move-runs n k a b h =
       let low : lo (l .bounds) minimum ≤ n = allowed-within (l .bounds) minimum maximum n a .0 in

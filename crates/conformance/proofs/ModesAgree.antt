@@ -25,7 +25,7 @@ use Rattle.tasks.specs.Form.{deltaGiven, saturationGiven}
 use Rattle.lamp.specs.declared.Lamp.{Lamp}
 use Rattle.lamp.specs.Making.{freshLamp}
 use Rattle.lamp.specs.Passes.{atEnd, hueNow, hueMoved, saturationNow, saturationMoved, hueSaturationPass, miredsNow, temperatureToPass}
-use Rattle.lamp.specs.Typed.{command}
+use Rattle.lamp.specs.declared.Call.{Call}
 use Rattle.commands.specs.Answers.{cause, answer, isLoopSet, commandDone}
 use Rattle.commands.specs.Commands.{commandEffect}
 use Rattle.commands.proofs.Kept.{quiet-command}
@@ -155,10 +155,10 @@ end-temperature-modes l run p over =
 -- ---- on receipt the port leaves them, so they are the text's exactly where they were already
 
 module _ (l : Lamp) (c : Command) (onOff : OnOff) (clock : ℕ) where
-  pub modes-kept : isLoopSet c ≡ false → cause l (command c onOff clock) ≡ 0 → modesOf (answer l (command c onOff clock) .lamp .color) ≡ modesOf (l .color)
+  pub modes-kept : isLoopSet c ≡ false → cause l (Call.Command c onOff clock) ≡ 0 → modesOf (answer l (Call.Command c onOff clock) .lamp .color) ≡ modesOf (l .color)
   modes-kept h z = ap (λ (m : Lamp). modesOf (m .color)) (quiet-command l c onOff clock h z)
 
-  pub modes-differ : isLoopSet c ≡ false → cause l (command c onOff clock) ≡ 0 → (received (modesOf (l .color)) c ≡ modesOf (l .color) → ⊥) → modesOf (answer l (command c onOff clock) .lamp .color) ≡ received (modesOf (l .color)) c → ⊥
+  pub modes-differ : isLoopSet c ≡ false → cause l (Call.Command c onOff clock) ≡ 0 → (received (modesOf (l .color)) c ≡ modesOf (l .color) → ⊥) → modesOf (answer l (Call.Command c onOff clock) .lamp .color) ≡ received (modesOf (l .color)) c → ⊥
   modes-differ h z n e = n (sym e ∙ modes-kept h z)
 
 -- the smallest: MoveToHue to 0 of a fresh lamp, which is in XY mode

@@ -35,7 +35,7 @@ use Rattle.lamp.specs.Calls.{temperatureStart, started, stepped}
 use Rattle.lamp.proofs.Kept.{form-clock}
 use Rattle.matter.specs.Rules.{signed}
 use Rattle.lamp.specs.Passes.{Effect, saturationDone, miredsDone, huePass, saturationPass, temperaturePass, loopPass}
-use Rattle.lamp.specs.Typed.{step}
+use Rattle.lamp.specs.declared.Call.{Call}
 use Rattle.commands.specs.Answers.{cause, answer}
 use Rattle.conformance.specs.Started.{Ran, Lasts, saved}
 use Rattle.conformance.proofs.Ran.{saturationAt, miredsAt, step-by, ran-by, idle-done}
@@ -106,10 +106,10 @@ module _ (x : Lamp) where
 
 -- ---- an accepted step
 
-module _ (l : Lamp) (clock : ℕ) (accepted : cause l (step clock) ≡ 0) where
+module _ (l : Lamp) (clock : ℕ) (accepted : cause l (Call.Step clock) ≡ 0) where
   -- MoveHue, EnhancedMoveHue: it never ends, and wraps
   pub shown-hue-move : (run : HueRun) → l .running ≡ Running.HueMove run → run .hue < 65536 →
-      answer l (step clock) .lamp .color .hue
+      answer l (Call.Step clock) .lamp .color .hue
       ≡ hueMoveTo (run .task .direction) enhancedHueMaximum (stepsMade (run .task .rate) (clock - run .start))
       (run .hue)
   unfolding stepped
@@ -120,14 +120,14 @@ module _ (l : Lamp) (clock : ℕ) (accepted : cause l (step clock) ≡ 0) where
       e accepted (λ f g. hue-pass (atClock l clock) run (form-clock (atClock l clock) f) h)
 
   pub hue-move-goes-on : (run : HueRun) → l .running ≡ Running.HueMove run →
-      answer l (step clock) .lamp .running ≡ Running.HueMove run
+      answer l (Call.Step clock) .lamp .running ≡ Running.HueMove run
   unfolding stepped huePass
   hue-move-goes-on run e =
       step-by l (Running.HueMove run) clock (λ y. y .running ≡ Running.HueMove run) e accepted (λ f g. refl)
 
   -- MoveSaturation
   pub shown-saturation-move : (run : SaturationRun) → l .running ≡ Running.SaturationMove run → run .saturation ≤ 254 →
-      answer l (step clock) .lamp .color .saturation
+      answer l (Call.Step clock) .lamp .color .saturation
       ≡ moveTo (run .task .direction) 0 saturationMaximum (stepsMade (run .task .rate) (clock - run .start))
       (run .saturation)
   unfolding stepped
@@ -141,7 +141,7 @@ module _ (l : Lamp) (clock : ℕ) (accepted : cause l (step clock) ≡ 0) where
   pub shown-mireds-move : (run : ColorTemperatureRun) (mode : MoveModeEnum) (rate : ℕ) →
       l .running ≡ Running.ColorTemperatureMove run → run .rate ≡ signed mode rate → run .lo ≤ run .mireds →
       run .mireds ≤ run .hi →
-      answer l (step clock) .lamp .color .mireds
+      answer l (Call.Step clock) .lamp .color .mireds
       ≡ moveTo mode (run .lo) (run .hi) (stepsMade rate (clock - run .start)) (run .mireds)
   unfolding stepped
   shown-mireds-move run mode rate e r low high =
@@ -151,7 +151,7 @@ module _ (l : Lamp) (clock : ℕ) (accepted : cause l (step clock) ≡ 0) where
 
   -- the colour loop
   pub shown-loop : (run : ColorLoopRun) → l .running ≡ Running.ColorLoop run → run .hue < 65536 →
-      answer l (step clock) .lamp .color .hue
+      answer l (Call.Step clock) .lamp .color .hue
       ≡ hueMoveTo (turnMode (run .task .direction)) enhancedHueMaximum
       (loopTurn (clock - run .start) (run .task .seconds)) (run .hue)
   unfolding stepped

@@ -26,7 +26,7 @@ use Rattle.lamp.specs.Form.{lampForm}
 use Rattle.lamp.proofs.Kept.{form-running, start-ready}
 use Rattle.matter.specs.Rules.{signed}
 use Rattle.lamp.specs.Passes.{Effect, unless, atEnd, saturationDone, miredsDone, hueSaturationPass, temperatureToPass, huePass, saturationPass, temperaturePass, loopPass}
-use Rattle.lamp.specs.Typed.{Call, start, step}
+use Rattle.lamp.specs.declared.Call.{Call}
 use Rattle.commands.specs.Answers.{cause, answer, granted}
 use Rattle.commands.proofs.Kept.{answer-both, granted-ready}
 use Rattle.conformance.specs.Started.{Ran, began, went, Lasts, saved}
@@ -98,36 +98,36 @@ pub granted-is : (l : Lamp) (x : Call) → cause l x ≡ 0 → answer l x ≡ gr
 granted-is l x z = answer-both l (λ a. a ≡ granted l x) x (λ e. refl) (λ n. absurd (n z))
 
 -- what holds of a lamp in form that begins a task in form holds after an accepted start
-pub start-by : (m : Lamp) (task : Task) (clock : ℕ) (P : Lamp → Type 0) → cause m (start task clock) ≡ 0 →
+pub start-by : (m : Lamp) (task : Task) (clock : ℕ) (P : Lamp → Type 0) → cause m (Call.Start task clock) ≡ 0 →
     (lampForm (atClock m clock) ≡ true → taskForm task ≡ true → P (started (atClock m clock) task .lamp)) →
-    P (answer m (start task clock) .lamp)
+    P (answer m (Call.Start task clock) .lamp)
 unfolding cause
 start-by m task clock P z h =
     let f = start-ready m clock task z in
-    answer-both m (λ a. P (a .lamp)) (start task clock) (λ e. h (f .0) (f .1)) (λ n. absurd (n z))
+    answer-both m (λ a. P (a .lamp)) (Call.Start task clock) (λ e. h (f .0) (f .1)) (λ n. absurd (n z))
 
 -- and of one that makes a pass of what runs, in form too, after an accepted step
-pub step-by : (x : Lamp) (run : Running) (clock : ℕ) (P : Lamp → Type 0) → x .running ≡ run → cause x (step clock) ≡ 0 →
+pub step-by : (x : Lamp) (run : Running) (clock : ℕ) (P : Lamp → Type 0) → x .running ≡ run → cause x (Call.Step clock) ≡ 0 →
     (lampForm (atClock x clock) ≡ true → runningForm run (x .bounds) clock ≡ true →
     P (stepped (atClock x clock) run .lamp)) →
-    P (answer x (step clock) .lamp)
+    P (answer x (Call.Step clock) .lamp)
 step-by x run clock P e z h =
-    let f : lampForm (atClock x clock) ≡ true = granted-ready x (step clock) z in
+    let f : lampForm (atClock x clock) ≡ true = granted-ready x (Call.Step clock) z in
     let g : runningForm run (x .bounds) clock ≡ true =
     subst (λ (r : Running). runningForm r (x .bounds) clock ≡ true) e (form-running (atClock x clock) f)
     in
-    answer-both x (λ a. P (a .lamp)) (step clock)
+    answer-both x (λ a. P (a .lamp)) (Call.Step clock)
     (λ k. subst (λ (r : Running). P (stepped (atClock x clock) r .lamp)) (sym e) (h f g))
     (λ k. absurd (k z))
 
 -- an accepted start saves this, or is done at once
-pub start-saves : (m : Lamp) (task : Task) (clock : ℕ) → cause m (start task clock) ≡ 0 →
-    OnOrIdle (saved m task clock) (answer m (start task clock) .lamp .running)
+pub start-saves : (m : Lamp) (task : Task) (clock : ℕ) → cause m (Call.Start task clock) ≡ 0 →
+    OnOrIdle (saved m task clock) (answer m (Call.Start task clock) .lamp .running)
 start-saves m task clock z =
     start-by m task clock (λ y. OnOrIdle (saved m task clock) (y .running)) z (λ f t. started-so m clock task t)
 
 -- a lamp whose step is accepted runs something
-step-runs : (x : Lamp) (run : Running) (clock : ℕ) → OnOrIdle run (x .running) → cause x (step clock) ≡ 0 →
+step-runs : (x : Lamp) (run : Running) (clock : ℕ) → OnOrIdle run (x .running) → cause x (Call.Step clock) ≡ 0 →
     x .running ≡ run
 step-runs x run clock (inl e) z = e
 step-runs x run clock (inr e) z = by (lampForm x) refl
@@ -146,7 +146,7 @@ module _ (m : Lamp) (task : Task) (begun : ℕ) where
       (λ f g. stepped-so (atClock x clock) (saved m task begun) on)
 
   -- and what was saved, where it takes another step
-  pub ran-runs : (n : Lamp) (clock : ℕ) → Ran m task begun n → cause n (step clock) ≡ 0 →
+  pub ran-runs : (n : Lamp) (clock : ℕ) → Ran m task begun n → cause n (Call.Step clock) ≡ 0 →
       n .running ≡ saved m task begun
   ran-runs n clock r z = step-runs n (saved m task begun) clock (ran-saves n r) z
 
@@ -168,5 +168,5 @@ idle-done false run r e = absurd (true≢false (sym r ∙ ap runs e))
 
 -- the lamp was in form
 pub ran-form : {m : Lamp} {task : Task} {begun : ℕ} {n : Lamp} → Ran m task begun n → lampForm (atClock m begun) ≡ true
-ran-form {m} {task} {begun} (began z) = granted-ready m (start task begun) z
+ran-form {m} {task} {begun} (began z) = granted-ready m (Call.Start task begun) z
 ran-form (went clock r z) = ran-form r

@@ -31,7 +31,7 @@ use Rattle.lamp.specs.Answers.{atClock, formOrClock}
 use Rattle.matter.specs.Bounds.{lower, upper}
 use Rattle.lamp.specs.Form.{lampForm}
 use Rattle.lamp.proofs.Kept.{form-color, no-cause}
-use Rattle.lamp.specs.Typed.{command}
+use Rattle.lamp.specs.declared.Call.{Call}
 use Rattle.commands.specs.Answers.{allowed, commandCause, afterClock, cause, answer}
 use Rattle.commands.specs.Commands.{causeIf, stopMode, numberCause, asked, lo, hi, stored, temperatureTask, stepWay, commandEffect}
 use Rattle.commands.proofs.Kept.{answer-both, granted-ready}
@@ -330,7 +330,7 @@ module _ (l : Lamp) (formed : lampForm l ≡ true) (hued : l .color .hue < 65536
   does (Command.StopMoveStep options) v = absurd (true≢false (sym v))
 
 -- an accepted command has no cause of its own numbers
-command-fields : (l : Lamp) (c : Command) (onOff : OnOff) (clock : ℕ) → cause l (command c onOff clock) ≡ 0 →
+command-fields : (l : Lamp) (c : Command) (onOff : OnOff) (clock : ℕ) → cause l (Call.Command c onOff clock) ≡ 0 →
     stopMode c ≡ false → numberCause c ≡ 0
 unfolding cause commandCause
 command-fields l c onOff clock z s =
@@ -338,16 +338,16 @@ command-fields l c onOff clock z s =
 
 -- an accepted command with leave to run, in no Stop mode, does what the text asks
 pub receipt-agrees : (l : Lamp) (c : Command) (onOff : OnOff) (clock : ℕ) → l .color .hue < 65536 → TypedCommand c →
-    moves c ≡ true → cause l (command c onOff clock) ≡ 0 → allowed l c onOff ≡ true → stopMode c ≡ false →
-    Gives l c (answer l (command c onOff clock) .task)
+    moves c ≡ true → cause l (Call.Command c onOff clock) ≡ 0 → allowed l c onOff ≡ true → stopMode c ≡ false →
+    Gives l c (answer l (Call.Command c onOff clock) .task)
 receipt-agrees l c onOff clock h t v z a s =
     gives _ refl
-    (answer-both l (λ r. Does (l .bounds) (l .color) c (r .task)) (command c onOff clock)
-    (λ e. rw (s, a) (does (atClock l clock) (granted-ready l (command c onOff clock) z) h c v t
+    (answer-both l (λ r. Does (l .bounds) (l .color) c (r .task)) (Call.Command c onOff clock)
+    (λ e. rw (s, a) (does (atClock l clock) (granted-ready l (Call.Command c onOff clock) z) h c v t
     (command-fields l c onOff clock z s)))
     (λ k. absurd (k z)))
   where
-    gives : (given : GivenTask) → answer l (command c onOff clock) .task ≡ given →
+    gives : (given : GivenTask) → answer l (Call.Command c onOff clock) .task ≡ given →
         Does (l .bounds) (l .color) c given → Gives l c given
     gives GivenTask.Nothing e d = absurd d
     gives (GivenTask.Given task) e d =

@@ -35,7 +35,7 @@ use Rattle.lamp.specs.Answers.{atClock}
 use Rattle.lamp.specs.Calls.{done, stepped}
 use Rattle.matter.specs.Rules.{signed}
 use Rattle.lamp.specs.Passes.{Effect, unless, atEnd, hueNow, hueMoved, hueMovedTold, saturationNow, saturationMoved, saturationMovedTold, leftWritten, miredsNow, saturationDone, miredsDone, hueSaturationPass, temperatureToPass, huePass, saturationPass, temperaturePass, loopPass}
-use Rattle.lamp.specs.Typed.{step}
+use Rattle.lamp.specs.declared.Call.{Call}
 use Rattle.commands.specs.Answers.{cause, answer}
 use Rattle.conformance.proofs.SettersSet.{hue-is-set, saturation-is-set, mireds-is-set}
 use Rattle.conformance.proofs.Ran.{granted-is}
@@ -352,29 +352,29 @@ hue-leaves-stamp c (HueDelta.By way) first p enhanced clock =
           (λ (x : Color). x .stamps .saturation ≡ c .stamps .saturation) t c _ (λ e. refl) (λ e. refl),
     )
 
-module _ (l : Lamp) (clock : ℕ) (accepted : cause l (step clock) ≡ 0) where
+module _ (l : Lamp) (clock : ℕ) (accepted : cause l (Call.Step clock) ≡ 0) where
   abbrev on : Lamp
   on = atClock l clock
 
-  answer-is : (r : Running) → l .running ≡ r → answer l (step clock) ≡ done (stepped on r)
-  answer-is r e = granted-is l (step clock) accepted ∙ ap (λ (x : Running). done (stepped on x)) e
+  answer-is : (r : Running) → l .running ≡ r → answer l (Call.Step clock) ≡ done (stepped on r)
+  answer-is r e = granted-is l (Call.Step clock) accepted ∙ ap (λ (x : Running). done (stepped on x)) e
 
   -- a pass that tells these of the number, and besides nothing of the notice
   reported-by : (n : ℕ) (number stamp : Color → ℕ) (new : ℕ) (end : Bool) (e : Effect) (its rest : List ℕ) →
-      answer l (step clock) ≡ done e → number (e .lamp .color) ≡ new → not (runs (e .lamp .running)) ≡ end →
+      answer l (Call.Step clock) ≡ done e → number (e .lamp .color) ≡ new → not (runs (e .lamp .running)) ≡ end →
       e .told ≡ its ++ rest → eqb n 0 ≡ false → tells n rest ≡ false →
       ToldOf n its (number (l .color)) new (stamp (l .color)) clock end →
-      Reported n number stamp l clock (answer l (step clock))
+      Reported n number stamp l clock (answer l (Call.Step clock))
   reported-by n number stamp new end e its rest is set over list z none told =
       subst (Reported n number stamp l clock) (sym is)
       (rw (set, over) (reported-as n (filled (e .told)) _ new _ clock end
       (ap (λ (x : List ℕ). tells n (filled x)) list ∙ in-places n z (its ++ rest) ∙ but-for n its rest none ∙ told)))
 
   -- a pass of the hue alone, which does not end
-  hue-alone : (enhanced : Bool) (new : ℕ) (e : Effect) → answer l (step clock) ≡ done e → e .lamp .color .hue ≡ new →
+  hue-alone : (enhanced : Bool) (new : ℕ) (e : Effect) → answer l (Call.Step clock) ≡ done e → e .lamp .color .hue ≡ new →
       not (runs (e .lamp .running)) ≡ false →
       e .told ≡ hueTold (l .color) new false enhanced clock (l .looping .active) ++ (deviceHueSaturation ∷ []) →
-      (n : ℕ) → HueNotice n enhanced → Reported n (λ c. c .hue) (λ c. c .stamps .hue) l clock (answer l (step clock))
+      (n : ℕ) → HueNotice n enhanced → Reported n (λ c. c .hue) (λ c. c .stamps .hue) l clock (answer l (Call.Step clock))
   hue-alone enhanced new e is set over list n h =
       let (z, device, time, others, dirty) = apart-from h in
       reported-by n (λ c. c .hue) (λ c. c .stamps .hue) new false e
@@ -386,7 +386,7 @@ module _ (l : Lamp) (clock : ℕ) (accepted : cause l (step clock) ≡ 0) where
   pub hue-to-reported : (run : HueSaturationRun) (way : ℤ) → l .running ≡ Running.HueSaturationMoveTo run →
       run .task .delta ≡ HueDelta.By way →
       (n : ℕ) → HueNotice n (run .task .enhanced) →
-      Reported n (λ c. c .hue) (λ c. c .stamps .hue) l clock (answer l (step clock))
+      Reported n (λ c. c .hue) (λ c. c .stamps .hue) l clock (answer l (Call.Step clock))
   unfolding stepped hueSaturationPass hueTold
   hue-to-reported run way e d n h =
       let p : ℕ = permilleOf (clock - run .start) (run .task .ms) in
@@ -411,7 +411,7 @@ module _ (l : Lamp) (clock : ℕ) (accepted : cause l (step clock) ≡ 0) where
 
   pub hue-move-reported : (run : HueRun) → l .running ≡ Running.HueMove run →
       (n : ℕ) → HueNotice n (run .task .enhanced) →
-      Reported n (λ c. c .hue) (λ c. c .stamps .hue) l clock (answer l (step clock))
+      Reported n (λ c. c .hue) (λ c. c .stamps .hue) l clock (answer l (Call.Step clock))
   unfolding stepped huePass hueTold
   hue-move-reported run e n h =
       let now : ℕ = movedHue (run .hue) (wayAtRate (signed (run .task .direction) (run .task .rate)) (clock - run .start)) in
@@ -419,7 +419,7 @@ module _ (l : Lamp) (clock : ℕ) (accepted : cause l (step clock) ≡ 0) where
       (hue-is-set (l .color) now false (run .task .enhanced) clock) refl refl n h
 
   pub loop-reported : (run : ColorLoopRun) → l .running ≡ Running.ColorLoop run →
-      (n : ℕ) → HueNotice n true → Reported n (λ c. c .hue) (λ c. c .stamps .hue) l clock (answer l (step clock))
+      (n : ℕ) → HueNotice n true → Reported n (λ c. c .hue) (λ c. c .stamps .hue) l clock (answer l (Call.Step clock))
   unfolding stepped loopPass hueTold
   loop-reported run e n h =
       let now : ℕ = movedHue (run .hue) (loopWay (run .task .direction) (clock - run .start) (run .task .seconds)) in
@@ -429,7 +429,7 @@ module _ (l : Lamp) (clock : ℕ) (accepted : cause l (step clock) ≡ 0) where
   -- CurrentSaturation: of a move to a saturation, and of a move at a rate
   pub saturation-to-reported : (run : HueSaturationRun) (target : ℕ) → l .running ≡ Running.HueSaturationMoveTo run →
       run .task .saturation ≡ TargetSaturation.To target →
-      Reported CurrentSaturation (λ c. c .saturation) (λ c. c .stamps .saturation) l clock (answer l (step clock))
+      Reported CurrentSaturation (λ c. c .saturation) (λ c. c .stamps .saturation) l clock (answer l (Call.Step clock))
   unfolding stepped hueSaturationPass saturationTold
   saturation-to-reported run target e t =
       let p : ℕ = permilleOf (clock - run .start) (run .task .ms) in
@@ -458,7 +458,7 @@ module _ (l : Lamp) (clock : ℕ) (accepted : cause l (step clock) ≡ 0) where
       ∙ ap (λ (x : ℕ). not (same (l .color .saturation) now (atEnd p)) && due (atEnd p) x clock) stamp))
 
   pub saturation-move-reported : (run : SaturationRun) → l .running ≡ Running.SaturationMove run →
-      Reported CurrentSaturation (λ c. c .saturation) (λ c. c .stamps .saturation) l clock (answer l (step clock))
+      Reported CurrentSaturation (λ c. c .saturation) (λ c. c .stamps .saturation) l clock (answer l (Call.Step clock))
   unfolding stepped saturationPass saturationTold
   saturation-move-reported run e =
       let now : ℕ = broughtWithin 0 saturationLimit (run .saturation) (wayAtRate (signed (run .task .direction) (run .task .rate)) (clock - run .start)) in
@@ -471,7 +471,7 @@ module _ (l : Lamp) (clock : ℕ) (accepted : cause l (step clock) ≡ 0) where
 
   -- ColorTemperatureMireds: of a move to mireds, and of a move at a rate
   pub mireds-to-reported : (run : ColorTemperatureToRun) → l .running ≡ Running.ColorTemperatureMoveTo run →
-      Reported ColorTemperatureMireds (λ c. c .mireds) (λ c. c .stamps .mireds) l clock (answer l (step clock))
+      Reported ColorTemperatureMireds (λ c. c .mireds) (λ c. c .stamps .mireds) l clock (answer l (Call.Step clock))
   unfolding stepped temperatureToPass miredsTold
   mireds-to-reported run e =
       let p : ℕ = permilleOf (clock - run .start) (run .task .ms) in
@@ -486,7 +486,7 @@ module _ (l : Lamp) (clock : ℕ) (accepted : cause l (step clock) ≡ 0) where
       (no-time ColorTemperatureMireds refl left) (mireds-told (l .color) now (atEnd p) clock (l .looping .active))
 
   pub mireds-move-reported : (run : ColorTemperatureRun) → l .running ≡ Running.ColorTemperatureMove run →
-      Reported ColorTemperatureMireds (λ c. c .mireds) (λ c. c .stamps .mireds) l clock (answer l (step clock))
+      Reported ColorTemperatureMireds (λ c. c .mireds) (λ c. c .stamps .mireds) l clock (answer l (Call.Step clock))
   unfolding stepped temperaturePass miredsTold
   mireds-move-reported run e =
       let now : ℕ = broughtWithin (run .lo) (run .hi) (run .mireds) (wayAtRate (run .rate) (clock - run .start)) in

@@ -35,7 +35,7 @@ use Rattle.lamp.specs.Calls.{started, stepped, hueSaturationStart, temperatureT
 use Rattle.lamp.specs.Form.{lampForm}
 use Rattle.lamp.proofs.Kept.{form-color}
 use Rattle.lamp.specs.Passes.{atEnd, unless, hueMoved, saturationMoved, saturationNow, miredsNow, hueNow, remainingSet, hueSaturationPass, temperatureToPass}
-use Rattle.lamp.specs.Typed.{start, step}
+use Rattle.lamp.specs.declared.Call.{Call}
 use Rattle.commands.specs.Answers.{cause, answer}
 use Rattle.conformance.specs.Limits.{Closest}
 use Rattle.conformance.proofs.LimitsAgree.{closest-agrees, closest-only}
@@ -240,18 +240,18 @@ runs-on time elapsed run after formed left runs =
       goesOn = λ h. runs ∙ rw (lt-leb 1000 (permilleOf elapsed time) (permille-short elapsed time h));
     }
 
-module _ (l : Lamp) (clock : ℕ) (accepted : cause l (step clock) ≡ 0) where
+module _ (l : Lamp) (clock : ℕ) (accepted : cause l (Call.Step clock) ≡ 0) where
   -- of a move to a hue, a saturation or both
   module _ (run : HueSaturationRun) (running : l .running ≡ Running.HueSaturationMoveTo run) where
     pub step-shows : ShowsMoveTo (run .task) (run .hue) (run .saturation) (clock - run .start) (l .color)
-        (answer l (step clock) .lamp .color)
+        (answer l (Call.Step clock) .lamp .color)
     step-shows =
         step-by l _ clock
         (λ y. ShowsMoveTo (run .task) (run .hue) (run .saturation) (clock - run .start) (l .color) (y .color))
         running accepted (λ f g. stepped-shows (atClock l clock) (clock - run .start) run g refl)
 
     pub step-runs-on : RunsOn (run .task .ms) (clock - run .start) (Running.HueSaturationMoveTo run)
-        (answer l (step clock) .lamp)
+        (answer l (Call.Step clock) .lamp)
     unfolding stepped hueSaturationPass runningForm moveToForm
     step-runs-on =
         step-by l _ clock (RunsOn (run .task .ms) (clock - run .start) (Running.HueSaturationMoveTo run)) running
@@ -260,14 +260,14 @@ module _ (l : Lamp) (clock : ℕ) (accepted : cause l (step clock) ≡ 0) where
   -- of a move to mireds
   module _ (run : ColorTemperatureToRun) (running : l .running ≡ Running.ColorTemperatureMoveTo run) where
     pub mireds-step-shows : ShowsMiredsTo (run .mireds) (run .task .target) (clock - run .start) (run .task .ms)
-        (l .color) (answer l (step clock) .lamp .color)
+        (l .color) (answer l (Call.Step clock) .lamp .color)
     mireds-step-shows =
         step-by l _ clock
         (λ y. ShowsMiredsTo (run .mireds) (run .task .target) (clock - run .start) (run .task .ms) (l .color)
         (y .color)) running accepted (λ f g. stepped-shows-mireds (atClock l clock) (clock - run .start) run g refl)
 
     pub mireds-step-runs-on : RunsOn (run .task .ms) (clock - run .start) (Running.ColorTemperatureMoveTo run)
-        (answer l (step clock) .lamp)
+        (answer l (Call.Step clock) .lamp)
     unfolding stepped temperatureToPass runningForm
     mireds-step-runs-on =
         step-by l _ clock (RunsOn (run .task .ms) (clock - run .start) (Running.ColorTemperatureMoveTo run)) running
@@ -377,9 +377,9 @@ module _ (l : Lamp) (clock : ℕ) (formed : lampForm (atClock l clock) ≡ true)
       (closest-agrees (l .bounds .min) (l .bounds .max) target (omega (arith, bounded))) closest
 
 module _ (l : Lamp) (clock : ℕ) where
-  pub start-begins : (task : HueSaturationMoveTo) → cause l (start (Task.HueSaturationMoveTo task) clock) ≡ 0 →
+  pub start-begins : (task : HueSaturationMoveTo) → cause l (Call.Start (Task.HueSaturationMoveTo task) clock) ≡ 0 →
       Begins (task .ms) (saved l (Task.HueSaturationMoveTo task) clock) (Nowhere task (l .color .saturation))
-      (answer l (start (Task.HueSaturationMoveTo task) clock) .lamp)
+      (answer l (Call.Start (Task.HueSaturationMoveTo task) clock) .lamp)
   unfolding started hueSaturationStart hueSaturationPass taskForm moveToForm
   start-begins task accepted =
       let first : ℕ = l .color .saturation in
@@ -390,10 +390,10 @@ module _ (l : Lamp) (clock : ℕ) where
 
   -- of a move to mireds, to the closest that the bounds allow
   pub mireds-start-begins : (task : ColorTemperatureMoveTo) →
-      cause l (start (Task.ColorTemperatureMoveTo task) clock) ≡ 0 →
+      cause l (Call.Start (Task.ColorTemperatureMoveTo task) clock) ≡ 0 →
       (to : ℕ) → Closest (l .bounds .min) (l .bounds .max) (task .target) to →
       Begins (task .ms) (saved l (Task.ColorTemperatureMoveTo task) clock) (to ≡ l .color .mireds)
-      (answer l (start (Task.ColorTemperatureMoveTo task) clock) .lamp)
+      (answer l (Call.Start (Task.ColorTemperatureMoveTo task) clock) .lamp)
   unfolding started temperatureToStart temperatureToPass taskForm
   mireds-start-begins task accepted to closest =
       start-by l (Task.ColorTemperatureMoveTo task) clock
@@ -473,8 +473,8 @@ module _ (m : Lamp) (begun : ℕ) where
         n r
 
     pub steps-run-on : (n : Lamp) (clock : ℕ) → Ran m (Task.HueSaturationMoveTo task) begun n →
-        cause n (step clock) ≡ 0 →
-        RunsOn (task .ms) (clock - begun) (saved m (Task.HueSaturationMoveTo task) begun) (answer n (step clock) .lamp)
+        cause n (Call.Step clock) ≡ 0 →
+        RunsOn (task .ms) (clock - begun) (saved m (Task.HueSaturationMoveTo task) begun) (answer n (Call.Step clock) .lamp)
     steps-run-on n clock r z = step-runs-on n clock z _ (ran-runs m (Task.HueSaturationMoveTo task) begun n clock r z)
 
   -- of a move to mireds, to the closest that the bounds allow
@@ -516,8 +516,8 @@ module _ (m : Lamp) (begun : ℕ) where
         (closest-is m begun (ran-form r) (task .target) to closest) (clamped-shows n r clock lasts)
 
     pub mireds-steps-run-on : (n : Lamp) (clock : ℕ) → Ran m (Task.ColorTemperatureMoveTo task) begun n →
-        cause n (step clock) ≡ 0 →
+        cause n (Call.Step clock) ≡ 0 →
         RunsOn (task .ms) (clock - begun) (saved m (Task.ColorTemperatureMoveTo task) begun)
-        (answer n (step clock) .lamp)
+        (answer n (Call.Step clock) .lamp)
     mireds-steps-run-on n clock r z =
         mireds-step-runs-on n clock z _ (ran-runs m (Task.ColorTemperatureMoveTo task) begun n clock r z)

@@ -18,7 +18,7 @@ use Rattle.lamp.specs.declared.Lamp.{Lamp}
 use Rattle.lamp.specs.Answers.{atClock}
 use Rattle.lamp.specs.Calls.{haltAnswer, started, hueSaturationStart, startPermille, noHueWay, noSaturationWay}
 use Rattle.lamp.specs.Passes.{unless, atEnd, hueSaturationPass}
-use Rattle.lamp.specs.Typed.{command, halt}
+use Rattle.lamp.specs.declared.Call.{Call}
 use Rattle.commands.specs.Answers.{allowed, cause, answer}
 use Rattle.commands.specs.Commands.{commandEffect}
 use Rattle.commands.proofs.Kept.{answer-both}
@@ -27,39 +27,39 @@ use Rattle.conformance.specs.Stops.{Terminated, NoTimeLeft, turnsAfterSt
 -- StopMoveStep with leave to run asks for a stop (every Stop mode does: `options-passed-by` in OptionsAgree)
 pub stop-asked : (l : Lamp) (options : CommandOptions) (onOff : OnOff) (clock : ℕ) →
     allowed l (Command.StopMoveStep options) onOff ≡ true →
-    cause l (command (Command.StopMoveStep options) onOff clock) ≡ 0 →
-    answer l (command (Command.StopMoveStep options) onOff clock) .task ≡ GivenTask.Given Task.Stop
+    cause l (Call.Command (Command.StopMoveStep options) onOff clock) ≡ 0 →
+    answer l (Call.Command (Command.StopMoveStep options) onOff clock) .task ≡ GivenTask.Given Task.Stop
 unfolding commandEffect
 stop-asked l options onOff clock leave accepted =
     answer-both l (λ (a : Answer). a .task ≡ GivenTask.Given Task.Stop)
-    (command (Command.StopMoveStep options) onOff clock)
+    (Call.Command (Command.StopMoveStep options) onOff clock)
     (λ z. rw leave) (λ n. absurd (n accepted))
 
 -- which is answered by a halt
-module _ (l : Lamp) (clock : ℕ) (accepted : cause l (halt clock) ≡ 0) where
-  pub halt-terminates : Terminated l (answer l (halt clock) .lamp)
+module _ (l : Lamp) (clock : ℕ) (accepted : cause l (Call.Halt clock) ≡ 0) where
+  pub halt-terminates : Terminated l (answer l (Call.Halt clock) .lamp)
   unfolding answer haltAnswer cause
   halt-terminates = record { still = rw accepted; hue = rw accepted; saturation = rw accepted; mireds = rw accepted }
 
   -- "If moving, stop, else ignore the command": where nothing moves, a halt changes nothing but the clock
-  pub halt-ignored : l .running ≡ Running.Idle → answer l (halt clock) .lamp ≡ atClock l clock
+  pub halt-ignored : l .running ≡ Running.Idle → answer l (Call.Halt clock) .lamp ≡ atClock l clock
   unfolding answer haltAnswer cause
   halt-ignored e = rw (accepted, ← e)
 
   -- the remaining time stays as it was, where the text has it 0
-  pub halt-keeps-time : answer l (halt clock) .lamp .remaining ≡ l .remaining
+  pub halt-keeps-time : answer l (Call.Halt clock) .lamp .remaining ≡ l .remaining
   unfolding answer haltAnswer cause
   halt-keeps-time = rw accepted
 
   -- so it is the text's exactly where it was 0
-  pub halt-time-exactly : (NoTimeLeft l → NoTimeLeft (answer l (halt clock) .lamp))
-      × (NoTimeLeft (answer l (halt clock) .lamp) → NoTimeLeft l)
+  pub halt-time-exactly : (NoTimeLeft l → NoTimeLeft (answer l (Call.Halt clock) .lamp))
+      × (NoTimeLeft (answer l (Call.Halt clock) .lamp) → NoTimeLeft l)
   halt-time-exactly =
-      let kept : answer l (halt clock) .lamp .remaining .tenths ≡ l .remaining .tenths = ap (λ r. r .tenths) halt-keeps-time in
+      let kept : answer l (Call.Halt clock) .lamp .remaining .tenths ≡ l .remaining .tenths = ap (λ r. r .tenths) halt-keeps-time in
       (λ e. kept ∙ e, λ e. sym kept ∙ e)
 
   -- the smallest: one tenth left
-  pub halt-time-differs : l .remaining .tenths ≡ 1 → NoTimeLeft (answer l (halt clock) .lamp) → ⊥
+  pub halt-time-differs : l .remaining .tenths ≡ 1 → NoTimeLeft (answer l (Call.Halt clock) .lamp) → ⊥
   halt-time-differs e z = omega (arith, halt-time-exactly .1 z)
 
 -- ---- an active colour loop
@@ -77,12 +77,12 @@ no-turn (Running.ColorLoop run) e = absurd (true≢false e)
 -- the lamp after StopMoveStep and the halt that answers it
 abbrev pub afterStop : Lamp → CommandOptions → OnOff → ℕ → ℕ → Lamp
 afterStop l options onOff clock later =
-    answer (answer l (command (Command.StopMoveStep options) onOff clock) .lamp) (halt later) .lamp
+    answer (answer l (Call.Command (Command.StopMoveStep options) onOff clock) .lamp) (Call.Halt later) .lamp
 
 module _ (l : Lamp) (options : CommandOptions) (onOff : OnOff) (clock later : ℕ)
     (leave : allowed l (Command.StopMoveStep options) onOff ≡ true)
-    (accepted : cause l (command (Command.StopMoveStep options) onOff clock) ≡ 0)
-    (halted : cause (answer l (command (Command.StopMoveStep options) onOff clock) .lamp) (halt later) ≡ 0) where
+    (accepted : cause l (Call.Command (Command.StopMoveStep options) onOff clock) ≡ 0)
+    (halted : cause (answer l (Call.Command (Command.StopMoveStep options) onOff clock) .lamp) (Call.Halt later) ≡ 0) where
   stopped : loopTurns (afterStop l options onOff clock later .running) ≡ false
   stopped = no-turn (afterStop l options onOff clock later .running) (halt-terminates _ later halted .still)
 
@@ -96,7 +96,7 @@ module _ (l : Lamp) (options : CommandOptions) (onOff : OnOff) (clock later : �
   -- loop is active and turns
   pub stop-on-loop-differs : l .looping .active ≡ true → loopTurns (l .running) ≡ true →
       (turnsAfterStop (l .looping .active) (loopTurns (l .running)) ≡ true)
-      × (answer l (command (Command.StopMoveStep options) onOff clock) .task ≡ GivenTask.Given Task.Stop)
+      × (answer l (Call.Command (Command.StopMoveStep options) onOff clock) .task ≡ GivenTask.Given Task.Stop)
       × (loopTurns (afterStop l options onOff clock later .running) ≡ false)
   stop-on-loop-differs e t = (
     ap (λ (active : Bool). turnsAfterStop active (loopTurns (l .running))) e ∙ t,

@@ -8,14 +8,14 @@ use Rattle.tasks.specs.declared.Running.{Running}
 use Rattle.tasks.specs.declared.Task.{Task}
 use Rattle.lamp.specs.declared.Lamp.{Lamp}
 use Rattle.matter.specs.Bounds.{lower, upper}
-use Rattle.lamp.specs.Typed.{start, step}
+use Rattle.lamp.specs.declared.Call.{Call}
 use Rattle.commands.specs.Answers.{cause, answer}
 
 -- a start, and steps after it
 pub data Ran (m : Lamp) (task : Task) (begun : ℕ) : Lamp → Type 0 where
-  began : cause m (start task begun) ≡ 0 → Ran m task begun (answer m (start task begun) .lamp)
-  went : {x : Lamp} (clock : ℕ) → Ran m task begun x → cause x (step clock) ≡ 0 →
-      Ran m task begun (answer x (step clock) .lamp)
+  began : cause m (Call.Start task begun) ≡ 0 → Ran m task begun (answer m (Call.Start task begun) .lamp)
+  went : {x : Lamp} (clock : ℕ) → Ran m task begun x → cause x (Call.Step clock) ≡ 0 →
+      Ran m task begun (answer x (Call.Step clock) .lamp)
 
 -- the clocks at which a lamp shows what it shows: its own, and every later one where nothing runs
 abbrev pub Lasts : Lamp → ℕ → Type 0

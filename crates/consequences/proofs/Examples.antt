@@ -28,7 +28,7 @@ use Rattle.lamp.specs.Answers.{formOrClock}
 use Rattle.lamp.specs.Calls.{hueSaturationStart, started, stepped, startAnswer, stepAnswer, haltAnswer}
 use Rattle.lamp.specs.Form.{lampForm}
 use Rattle.lamp.specs.Passes.{hueSaturationPass}
-use Rattle.lamp.specs.Typed.{command, start, step, halt}
+use Rattle.lamp.specs.declared.Call.{Call}
 use Rattle.commands.specs.Commands.{commandEffect}
 use Rattle.commands.specs.Answers.{answer, commandCause, commandAnswer}
 use Rattle.schedule.specs.Calls.{after, quiet}
@@ -45,7 +45,7 @@ abbrev pub redToCyan : DirectionEnum → Fade
 redToCyan d =
     at5000 (lampAt 0)
     (record { enhanced = false; hue = 128; direction = d; tenths = 4; options = plain })
-    (step 5100 ∷ step 5200 ∷ step 5300 ∷ step 5400 ∷ [])
+    (Call.Step 5100 ∷ Call.Step 5200 ∷ Call.Step 5300 ∷ Call.Step 5400 ∷ [])
 
 -- ---- two lamps
 
@@ -60,7 +60,7 @@ alone =
       clock = 5000;
       between = [];
       start = 5100;
-      calls = step 5200 ∷ step 5450 ∷ step 2_000_000 ∷ [];
+      calls = Call.Step 5200 ∷ Call.Step 5450 ∷ Call.Step 2_000_000 ∷ [];
     }
 
 -- leave to run while off
@@ -72,26 +72,26 @@ abbrev pub among : Fade
 among =
     record {
       lamp = lampAt 60000;
-      before = halt 5000 ∷ step 5000 ∷ [];
+      before = Call.Halt 5000 ∷ Call.Step 5000 ∷ [];
       move = record { enhanced = true; hue = 2560; direction = DirectionEnum.Up; tenths = 10; options = whileOff };
       onOff = OnOff.NoHandler;
       clock = 5050;
-      between = command (Command.MoveToSaturation 100 20 plain) OnOff.On 5060 ∷ [];
+      between = Call.Command (Command.MoveToSaturation 100 20 plain) OnOff.On 5060 ∷ [];
       start = 5100;
       calls =
-          step 5200
+          Call.Step 5200
           -- refused: an earlier clock
-          ∷ step 5000
+          ∷ Call.Step 5000
           -- accepted, and its task is not started
-          ∷ command (Command.MoveToColorTemperature 300 20 plain) OnOff.On 5250
+          ∷ Call.Command (Command.MoveToColorTemperature 300 20 plain) OnOff.On 5250
           -- refused: rate 0
-          ∷ command (Command.MoveHue MoveModeEnum.Up 0 false plain) OnOff.On 5260
-          ∷ step 5450
+          ∷ Call.Command (Command.MoveHue MoveModeEnum.Up 0 false plain) OnOff.On 5260
+          ∷ Call.Step 5450
           -- refused: past the limit
-          ∷ halt 1_099_511_627_777
-          ∷ step 2_000_000
+          ∷ Call.Halt 1_099_511_627_777
+          ∷ Call.Step 2_000_000
           -- refused: idle
-          ∷ step 2_000_100
+          ∷ Call.Step 2_000_100
           ∷ [];
     }
 
@@ -107,10 +107,10 @@ movedTo50 =
       onOff = OnOff.On;
       clock = 5000;
       between =
-          start (Task.HueSaturationMoveTo (record { delta = HueDelta.By (pos 50); saturation = TargetSaturation.Keep; ms = 0; enhanced = true })) 5000
+          Call.Start (Task.HueSaturationMoveTo (record { delta = HueDelta.By (pos 50); saturation = TargetSaturation.Keep; ms = 0; enhanced = true })) 5000
           ∷ [];
       start = 5000;
-      calls = step 5100 ∷ step 5200 ∷ [];
+      calls = Call.Step 5100 ∷ Call.Step 5200 ∷ [];
     }
 
 -- ---- what is asked and shown

@@ -8,7 +8,7 @@ use Rattle.hue.specs.Hue.{movedHue}
 use Rattle.hue.proofs.Laws.{moved-up}
 use Rattle.arc.proofs.Laws.{typed-shown}
 use Rattle.arc.proofs.Examples.{green}
-use Rattle.lamp.specs.Typed.{Call}
+use Rattle.lamp.specs.declared.Call.{Call}
 use Rattle.schedule.specs.Calls.{idle, steps}
 use Rattle.schedule.specs.Fades.{begun, later}
 use Rattle.consequences.specs.Together.{ShowSame}

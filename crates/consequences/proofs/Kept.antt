@@ -5,7 +5,8 @@ use mathlib.Core.List.{List, _++_}
 use mathlib.Core.Path.{_≡_, refl}
 use Rattle.lamp.specs.declared.Lamp.{Lamp}
 use Rattle.lamp.specs.Form.{lampForm}
-use Rattle.lamp.specs.Typed.{Call, TypedLamp, TypedCall}
+use Rattle.lamp.specs.declared.Call.{Call}
+use Rattle.lamp.specs.Typed.{TypedLamp, TypedCall}
 use Rattle.commands.proofs.Kept.{form-kept, typed-kept}
 use Rattle.schedule.specs.Calls.{next, after, TypedCalls}
 use Rattle.schedule.specs.Schedule.{target}

@@ -20,7 +20,7 @@ use Rattle.lamp.specs.declared.Lamp.{Lamp}
 use Rattle.lamp.specs.Answers.{atClock}
 use Rattle.lamp.specs.Calls.{startPermille, fullWritten, started, stepped, hueSaturationStart}
 use Rattle.lamp.specs.Passes.{remainingSet, hueSaturationPass}
-use Rattle.lamp.specs.Typed.{Call, command, start, step, halt}
+use Rattle.lamp.specs.declared.Call.{Call}
 use Rattle.commands.specs.Answers.{isLoopSet}
 use Rattle.commands.proofs.Kept.{quiet-command}
 use Rattle.schedule.specs.Calls.{next, after, accepts, idle, interrupts, quiet}
@@ -76,12 +76,12 @@ module _ (f : Fed) (hue saturation : ℕ) where
   steps-on l clock (inr r) = subst (λ (run : Running). Underway (stepped (atClock l clock) run .lamp)) (sym (r .0)) (inr r)
 
   accepted-on : (l : Lamp) (x : Call) → Underway l → not (interrupts x && accepts l x) ≡ true → accepts l x ≡ true → Underway (next l x)
-  accepted-on l (command c onOff clock) u q a =
+  accepted-on l (Call.Command c onOff clock) u q a =
       let z : isLoopSet c ≡ false = not-true (isLoopSet c) (rw (a, and-true) at q) in
-      rw (quiet-command l c onOff clock z (no-cause l (command c onOff clock) a)) u
-  accepted-on l (start task clock) u q a = never a (not-true (accepts l (start task clock)) q)
-  accepted-on l (step clock) u q a = rw (next, accepted-is l (step clock) a) (steps-on l clock u)
-  accepted-on l (halt clock) u q a = never a (not-true (accepts l (halt clock)) q)
+      rw (quiet-command l c onOff clock z (no-cause l (Call.Command c onOff clock) a)) u
+  accepted-on l (Call.Start task clock) u q a = never a (not-true (accepts l (Call.Start task clock)) q)
+  accepted-on l (Call.Step clock) u q a = rw (next, accepted-is l (Call.Step clock) a) (steps-on l clock u)
+  accepted-on l (Call.Halt clock) u q a = never a (not-true (accepts l (Call.Halt clock)) q)
 
   -- a quiet list
   goes-on : (xs : List Call) (l : Lamp) → Underway l → quiet l xs ≡ true → Underway (after l xs)

@@ -8,7 +8,7 @@ use lib.ListN.{length, take}
 use lib.Seq.{take-at}
 use Rattle.lamp.specs.declared.Lamp.{Lamp}
 use Rattle.lamp.specs.declared.Answer.{Answer}
-use Rattle.lamp.specs.Typed.{Call, command, start, step, halt}
+use Rattle.lamp.specs.declared.Call.{Call}
 use Rattle.commands.specs.Answers.{clockOf}
 use Rattle.schedule.specs.Calls.{next, after, accepts, acceptedStep, steps}
 use Rattle.schedule.specs.Schedule.{Fed, Shown, shownAt, target, takes, followed, scheduledFrom, scheduled}
@@ -46,10 +46,10 @@ module _ (f : Fed) (s : Shown) (c : ℕ) (m : At f c s) where
   stepped false clock = m
 
   one : (l : Lamp) (x : Call) → accepts l x ≡ takes f s x → At f (cond (acceptedStep l x) (clockOf x) c) (followed f s x)
-  one l (command k onOff clock) e = other (takes f s (command k onOff clock)) clock
-  one l (start task clock) e = other (takes f s (start task clock)) clock
-  one l (step clock) e = rw e (stepped (takes f s (step clock)) clock)
-  one l (halt clock) e = other (takes f s (halt clock)) clock
+  one l (Call.Command k onOff clock) e = other (takes f s (Call.Command k onOff clock)) clock
+  one l (Call.Start task clock) e = other (takes f s (Call.Start task clock)) clock
+  one l (Call.Step clock) e = rw e (stepped (takes f s (Call.Step clock)) clock)
+  one l (Call.Halt clock) e = other (takes f s (Call.Halt clock)) clock
 
 -- all along the calls that follow the start: `ys` are behind, and left the lamp `l` and the schedule `s`
 module _ (a : Answer) (f : Fed) (calls : List Call) (k : KeptFade a f calls) where

@@ -6,7 +6,7 @@ use mathlib.Core.List.{List, _++_}
 use mathlib.Core.Path.{_≡_}
 use Rattle.arc.specs.declared.Band.{Band}
 use Rattle.arc.specs.Arc.{OnArc, inBand, TypedBand, passesThrough}
-use Rattle.lamp.specs.Typed.{Call}
+use Rattle.lamp.specs.declared.Call.{Call}
 use Rattle.schedule.specs.Schedule.{target, wayFrom}
 use Rattle.schedule.specs.Fades.{Fade, found, later, Premised}
 

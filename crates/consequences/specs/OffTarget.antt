@@ -6,7 +6,7 @@ use mathlib.Core.List.{List, _++_}
 use mathlib.Core.Path.{_≡_}
 use lib.IntN.{ℤ, pos, _-ℤ_}
 use Rattle.hue.specs.Hue.{movedHue}
-use Rattle.lamp.specs.Typed.{Call}
+use Rattle.lamp.specs.declared.Call.{Call}
 use Rattle.schedule.specs.Calls.{idle}
 use Rattle.schedule.specs.Schedule.{target}
 use Rattle.schedule.specs.Fades.{Fade, found, ready, later, PremisedButHue}

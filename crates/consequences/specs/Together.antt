@@ -6,7 +6,7 @@ use mathlib.Core.Bool.{cond}
 use mathlib.Core.List.{List, [], _∷_, _++_}
 use mathlib.Core.Path.{_≡_}
 use Rattle.lamp.specs.declared.Lamp.{Lamp}
-use Rattle.lamp.specs.Typed.{Call}
+use Rattle.lamp.specs.declared.Call.{Call}
 use Rattle.commands.specs.Answers.{clockOf}
 use Rattle.schedule.specs.Calls.{next, idle, acceptedStep, steps}
 use Rattle.schedule.specs.Schedule.{target}

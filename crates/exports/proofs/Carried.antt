@@ -25,7 +25,8 @@ use Rattle.lamp.specs.Answers.{refusal}
 use Rattle.lamp.specs.Form.{lampForm}
 use Rattle.lamp.proofs.Laws.{fresh-form}
 use Rattle.lamp.specs.Making.{freshLamp, making}
-use Rattle.lamp.specs.Typed.{Call, command, start, step, halt, TypedLamp, TypedCall}
+use Rattle.lamp.specs.declared.Call.{Call}
+use Rattle.lamp.specs.Typed.{TypedLamp, TypedCall}
 use Rattle.lamp.proofs.TypedKept.{typed-of}
 use Rattle.commands.specs.Answers.{answer}
 use Rattle.commands.proofs.Kept.{number-is-cause, form-kept, typed-kept}

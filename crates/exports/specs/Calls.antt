@@ -10,7 +10,7 @@ use Rattle.matter.specs.declared.commands.CommandOptions.{CommandOptions}
 use Rattle.lamp.specs.declared.Lamp.{Lamp}
 use Rattle.lamp.specs.declared.Answer.{Answer}
 use Rattle.lamp.specs.Answers.{refusal}
-use Rattle.lamp.specs.Typed.{Call, command, start, step, halt}
+use Rattle.lamp.specs.declared.Call.{Call}
 use Rattle.commands.specs.Answers.{answer}
 use Rattle.exports.specs.declared.moves.TaskNumbers.{TaskNumbers}
 use Rattle.exports.specs.declared.calls.CommandNumbers.{CommandNumbers}
@@ -102,9 +102,9 @@ startNumbers w = record { kind = at w 3; a = at w 4; b = at w 5; c = at w 6; d =
 
 unfoldable pub callOf : List ℕ → Call
 callOf w =
-    cond (eqb (at w 0) K.step) (step (at w 1))
-    (cond (eqb (at w 0) K.start) (start (taskOf (startNumbers w)) (at w 1))
-    (cond (eqb (at w 0) K.halt) (halt (at w 1)) (command (commandOf (commandNumbers w)) (onOffRead (at w 2)) (at w 1))))
+    cond (eqb (at w 0) K.step) (Call.Step (at w 1))
+    (cond (eqb (at w 0) K.start) (Call.Start (taskOf (startNumbers w)) (at w 1))
+    (cond (eqb (at w 0) K.halt) (Call.Halt (at w 1)) (Call.Command (commandOf (commandNumbers w)) (onOffRead (at w 2)) (at w 1))))
 
 -- words that are a call: ten of them, with a kind and enums' numbers that exist, and each within its field
 unfoldable pub callKnown : List ℕ → Bool

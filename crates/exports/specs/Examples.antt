@@ -23,7 +23,7 @@ use Rattle.tasks.specs.declared.Running.{Running}
 use Rattle.tasks.specs.declared.Task.{Task}
 use Rattle.lamp.specs.declared.Answer.{Answer}
 use Rattle.lamp.specs.declared.Lamp.{Lamp}
-use Rattle.lamp.specs.Typed.{Call, command, start, step, halt}
+use Rattle.lamp.specs.declared.Call.{Call}
 use Rattle.exports.specs.Enums.{directionRead, moveModeRead, stepModeRead, loopActionRead, loopDirectionRead, colorModeRead, enhancedModeRead, onOffRead, directionKnown, moveModeKnown, stepModeKnown, loopActionKnown, loopDirectionKnown, colorModeKnown, enhancedModeKnown, onOffKnown}
 use Rattle.exports.specs.Moves.{recordNumbers}
 use Rattle.exports.specs.Lamps.{recordWords, lampWords}
@@ -83,71 +83,71 @@ startWords kind a b c d e f = 256 ∷ 5000 ∷ 0 ∷ kind ∷ a ∷ b ∷ c ∷ 
 
 pub record CommandWords : Type 0 where
   pub move-to-hue :
-      Reads (words 0 1 128 3 20 0 0) (command (Command.MoveToHue 128 DirectionEnum.Down 20 options) OnOff.On 5000)
-  pub move-hue : Reads (words 1 0 3 50 1 0 0) (command (Command.MoveHue MoveModeEnum.Down 50 true options) OnOff.Off 5000)
-  pub step-hue : Reads (words 2 2 1 7 20 0 0) (command (Command.StepHue StepModeEnum.Up 7 20 options) OnOff.NoHandler 5000)
-  pub move-to-saturation : Reads (words 3 1 200 20 0 0 0) (command (Command.MoveToSaturation 200 20 options) OnOff.On 5000)
+      Reads (words 0 1 128 3 20 0 0) (Call.Command (Command.MoveToHue 128 DirectionEnum.Down 20 options) OnOff.On 5000)
+  pub move-hue : Reads (words 1 0 3 50 1 0 0) (Call.Command (Command.MoveHue MoveModeEnum.Down 50 true options) OnOff.Off 5000)
+  pub step-hue : Reads (words 2 2 1 7 20 0 0) (Call.Command (Command.StepHue StepModeEnum.Up 7 20 options) OnOff.NoHandler 5000)
+  pub move-to-saturation : Reads (words 3 1 200 20 0 0 0) (Call.Command (Command.MoveToSaturation 200 20 options) OnOff.On 5000)
   pub move-saturation :
-      Reads (words 4 1 1 9 0 0 0) (command (Command.MoveSaturation MoveModeEnum.Up 9 options) OnOff.On 5000)
+      Reads (words 4 1 1 9 0 0 0) (Call.Command (Command.MoveSaturation MoveModeEnum.Up 9 options) OnOff.On 5000)
   pub step-saturation :
-      Reads (words 5 1 3 9 20 0 0) (command (Command.StepSaturation StepModeEnum.Down 9 20 options) OnOff.On 5000)
+      Reads (words 5 1 3 9 20 0 0) (Call.Command (Command.StepSaturation StepModeEnum.Down 9 20 options) OnOff.On 5000)
   pub move-to-hue-and-saturation :
-      Reads (words 6 1 128 200 20 1 40000) (command (Command.MoveToHueAndSaturation 128 200 20 true 40000 options) OnOff.On 5000)
+      Reads (words 6 1 128 200 20 1 40000) (Call.Command (Command.MoveToHueAndSaturation 128 200 20 true 40000 options) OnOff.On 5000)
   pub move-to-color-temperature :
-      Reads (words 10 1 300 20 0 0 0) (command (Command.MoveToColorTemperature 300 20 options) OnOff.On 5000)
+      Reads (words 10 1 300 20 0 0 0) (Call.Command (Command.MoveToColorTemperature 300 20 options) OnOff.On 5000)
   pub enhanced-move-to-hue :
-      Reads (words 64 1 40000 1 20 0 0) (command (Command.EnhancedMoveToHue 40000 DirectionEnum.Longest 20 options) OnOff.On 5000)
+      Reads (words 64 1 40000 1 20 0 0) (Call.Command (Command.EnhancedMoveToHue 40000 DirectionEnum.Longest 20 options) OnOff.On 5000)
   pub enhanced-move-hue :
-      Reads (words 65 1 0 700 0 0 0) (command (Command.EnhancedMoveHue MoveModeEnum.Stop 700 options) OnOff.On 5000)
+      Reads (words 65 1 0 700 0 0 0) (Call.Command (Command.EnhancedMoveHue MoveModeEnum.Stop 700 options) OnOff.On 5000)
   pub enhanced-step-hue :
-      Reads (words 66 1 3 700 20 0 0) (command (Command.EnhancedStepHue StepModeEnum.Down 700 20 options) OnOff.On 5000)
+      Reads (words 66 1 3 700 20 0 0) (Call.Command (Command.EnhancedStepHue StepModeEnum.Down 700 20 options) OnOff.On 5000)
   pub color-loop-set :
       Reads (words 68 1 15 2 0 33 1234)
-      (command
+      (Call.Command
       (Command.ColorLoopSet 15 ColorLoopActionEnum.ActivateFromEnhancedCurrentHue ColorLoopDirectionEnum.Decrement 33 1234 options)
       OnOff.On 5000)
-  pub stop-move-step : Reads (words 71 1 0 0 0 0 0) (command (Command.StopMoveStep options) OnOff.On 5000)
+  pub stop-move-step : Reads (words 71 1 0 0 0 0 0) (Call.Command (Command.StopMoveStep options) OnOff.On 5000)
   pub move-color-temperature :
-      Reads (words 75 1 1 100 160 400 0) (command (Command.MoveColorTemperature MoveModeEnum.Up 100 160 400 options) OnOff.On 5000)
+      Reads (words 75 1 1 100 160 400 0) (Call.Command (Command.MoveColorTemperature MoveModeEnum.Up 100 160 400 options) OnOff.On 5000)
   pub step-color-temperature :
       Reads (words 76 1 1 30 20 160 400)
-      (command (Command.StepColorTemperature StepModeEnum.Up 30 20 160 400 options) OnOff.On 5000)
+      (Call.Command (Command.StepColorTemperature StepModeEnum.Up 30 20 160 400 options) OnOff.On 5000)
 
 -- down 2000 and to saturation 250 in 7.7 s, enhanced
 abbrev pub downAndTo : HueSaturationMoveTo
 downAndTo = record { delta = HueDelta.By (negℤ (pos 2000)); saturation = TargetSaturation.To 250; ms = 7700; enhanced = true }
 
 pub record StartWords : Type 0 where
-  pub move-to : Reads (startWords 1 2 2000 1 250 7700 1) (start (Task.HueSaturationMoveTo downAndTo) 5000)
+  pub move-to : Reads (startWords 1 2 2000 1 250 7700 1) (Call.Start (Task.HueSaturationMoveTo downAndTo) 5000)
   -- no saturation, and no hue
   pub hue-alone :
       Reads (startWords 1 1 2000 0 0 7700 0)
-      (start
+      (Call.Start
       (Task.HueSaturationMoveTo
       (record { delta = HueDelta.By (pos 2000); saturation = TargetSaturation.Keep; ms = 7700; enhanced = false }))
       5000)
   pub saturation-alone :
       Reads (startWords 1 0 0 1 250 7700 0)
-      (start
+      (Call.Start
       (Task.HueSaturationMoveTo (record { delta = HueDelta.Keep; saturation = TargetSaturation.To 250; ms = 7700; enhanced = false }))
       5000)
   pub hue-move :
       Reads (startWords 2 1 700 1 0 0 0)
-      (start (Task.HueMove (record { direction = MoveModeEnum.Up; rate = 700; enhanced = true })) 5000)
+      (Call.Start (Task.HueMove (record { direction = MoveModeEnum.Up; rate = 700; enhanced = true })) 5000)
   pub saturation-move :
-      Reads (startWords 3 3 9 0 0 0 0) (start (Task.SaturationMove (record { direction = MoveModeEnum.Down; rate = 9 })) 5000)
+      Reads (startWords 3 3 9 0 0 0 0) (Call.Start (Task.SaturationMove (record { direction = MoveModeEnum.Down; rate = 9 })) 5000)
   pub move-to-mireds :
-      Reads (startWords 4 300 7700 0 0 0 0) (start (Task.ColorTemperatureMoveTo (record { target = 300; ms = 7700 })) 5000)
+      Reads (startWords 4 300 7700 0 0 0 0) (Call.Start (Task.ColorTemperatureMoveTo (record { target = 300; ms = 7700 })) 5000)
   pub mired-move :
       Reads (startWords 5 2 100 160 400 0 0)
-      (start (Task.ColorTemperatureMove (record { rate = negℤ (pos 100); min = 160; max = 400 })) 5000)
+      (Call.Start (Task.ColorTemperatureMove (record { rate = negℤ (pos 100); min = 160; max = 400 })) 5000)
   pub color-loop :
       Reads (startWords 6 1 33 0 0 0 0)
-      (start (Task.ColorLoop (record { direction = ColorLoopDirectionEnum.Increment; seconds = 33 })) 5000)
-  pub stop : Reads (startWords 7 0 0 0 0 0 0) (start Task.Stop 5000)
+      (Call.Start (Task.ColorLoop (record { direction = ColorLoopDirectionEnum.Increment; seconds = 33 })) 5000)
+  pub stop : Reads (startWords 7 0 0 0 0 0 0) (Call.Start Task.Stop 5000)
   -- and a step and a halt
-  pub stepping : Reads (257 ∷ 5000 ∷ 0 ∷ 0 ∷ 0 ∷ 0 ∷ 0 ∷ 0 ∷ 0 ∷ 0 ∷ []) (step 5000)
-  pub halting : Reads (258 ∷ 5000 ∷ 0 ∷ 0 ∷ 0 ∷ 0 ∷ 0 ∷ 0 ∷ 0 ∷ 0 ∷ []) (halt 5000)
+  pub stepping : Reads (257 ∷ 5000 ∷ 0 ∷ 0 ∷ 0 ∷ 0 ∷ 0 ∷ 0 ∷ 0 ∷ 0 ∷ []) (Call.Step 5000)
+  pub halting : Reads (258 ∷ 5000 ∷ 0 ∷ 0 ∷ 0 ∷ 0 ∷ 0 ∷ 0 ∷ 0 ∷ 0 ∷ []) (Call.Halt 5000)
 
 -- ---- lamps
 

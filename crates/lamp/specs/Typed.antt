@@ -1,11 +1,10 @@
 -- The widths of the numbers of a lamp and of a call: facts that every lamp and call of a program has, and the premise of
 -- theorems over every list of calls. They are no part of form.
 use Prim.Native.Nat.{ℕ}
-use Rattle.matter.specs.declared.commands.Command.{Command}
-use Rattle.matter.specs.declared.enums.OnOff.{OnOff}
 use Rattle.matter.specs.Typed.{Byte, Word, Clock, TypedBounds, TypedCommand}
 use Rattle.tasks.specs.declared.Task.{Task}
 use Rattle.tasks.specs.Typed.{TypedTask, TypedRunning}
+use Rattle.lamp.specs.declared.Call.{Call}
 use Rattle.lamp.specs.declared.Lamp.{Lamp}
 
 pub record TypedLamp (l : Lamp) : Type 0 where
@@ -24,15 +23,8 @@ pub record TypedLamp (l : Lamp) : Type 0 where
   pub options : Byte (l .options)
   pub running : TypedRunning (l .running)
 
--- the calls of a lamp, each with its clock; a command comes with what the on/off cluster says
-pub data Call : Type 0 where
-  command : Command → OnOff → ℕ → Call
-  start : Task → ℕ → Call
-  step : ℕ → Call
-  halt : ℕ → Call
-
 abbrev pub TypedCall : Call → Type 0
-TypedCall (command c onOff clock) = TypedCommand c × Clock clock
-TypedCall (start task clock) = TypedTask task × Clock clock
-TypedCall (step clock) = Clock clock
-TypedCall (halt clock) = Clock clock
+TypedCall (Call.Command c onOff clock) = TypedCommand c × Clock clock
+TypedCall (Call.Start task clock) = TypedTask task × Clock clock
+TypedCall (Call.Step clock) = Clock clock
+TypedCall (Call.Halt clock) = Clock clock

@@ -11,11 +11,14 @@ use matter::CLOCK_LIMIT;
 use matter::CLOCK_REFUSED;
 use matter::CROSSED_BOUNDS;
 use matter::ColorLoopDirectionEnum;
+use matter::Command;
 use matter::LAMP_OUT_OF_FORM;
+use matter::OnOff;
 use notices::Notices;
 use remaining_time::RemainingTime;
 use tasks::GivenTask;
 use tasks::Running;
+use tasks::Task;
 ghost use mathlib.Core.Path.{_≡_};
 ghost use Rattle.lamp.specs.Form.{lampForm};
 ghost use Rattle.lamp.specs.Making.{freshLamp, making, madeValues, makingValues};
@@ -49,6 +52,25 @@ pub struct Answer {
     pub notices: Notices,
     pub task: GivenTask,
     pub wait: u64,
+}
+
+// A call of a lamp, with its clock. A command comes with what the on/off cluster says.
+pub enum Call {
+    Command {
+        command: Command,
+        on_off: OnOff,
+        clock: u64,
+    },
+    Start {
+        task: Task,
+        clock: u64,
+    },
+    Step {
+        clock: u64,
+    },
+    Halt {
+        clock: u64,
+    },
 }
 
 // A lamp, or the number of the refusal and no lamp.

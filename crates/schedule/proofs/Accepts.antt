@@ -12,7 +12,7 @@ use Rattle.lamp.specs.declared.Lamp.{Lamp}
 use Rattle.lamp.specs.declared.Answer.{Answer}
 use Rattle.lamp.specs.Answers.{badClock, formOrClock}
 use Rattle.lamp.specs.Form.{lampForm}
-use Rattle.lamp.specs.Typed.{Call, command, start, step, halt}
+use Rattle.lamp.specs.declared.Call.{Call}
 use Rattle.commands.specs.Commands.{stopMode, numberCause, crossed}
 use Rattle.commands.specs.Answers.{allowed, commandCause, cause, answer, granted, clockOf}
 use Rattle.commands.proofs.Kept.{answer-both, number-is-cause, refused-same}
@@ -25,10 +25,10 @@ timely now clock = leb now clock && leb clock clockLimit
 
 -- a call that nothing but form and clock can turn away
 abbrev pub grounds : Lamp → Call → Bool
-grounds l (command c onOff clock) = stopMode c || (eqb (numberCause c) 0 && not (allowed l c onOff && crossed (l .bounds) c))
-grounds l (start task clock) = taskForm task
-grounds l (step clock) = runs (l .running)
-grounds l (halt clock) = true
+grounds l (Call.Command c onOff clock) = stopMode c || (eqb (numberCause c) 0 && not (allowed l c onOff && crossed (l .bounds) c))
+grounds l (Call.Start task clock) = taskForm task
+grounds l (Call.Step clock) = runs (l .running)
+grounds l (Call.Halt clock) = true
 
 bad-is : (l : Lamp) (clock : ℕ) → badClock l clock ≡ not (timely (l .clock) clock)
 bad-is l clock = rw (below-is clock (l .clock), below-is clockLimit clock) (go (leb (l .clock) clock) (leb clock clockLimit))
@@ -64,10 +64,10 @@ halt-table false = refl
 
 table : (l : Lamp) (x : Call) → lampForm l ≡ true → eqb (cause l x) 0 ≡ (timely (l .clock) (clockOf x) && grounds l x)
 unfolding cause commandCause formOrClock
-table l (command c onOff clock) f = rw (f, bad-is l clock) (command-table (timely (l .clock) clock) (stopMode c) (numberCause c) (allowed l c onOff && crossed (l .bounds) c))
-table l (start task clock) f = rw (f, bad-is l clock) (start-table (timely (l .clock) clock) (taskForm task))
-table l (step clock) f = rw (f, bad-is l clock) (step-table (timely (l .clock) clock) (runs (l .running)))
-table l (halt clock) f = rw (f, bad-is l clock) (halt-table (timely (l .clock) clock))
+table l (Call.Command c onOff clock) f = rw (f, bad-is l clock) (command-table (timely (l .clock) clock) (stopMode c) (numberCause c) (allowed l c onOff && crossed (l .bounds) c))
+table l (Call.Start task clock) f = rw (f, bad-is l clock) (start-table (timely (l .clock) clock) (taskForm task))
+table l (Call.Step clock) f = rw (f, bad-is l clock) (step-table (timely (l .clock) clock) (runs (l .running)))
+table l (Call.Halt clock) f = rw (f, bad-is l clock) (halt-table (timely (l .clock) clock))
 
 -- accepted where clock and grounds are good
 pub accepts-is : (l : Lamp) (x : Call) → lampForm l ≡ true → accepts l x ≡ (timely (l .clock) (clockOf x) && grounds l x)

@@ -13,7 +13,7 @@ use Rattle.hue.specs.Hue.{movedHue}
 use Rattle.hue.proofs.Laws.{way-small}
 use Rattle.progress.specs.Progress.{permilleOf, partOf}
 use Rattle.progress.proofs.Laws.{permille-most, permille-grows, part-within, part-grows}
-use Rattle.lamp.specs.Typed.{Call, command, start, step, halt}
+use Rattle.lamp.specs.declared.Call.{Call}
 use Rattle.commands.specs.Answers.{clockOf}
 use Rattle.schedule.specs.Calls.{isStep}
 use Rattle.schedule.specs.Schedule.{target, wayFrom, time, Fed, Shown, over, shownAt, takes, whenTaken, followed}
@@ -130,17 +130,17 @@ refused f s x e = rw e
 
 -- a step is taken only before the end
 pub step-open : (f : Fed) (s : Shown) (x : Call) → stepTaken f s x ≡ true → (s .done ≡ false) × (s .clock ≤ clockOf x)
-step-open f s (command c onOff clock) e = never refl (sym e)
-step-open f s (start task clock) e = never refl (sym e)
-step-open f s (step clock) e = (not-true (s .done) (and-right (leb (s .clock) clock && leb clock clockLimit) _ e), takes-late f s (step clock) e)
-step-open f s (halt clock) e = never refl (sym e)
+step-open f s (Call.Command c onOff clock) e = never refl (sym e)
+step-open f s (Call.Start task clock) e = never refl (sym e)
+step-open f s (Call.Step clock) e = (not-true (s .done) (and-right (leb (s .clock) clock && leb clock clockLimit) _ e), takes-late f s (Call.Step clock) e)
+step-open f s (Call.Halt clock) e = never refl (sym e)
 
 -- and leads to the place of its clock
 pub step-is : (f : Fed) (s : Shown) (x : Call) → stepTaken f s x ≡ true → followed f s x ≡ shownAt f (clockOf x)
-step-is f s (command c onOff clock) e = never refl (sym e)
-step-is f s (start task clock) e = never refl (sym e)
-step-is f s (step clock) e = taken f s (step clock) e
-step-is f s (halt clock) e = never refl (sym e)
+step-is f s (Call.Command c onOff clock) e = never refl (sym e)
+step-is f s (Call.Start task clock) e = never refl (sym e)
+step-is f s (Call.Step clock) e = taken f s (Call.Step clock) e
+step-is f s (Call.Halt clock) e = never refl (sym e)
 
 -- no other call changes whether it is done
 same-done : (s t : Shown) (b : Bool) → t .done ≡ s .done → cond b t s .done ≡ s .done
@@ -148,26 +148,26 @@ same-done s t true e = e
 same-done s t false e = refl
 
 pub other-is : (f : Fed) (s : Shown) (x : Call) → stepTaken f s x ≡ false → followed f s x .done ≡ s .done
-other-is f s (command c onOff clock) e = same-done s (whenTaken f s (command c onOff clock)) (takes f s (command c onOff clock)) refl
-other-is f s (start task clock) e = same-done s (whenTaken f s (start task clock)) (takes f s (start task clock)) refl
-other-is f s (step clock) e = ap (λ (t : Shown). t .done) (refused f s (step clock) e)
-other-is f s (halt clock) e = same-done s (whenTaken f s (halt clock)) (takes f s (halt clock)) refl
+other-is f s (Call.Command c onOff clock) e = same-done s (whenTaken f s (Call.Command c onOff clock)) (takes f s (Call.Command c onOff clock)) refl
+other-is f s (Call.Start task clock) e = same-done s (whenTaken f s (Call.Start task clock)) (takes f s (Call.Start task clock)) refl
+other-is f s (Call.Step clock) e = ap (λ (t : Shown). t .done) (refused f s (Call.Step clock) e)
+other-is f s (Call.Halt clock) e = same-done s (whenTaken f s (Call.Halt clock)) (takes f s (Call.Halt clock)) refl
 
 module _ (f : Fed) (n : Sane f) (s : Shown) (r : Right f s) where
   taken-right : (x : Call) → takes f s x ≡ true → Right f (whenTaken f s x)
-  taken-right (command c onOff clock) e = later-right f s clock r (takes-late f s (command c onOff clock) e)
-  taken-right (start task clock) e = later-right f s clock r (takes-late f s (start task clock) e)
-  taken-right (step clock) e = at-right f n clock (le-trans (r .since) (takes-late f s (step clock) e))
-  taken-right (halt clock) e = later-right f s clock r (takes-late f s (halt clock) e)
+  taken-right (Call.Command c onOff clock) e = later-right f s clock r (takes-late f s (Call.Command c onOff clock) e)
+  taken-right (Call.Start task clock) e = later-right f s clock r (takes-late f s (Call.Start task clock) e)
+  taken-right (Call.Step clock) e = at-right f n clock (le-trans (r .since) (takes-late f s (Call.Step clock) e))
+  taken-right (Call.Halt clock) e = later-right f s clock r (takes-late f s (Call.Halt clock) e)
 
   pub followed-right : (x : Call) → Right f (followed f s x)
   followed-right x = elim (either (takes f s x)) [ inl e ↦ rw e (taken-right x e) | inr e ↦ rw e r ]
 
   taken-on : (x : Call) → takes f s x ≡ true → goneOf f (s .hue) ≤ goneOf f (whenTaken f s x .hue)
-  taken-on (command c onOff clock) e = le-refl (goneOf f (s .hue))
-  taken-on (start task clock) e = le-refl (goneOf f (s .hue))
-  taken-on (step clock) e = let o = step-open f s (step clock) e in at-on f n s clock r (o .0) (o .1)
-  taken-on (halt clock) e = le-refl (goneOf f (s .hue))
+  taken-on (Call.Command c onOff clock) e = le-refl (goneOf f (s .hue))
+  taken-on (Call.Start task clock) e = le-refl (goneOf f (s .hue))
+  taken-on (Call.Step clock) e = let o = step-open f s (Call.Step clock) e in at-on f n s clock r (o .0) (o .1)
+  taken-on (Call.Halt clock) e = le-refl (goneOf f (s .hue))
 
   -- over a call the way travelled never shrinks
   pub followed-on : (x : Call) → goneOf f (s .hue) ≤ goneOf f (followed f s x .hue)

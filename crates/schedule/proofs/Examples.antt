@@ -29,7 +29,8 @@ use Rattle.lamp.specs.Answers.{formOrClock}
 use Rattle.lamp.specs.Calls.{hueSaturationStart, started, stepped, startAnswer, stepAnswer, haltAnswer}
 use Rattle.lamp.specs.Form.{lampForm}
 use Rattle.lamp.specs.Passes.{hueSaturationPass}
-use Rattle.lamp.specs.Typed.{Call, command, start, step, halt, TypedLamp}
+use Rattle.lamp.specs.declared.Call.{Call}
+use Rattle.lamp.specs.Typed.{TypedLamp}
 use Rattle.commands.specs.Commands.{commandEffect}
 use Rattle.commands.specs.Answers.{answer, allowed, commandCause, commandAnswer}
 use Rattle.schedule.specs.Calls.{after, accepts, TypedCalls, quiet, steps, paced}
@@ -74,60 +75,60 @@ abbrev pub paceKept : Fade
 paceKept =
     at5000 (lampAt 0)
     (record { enhanced = false; hue = 128; direction = DirectionEnum.Shortest; tenths = 2; options = plain })
-    (step 5100 ∷ step 5200 ∷ [])
+    (Call.Step 5100 ∷ Call.Step 5200 ∷ [])
 
 -- to the hue that is there
 abbrev pub noWay : Fade
 noWay =
     at5000 (lampAt 2560)
     (record { enhanced = false; hue = 10; direction = DirectionEnum.Longest; tenths = 5; options = plain })
-    (step 5100 ∷ [])
+    (Call.Step 5100 ∷ [])
 
 -- at once
 abbrev pub noTime : Fade
 noTime =
     at5000 (lampAt 0)
     (record { enhanced = false; hue = 10; direction = DirectionEnum.Down; tenths = 0; options = plain })
-    (step 5100 ∷ [])
+    (Call.Step 5100 ∷ [])
 
 -- 2000 down from 1000
 abbrev pub pastZero : Fade
 pastZero =
     at5000 (lampAt 1000)
     (record { enhanced = true; hue = 64536; direction = DirectionEnum.Down; tenths = 4; options = plain })
-    (step 5100 ∷ step 5200 ∷ step 5300 ∷ step 5400 ∷ [])
+    (Call.Step 5100 ∷ Call.Step 5200 ∷ Call.Step 5300 ∷ Call.Step 5400 ∷ [])
 
 -- calls of every kind before, between and after: up past 65,535
 abbrev pub amongOthers : Fade
 amongOthers =
     record {
       lamp = lampAt 60000;
-      before = halt 5000 ∷ step 5000 ∷ [];
+      before = Call.Halt 5000 ∷ Call.Step 5000 ∷ [];
       move = record { enhanced = true; hue = 1000; direction = DirectionEnum.Up; tenths = 10; options = plain };
       onOff = OnOff.On;
       clock = 5000;
-      between = command (Command.MoveToSaturation 100 20 plain) OnOff.NoHandler 5050 ∷ [];
+      between = Call.Command (Command.MoveToSaturation 100 20 plain) OnOff.NoHandler 5050 ∷ [];
       start = 5100;
       calls =
-          step 5200
+          Call.Step 5200
           -- refused: an earlier clock
-          ∷ step 5000
+          ∷ Call.Step 5000
           -- accepted, and its task is not started
-          ∷ command (Command.MoveToColorTemperature 300 20 plain) OnOff.On 5250
+          ∷ Call.Command (Command.MoveToColorTemperature 300 20 plain) OnOff.On 5250
           -- refused: rate 0
-          ∷ command (Command.MoveHue MoveModeEnum.Up 0 false plain) OnOff.On 5260
+          ∷ Call.Command (Command.MoveHue MoveModeEnum.Up 0 false plain) OnOff.On 5260
           -- refused: the Stop task
-          ∷ start Task.Stop 5260
+          ∷ Call.Start Task.Stop 5260
           -- refused: an earlier clock
-          ∷ command (Command.ColorLoopSet 1 ColorLoopActionEnum.ActivateFromEnhancedCurrentHue ColorLoopDirectionEnum.Increment 25 0 plain) OnOff.On 5240
+          ∷ Call.Command (Command.ColorLoopSet 1 ColorLoopActionEnum.ActivateFromEnhancedCurrentHue ColorLoopDirectionEnum.Increment 25 0 plain) OnOff.On 5240
           -- accepted, and passed over
-          ∷ command (Command.MoveToHue 254 DirectionEnum.Shortest 1 plain) OnOff.Off 5270
+          ∷ Call.Command (Command.MoveToHue 254 DirectionEnum.Shortest 1 plain) OnOff.Off 5270
           -- refused: past the limit
-          ∷ halt 1_099_511_627_777
+          ∷ Call.Halt 1_099_511_627_777
           -- far behind the time
-          ∷ step 2_000_000
+          ∷ Call.Step 2_000_000
           -- refused: idle
-          ∷ step 2_000_100
+          ∷ Call.Step 2_000_100
           ∷ [];
     }
 

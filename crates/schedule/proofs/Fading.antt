@@ -21,7 +21,7 @@ use Rattle.lamp.specs.Answers.{atClock}
 use Rattle.lamp.specs.Calls.{stepped, started, done, hueSaturationStart, startPermille, noHueWay, fullWritten}
 use Rattle.lamp.specs.Form.{lampForm}
 use Rattle.lamp.specs.Passes.{hueSaturationPass, remainingSet}
-use Rattle.lamp.specs.Typed.{Call, command, start, step, halt}
+use Rattle.lamp.specs.declared.Call.{Call}
 use Rattle.commands.specs.Answers.{answer, isLoopSet}
 use Rattle.commands.proofs.Kept.{form-kept, bounds-kept, options-kept, quiet-command}
 use Rattle.schedule.specs.Calls.{next, accepts, idle, acceptedStep, interrupts}
@@ -65,10 +65,10 @@ module _ {f : Fed} {l : Lamp} {s : Shown} (k : Fading f l s) where
   idle-is = rw (k .shows .running) (not-runs-is f (k .saturation) (s .done))
 
   grounds-are : (x : Call) → grounds l x ≡ own f x (s .done)
-  grounds-are (command c onOff clock) = rw (k .bounds, leave-same onOff (l .options) _ _ (f .executeIfOff) (k .options))
-  grounds-are (start task clock) = refl
-  grounds-are (step clock) = rw (k .shows .running) (runs-is f (k .saturation) (s .done))
-  grounds-are (halt clock) = refl
+  grounds-are (Call.Command c onOff clock) = rw (k .bounds, leave-same onOff (l .options) _ _ (f .executeIfOff) (k .options))
+  grounds-are (Call.Start task clock) = refl
+  grounds-are (Call.Step clock) = rw (k .shows .running) (runs-is f (k .saturation) (s .done))
+  grounds-are (Call.Halt clock) = refl
 
   pub accepts-takes : (x : Call) → accepts l x ≡ takes f s x
   accepts-takes x = accepts-is l x (k .form) ∙ rw (grounds-are x, k .shows .clock)
@@ -93,15 +93,15 @@ step-meets {f} {l} {s} k clock n d =
 
 module _ {f : Fed} {l : Lamp} {s : Shown} (k : Fading f l s) (n : Sane f) where
   accepted-shows : (x : Call) → not (interrupts x && accepts l x) ≡ true → accepts l x ≡ true → Shows f (k .saturation) (next l x) (whenTaken f s x)
-  accepted-shows (command c onOff clock) q a =
+  accepted-shows (Call.Command c onOff clock) q a =
       let z : isLoopSet c ≡ false = not-true (isLoopSet c) (rw (a, and-true) at q) in
-      rw (quiet-command l c onOff clock z (no-cause l (command c onOff clock) a))
+      rw (quiet-command l c onOff clock z (no-cause l (Call.Command c onOff clock) a))
       (record { clock = refl; hue = k .shows .hue; remaining = k .shows .remaining; running = k .shows .running })
-  accepted-shows (start task clock) q a = never a (not-true (accepts l (start task clock)) q)
-  accepted-shows (step clock) q a =
-      let o = step-open f s (step clock) (sym (accepts-takes k (step clock)) ∙ a) in
-      rw (next, accepted-is l (step clock) a) (step-meets k clock n (o .0) .shows)
-  accepted-shows (halt clock) q a = never a (not-true (accepts l (halt clock)) q)
+  accepted-shows (Call.Start task clock) q a = never a (not-true (accepts l (Call.Start task clock)) q)
+  accepted-shows (Call.Step clock) q a =
+      let o = step-open f s (Call.Step clock) (sym (accepts-takes k (Call.Step clock)) ∙ a) in
+      rw (next, accepted-is l (Call.Step clock) a) (step-meets k clock n (o .0) .shows)
+  accepted-shows (Call.Halt clock) q a = never a (not-true (accepts l (Call.Halt clock)) q)
 
   -- the lamp that a call leaves fades on as the schedule says
   pub fades-on : (x : Call) → not (interrupts x && accepts l x) ≡ true → Fading f (next l x) (followed f s x)
@@ -121,12 +121,12 @@ module _ {f : Fed} {l : Lamp} {s : Shown} (k : Fading f l s) (n : Sane f) where
 
   -- an accepted step asks for the schedule's wait
   pub wait-is : (x : Call) → acceptedStep l x ≡ true → answer l x .wait ≡ followed f s x .wait
-  wait-is (command c onOff clock) e = never refl (sym e)
-  wait-is (start task clock) e = never refl (sym e)
-  wait-is (step clock) e =
-      let t = sym (accepts-takes k (step clock)) ∙ e in
-      rw (accepted-is l (step clock) e, t) (step-meets k clock n (step-open f s (step clock) t .0) .wait)
-  wait-is (halt clock) e = never refl (sym e)
+  wait-is (Call.Command c onOff clock) e = never refl (sym e)
+  wait-is (Call.Start task clock) e = never refl (sym e)
+  wait-is (Call.Step clock) e =
+      let t = sym (accepts-takes k (Call.Step clock)) ∙ e in
+      rw (accepted-is l (Call.Step clock) e, t) (step-meets k clock n (step-open f s (Call.Step clock) t .0) .wait)
+  wait-is (Call.Halt clock) e = never refl (sym e)
 
 -- ---- the start
 
@@ -162,9 +162,9 @@ pub record Begins (f : Fed) (a : Answer) : Type 0 where
   pub wait : a .wait ≡ shownAt f (f .start) .wait
 
 module _ (f : Fed) (n : Sane f) (l : Lamp) (form : lampForm l ≡ true) (bounds : l .bounds ≡ f .bounds) (options : hasFlag (l .options) executeIfOff ≡ f .executeIfOff) (hue : l .color .hue ≡ f .found) where
-  pub begins : accepts l (start (taskOf (f .fade) (f .found)) (f .start)) ≡ true → Begins f (answer l (start (taskOf (f .fade) (f .found)) (f .start)))
+  pub begins : accepts l (Call.Start (taskOf (f .fade) (f .found)) (f .start)) ≡ true → Begins f (answer l (Call.Start (taskOf (f .fade) (f .found)) (f .start)))
   begins a =
-      let x : Call = start (taskOf (f .fade) (f .found)) (f .start) in
+      let x : Call = Call.Start (taskOf (f .fade) (f .found)) (f .start) in
       let d = accepted-is l x a in
       let m = start-meets f n l hue in
       record {

@@ -16,7 +16,8 @@ use Rattle.tasks.specs.Form.{taskForm, moveToForm}
 use Rattle.lamp.specs.declared.Lamp.{Lamp}
 use Rattle.lamp.specs.declared.Answer.{Answer}
 use Rattle.lamp.specs.Form.{lampForm}
-use Rattle.lamp.specs.Typed.{Call, command, start, TypedLamp}
+use Rattle.lamp.specs.declared.Call.{Call}
+use Rattle.lamp.specs.Typed.{TypedLamp}
 use Rattle.commands.specs.Commands.{commandEffect}
 use Rattle.commands.specs.Answers.{answer, allowed}
 use Rattle.commands.proofs.Kept.{form-kept, bounds-kept, options-kept}
@@ -96,10 +97,10 @@ module _ (f : Fed) (n : Sane f) (a : Answer) (b : Begins f a) where
 -- ---- the command
 
 -- (a) the task
-task-is : (l : Lamp) (h : HueCommand) (onOff : OnOff) (clock : ℕ) → accepts l (command (asCommand h) onOff clock) ≡ true → allowed l (asCommand h) onOff ≡ true → answer l (command (asCommand h) onOff clock) .task ≡ GivenTask.Given (taskOf h (l .color .hue))
+task-is : (l : Lamp) (h : HueCommand) (onOff : OnOff) (clock : ℕ) → accepts l (Call.Command (asCommand h) onOff clock) ≡ true → allowed l (asCommand h) onOff ≡ true → answer l (Call.Command (asCommand h) onOff clock) .task ≡ GivenTask.Given (taskOf h (l .color .hue))
 unfolding commandEffect
 task-is l h onOff clock a e =
-    rw (accepted-is l (command (asCommand h) onOff clock) a)
+    rw (accepted-is l (Call.Command (asCommand h) onOff clock) a)
     (elim (either (h .enhanced)) [ inl z ↦ rw (z, rw z at e) | inr z ↦ rw (z, rw z at e) ])
 
 -- the target of a typed command is a hue
@@ -111,15 +112,15 @@ target-small h t =
     ]
 
 -- the time of an accepted start is that of a task in form
-time-small : (l : Lamp) (h : HueCommand) (found clock : ℕ) → lampForm l ≡ true → accepts l (start (taskOf h found) clock) ≡ true → time h ≤ 6553500
+time-small : (l : Lamp) (h : HueCommand) (found clock : ℕ) → lampForm l ≡ true → accepts l (Call.Start (taskOf h found) clock) ≡ true → time h ≤ 6553500
 unfolding taskForm moveToForm
 time-small l h found clock f a =
-    let g : taskForm (taskOf h found) ≡ true = and-right (timely (l .clock) clock) _ (sym (accepts-is l (start (taskOf h found) clock) f) ∙ a) in
+    let g : taskForm (taskOf h found) ≡ true = and-right (timely (l .clock) clock) _ (sym (accepts-is l (Call.Start (taskOf h found) clock) f) ∙ a) in
     leb-true (time h) 6553500 (and-right (eqb (time h % 100) 0) _ (each _ g .0))
 
-pub kept : (l : Lamp) (h : HueCommand) (onOff : OnOff) (clock : ℕ) (rest : List Call) → lampForm l ≡ true → TypedLamp l → TypedCommand (asCommand h) → accepts l (command (asCommand h) onOff clock) ≡ true → allowed l (asCommand h) onOff ≡ true → Kept l h onOff clock rest
+pub kept : (l : Lamp) (h : HueCommand) (onOff : OnOff) (clock : ℕ) (rest : List Call) → lampForm l ≡ true → TypedLamp l → TypedCommand (asCommand h) → accepts l (Call.Command (asCommand h) onOff clock) ≡ true → allowed l (asCommand h) onOff ≡ true → Kept l h onOff clock rest
 kept l h onOff clock rest form typed c a e =
-    let x : Call = command (asCommand h) onOff clock in
+    let x : Call = Call.Command (asCommand h) onOff clock in
     record {
       task = task-is l h onOff clock a e;
       fades = λ between calls at split p.
@@ -132,10 +133,10 @@ kept l h onOff clock rest form typed c a e =
           (ap (λ (o : ℕ). hasFlag o executeIfOff) (options-after (next l x) between ∙ options-kept l x))
           (p .hue)
           (p .accepted) in
-          kept-fade f n (answer found (start (taskOf h (l .color .hue)) at)) b calls (p .undisturbed);
+          kept-fade f n (answer found (Call.Start (taskOf h (l .color .hue)) at)) b calls (p .undisturbed);
     }
 
 pub keeps-schedule : Claim
 keeps-schedule l calls form typed c before rest h onOff clock split a e =
-    let t = typed-split before (command (asCommand h) onOff clock ∷ rest) (rw split at c) in
+    let t = typed-split before (Call.Command (asCommand h) onOff clock ∷ rest) (rw split at c) in
     kept (after l before) h onOff clock rest (form-after l before form) (typed-after l before form typed (t .0)) (t .1 .0 .0) a e

@@ -4,23 +4,23 @@ use mathlib.Core.List.{List, [], _∷_}
 use mathlib.Core.Path.{_≡_, refl, ap, _∙_}
 use borrow.Author.Tests.{not-true}
 use Rattle.matter.proofs.Laws.{and-left, and-right}
-use Rattle.lamp.specs.Typed.{Call, command, start, step, halt}
+use Rattle.lamp.specs.declared.Call.{Call}
 use Rattle.schedule.specs.Calls.{crosses, noneCrosses}
 use Rattle.schedule.specs.Schedule.{Fed, withOption, Shown, shownAt, own, whenTaken, followed, scheduledFrom, scheduled}
 
 module _ (f : Fed) (option : Bool) where
   own-same : (x : Call) (done : Bool) → crosses (f .bounds) x ≡ false → own (withOption f option) x done ≡ own f x done
-  own-same (command c onOff clock) done e = simp (e, and-false)
-  own-same (start task clock) done e = refl
-  own-same (step clock) done e = refl
-  own-same (halt clock) done e = refl
+  own-same (Call.Command c onOff clock) done e = simp (e, and-false)
+  own-same (Call.Start task clock) done e = refl
+  own-same (Call.Step clock) done e = refl
+  own-same (Call.Halt clock) done e = refl
 
   taken-same : (s : Shown) (x : Call) → whenTaken (withOption f option) s x ≡ whenTaken f s x
   unfolding shownAt
-  taken-same s (command c onOff clock) = refl
-  taken-same s (start task clock) = refl
-  taken-same s (step clock) = refl
-  taken-same s (halt clock) = refl
+  taken-same s (Call.Command c onOff clock) = refl
+  taken-same s (Call.Start task clock) = refl
+  taken-same s (Call.Step clock) = refl
+  taken-same s (Call.Halt clock) = refl
 
   followed-same : (s : Shown) (x : Call) → crosses (f .bounds) x ≡ false → followed (withOption f option) s x ≡ followed f s x
   followed-same s x e = simp (own-same x (s .done) e, taken-same s x)

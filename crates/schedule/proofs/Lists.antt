@@ -5,7 +5,8 @@ use mathlib.Core.Path.{_≡_, refl, _∙_}
 use Rattle.matter.proofs.Laws.{and-left, and-right}
 use Rattle.lamp.specs.declared.Lamp.{Lamp}
 use Rattle.lamp.specs.Form.{lampForm}
-use Rattle.lamp.specs.Typed.{Call, TypedLamp}
+use Rattle.lamp.specs.declared.Call.{Call}
+use Rattle.lamp.specs.Typed.{TypedLamp}
 use Rattle.commands.proofs.Kept.{form-kept, typed-kept, bounds-kept, options-kept}
 use Rattle.schedule.specs.Calls.{next, after, accepts, TypedCalls, interrupts, quiet}
 use Rattle.schedule.specs.Schedule.{Fed, Shown, followed, scheduledFrom}

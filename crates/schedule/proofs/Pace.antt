@@ -11,7 +11,7 @@ use lib.Dec.{leb}
 use borrow.Author.Tests.{leb-true}
 use Rattle.matter.proofs.Laws.{and-left, and-right}
 use Rattle.lamp.specs.declared.Lamp.{Lamp}
-use Rattle.lamp.specs.Typed.{Call}
+use Rattle.lamp.specs.declared.Call.{Call}
 use Rattle.commands.specs.Answers.{answer, clockOf}
 use Rattle.schedule.specs.Calls.{next, after, acceptedStep, isStep, quiet, steps, reached, paced}
 use Rattle.schedule.specs.Schedule.{time, Fed, Shown, followed, scheduledFrom}

@@ -7,7 +7,8 @@ use Rattle.matter.specs.declared.limits.Bounds.{Bounds}
 use Rattle.matter.specs.Causes.{accepted}
 use Rattle.tasks.specs.Runs.{runs}
 use Rattle.lamp.specs.declared.Lamp.{Lamp}
-use Rattle.lamp.specs.Typed.{Call, command, start, step, halt, TypedCall}
+use Rattle.lamp.specs.declared.Call.{Call}
+use Rattle.lamp.specs.Typed.{TypedCall}
 use Rattle.commands.specs.Commands.{crossed}
 use Rattle.commands.specs.Answers.{answer, clockOf, isLoopSet}
 
@@ -31,17 +32,17 @@ TypedCalls [] = Unit
 TypedCalls (x ∷ xs) = TypedCall x × TypedCalls xs
 
 abbrev pub isStep : Call → Bool
-isStep (command c onOff clock) = false
-isStep (start task clock) = false
-isStep (step clock) = true
-isStep (halt clock) = false
+isStep (Call.Command c onOff clock) = false
+isStep (Call.Start task clock) = false
+isStep (Call.Step clock) = true
+isStep (Call.Halt clock) = false
 
 -- a start, a halt or a colour-loop command
 abbrev pub interrupts : Call → Bool
-interrupts (command c onOff clock) = isLoopSet c
-interrupts (start task clock) = true
-interrupts (step clock) = false
-interrupts (halt clock) = true
+interrupts (Call.Command c onOff clock) = isLoopSet c
+interrupts (Call.Start task clock) = true
+interrupts (Call.Step clock) = false
+interrupts (Call.Halt clock) = true
 
 -- "no other accepted start, halt or colour-loop command follows"
 unfoldable pub quiet : Lamp → List Call → Bool
@@ -70,10 +71,10 @@ paced due l (x ∷ xs) =
 
 -- a mired step whose limits cross within the bounds, and a list without one
 abbrev pub crosses : Bounds → Call → Bool
-crosses bounds (command c onOff clock) = crossed bounds c
-crosses bounds (start task clock) = false
-crosses bounds (step clock) = false
-crosses bounds (halt clock) = false
+crosses bounds (Call.Command c onOff clock) = crossed bounds c
+crosses bounds (Call.Start task clock) = false
+crosses bounds (Call.Step clock) = false
+crosses bounds (Call.Halt clock) = false
 
 abbrev pub noneCrosses : Bounds → List Call → Bool
 noneCrosses bounds [] = true

@@ -15,7 +15,8 @@ use Rattle.tasks.specs.declared.GivenTask.{GivenTask}
 use Rattle.lamp.specs.declared.Lamp.{Lamp}
 use Rattle.lamp.specs.declared.Answer.{Answer}
 use Rattle.lamp.specs.Form.{lampForm}
-use Rattle.lamp.specs.Typed.{Call, command, start, TypedLamp}
+use Rattle.lamp.specs.declared.Call.{Call}
+use Rattle.lamp.specs.Typed.{TypedLamp}
 use Rattle.commands.specs.Answers.{answer, allowed}
 use Rattle.schedule.specs.Calls.{next, after, accepts, idle, TypedCalls, quiet, acceptedStep, steps, reached, paced}
 use Rattle.schedule.specs.Schedule.{HueCommand, asCommand, target, wayFrom, time, taskOf, Fed, Shown, takes, scheduled}
@@ -70,10 +71,10 @@ fed h l clock =
 
 -- a move to a hue, as a call, and a start of the task that it gives on the lamp `l`
 abbrev pub moveTo : HueCommand → OnOff → ℕ → Call
-moveTo h onOff clock = command (asCommand h) onOff clock
+moveTo h onOff clock = Call.Command (asCommand h) onOff clock
 
 abbrev pub startOf : HueCommand → Lamp → ℕ → Call
-startOf h l clock = start (taskOf h (l .color .hue)) clock
+startOf h l clock = Call.Start (taskOf h (l .color .hue)) clock
 
 -- the premises of the schedule, at a start on the lamp `now` of what the command gave on the lamp `l`
 pub record Premises (h : HueCommand) (l now : Lamp) (at : ℕ) (calls : List Call) : Type 0 where

@@ -8,7 +8,8 @@ use Rattle.matter.specs.declared.enums.OnOff.{OnOff}
 use Rattle.lamp.specs.declared.Lamp.{Lamp}
 use Rattle.lamp.specs.declared.Answer.{Answer}
 use Rattle.lamp.specs.Form.{lampForm}
-use Rattle.lamp.specs.Typed.{Call, TypedLamp}
+use Rattle.lamp.specs.declared.Call.{Call}
+use Rattle.lamp.specs.Typed.{TypedLamp}
 use Rattle.commands.specs.Answers.{answer, allowed}
 use Rattle.schedule.specs.Calls.{next, after, accepts, idle, TypedCalls, quiet, steps, paced}
 use Rattle.schedule.specs.Schedule.{HueCommand, asCommand}

@@ -18,7 +18,7 @@ use Rattle.tasks.specs.declared.HueDelta.{HueDelta}
 use Rattle.tasks.specs.declared.TargetSaturation.{TargetSaturation}
 use Rattle.tasks.specs.declared.Task.{Task}
 use Rattle.tasks.specs.Form.{taskForm}
-use Rattle.lamp.specs.Typed.{Call, command, start, step, halt}
+use Rattle.lamp.specs.declared.Call.{Call}
 use Rattle.commands.specs.Commands.{optionsOf, stopMode, numberCause, crossed}
 use Rattle.commands.specs.Answers.{clockOf}
 
@@ -95,22 +95,22 @@ shownAt f clock =
 -- "a call is accepted where it meets no cause below, the clock being the last accepted call's and the lamp idle once done":
 -- the clock, and what the call itself can be refused for
 abbrev pub own : Fed → Call → Bool → Bool
-own f (command c onOff clock) done =
+own f (Call.Command c onOff clock) done =
     stopMode c
     || (eqb (numberCause c) 0 && not (leave onOff (cond (f .executeIfOff) 1 0) (optionsOf c .mask) (optionsOf c .over) && crossed (f .bounds) c))
-own f (start task clock) done = taskForm task
-own f (step clock) done = not done
-own f (halt clock) done = true
+own f (Call.Start task clock) done = taskForm task
+own f (Call.Step clock) done = not done
+own f (Call.Halt clock) done = true
 
 abbrev pub takes : Fed → Shown → Call → Bool
 takes f s x = (leb (s .clock) (clockOf x) && leb (clockOf x) clockLimit) && own f x (s .done)
 
 -- "No other call moves it": an accepted step shows the fade at its clock, another accepted call only sets the clock
 abbrev pub whenTaken : Fed → Shown → Call → Shown
-whenTaken f s (command c onOff clock) = record { clock = clock; hue = s .hue; remaining = s .remaining; wait = s .wait; done = s .done }
-whenTaken f s (start task clock) = record { clock = clock; hue = s .hue; remaining = s .remaining; wait = s .wait; done = s .done }
-whenTaken f s (step clock) = shownAt f clock
-whenTaken f s (halt clock) = record { clock = clock; hue = s .hue; remaining = s .remaining; wait = s .wait; done = s .done }
+whenTaken f s (Call.Command c onOff clock) = record { clock = clock; hue = s .hue; remaining = s .remaining; wait = s .wait; done = s .done }
+whenTaken f s (Call.Start task clock) = record { clock = clock; hue = s .hue; remaining = s .remaining; wait = s .wait; done = s .done }
+whenTaken f s (Call.Step clock) = shownAt f clock
+whenTaken f s (Call.Halt clock) = record { clock = clock; hue = s .hue; remaining = s .remaining; wait = s .wait; done = s .done }
 
 abbrev pub followed : Fed → Shown → Call → Shown
 followed f s x = cond (takes f s x) (whenTaken f s x) s
