@@ -6,15 +6,15 @@ use mathlib.Core.Path.{_≡_, refl}
 use Rattle.matter.specs.declared.enums.DirectionEnum.{DirectionEnum}
 use Rattle.hue.specs.Hue.{distance, pathDelta}
 use Rattle.arc.specs.declared.Band.{Band}
-use Rattle.arc.specs.Arc.{inBand, meet, passesThrough, shownBand}
+use Rattle.arc.specs.Arc.{inBand, meet, passesThrough, currentHueBand}
 
 -- green: the shown hues 64 to 106, stored 16,384 to 27,391
 abbrev pub green : Band
-green = shownBand 64 106
+green = currentHueBand 64 106
 
 -- red: the shown hues 240 to 255 and 0 to 15
 abbrev pub red : Band
-red = shownBand 240 15
+red = currentHueBand 240 15
 
 -- a band has its ends, and may go past 0
 pub in-green : map (inBand green) (16383 ∷ 16384 ∷ 27391 ∷ 27392 ∷ []) ≡ false ∷ true ∷ true ∷ false ∷ []
@@ -47,6 +47,6 @@ unfolding passesThrough meet pathDelta distance
 ends = (refl, refl, refl, refl)
 
 -- no way: the hue found alone
-pub no-way : (asked 20000 20000 green ≡ true ∷ true ∷ true ∷ true ∷ []) × (asked 0 0 green ≡ false ∷ false ∷ false ∷ false ∷ [])
+pub no-delta : (asked 20000 20000 green ≡ true ∷ true ∷ true ∷ true ∷ []) × (asked 0 0 green ≡ false ∷ false ∷ false ∷ false ∷ [])
 unfolding passesThrough meet pathDelta distance
-no-way = (refl, refl)
+no-delta = (refl, refl)

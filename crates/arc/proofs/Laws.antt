@@ -10,10 +10,10 @@ use lib.IntN.{ℤ, pos, negsuc, natAbs}
 use lib.Signed.{leZ}
 use borrow.Author.Tests.{leb-true, leb-false, le-leb, lt-leb}
 use Rattle.matter.specs.declared.enums.DirectionEnum.{DirectionEnum}
-use Rattle.hue.specs.Hue.{distance, pathDelta, movedHue, shownHue}
+use Rattle.hue.specs.Hue.{distance, pathDelta, movedHue, currentHue}
 use Rattle.hue.proofs.Laws.{moved-small, moved-up, moved-down, distance-is, way-small, arrives}
 use Rattle.arc.specs.declared.Band.{Band}
-use Rattle.arc.specs.Arc.{toward, OnArc, inBand, TypedBand, Passed, meet, passesThrough, shownBand}
+use Rattle.arc.specs.Arc.{toward, OnArc, inBand, InRangeBand, Passed, meet, passesThrough, currentHueBand}
 
 -- ---- a band, by distances
 
@@ -34,7 +34,7 @@ module _ (low high hue : ℕ) (hl : low < 65536) (hh : high < 65536) (hx : hue <
     by-order false false false e k j = sym (outside (omega (arith, leb-false)))
 
 -- a hue of a band is no further up from its low end than its high end is
-pub band-is : (b : Band) (hue : ℕ) → TypedBand b → hue < 65536 → inBand b hue ≡ leb (distance (b .low) hue) (distance (b .low) (b .high))
+pub band-is : (b : Band) (hue : ℕ) → InRangeBand b → hue < 65536 → inBand b hue ≡ leb (distance (b .low) hue) (distance (b .low) (b .high))
 unfolding inBand
 band-is b hue t h =
     by-order (b .low) (b .high) hue (t .low) (t .high) h (distance-is (b .low) hue (t .low)) (distance-is (b .low) (b .high) (t .low))
@@ -89,7 +89,7 @@ or-else : (p q : Bool) → (p || q) ≡ true → (p ≡ true) ⊎ (q ≡ true)
 or-else true q e = inl refl
 or-else false q e = inr e
 
-module _ (from to : ℕ) (b : Band) (hf : from < 65536) (ht : to < 65536) (t : TypedBand b) where
+module _ (from to : ℕ) (b : Band) (hf : from < 65536) (ht : to < 65536) (t : InRangeBand b) where
   -- where the test holds, the band's low end is in the run, or the run's first hue in the band
   common : meet from to (b .low) (b .high) ≡ true → (hue : ℕ) × (hue < 65536) × (distance from hue ≤ distance from to) × (inBand b hue ≡ true)
   unfolding meet
@@ -118,7 +118,7 @@ module _ (from to : ℕ) (b : Band) (hf : from < 65536) (ht : to < 65536) (t : T
 
 -- ---- the test
 
-module _ (found target : ℕ) (b : Band) (hf : found < 65536) (ht : target < 65536) (t : TypedBand b) where
+module _ (found target : ℕ) (b : Band) (hf : found < 65536) (ht : target < 65536) (t : InRangeBand b) where
   by-way : (way : ℤ) → natAbs way ≤ 65535 → movedHue found way ≡ target → (cond (leZ (pos 0) way) (meet found target (b .low) (b .high)) (meet target found (b .low) (b .high)) ≡ true) ↔ Passed found way b
   by-way (pos n) s a =
       let whole : distance found target ≡ n = omega (arith, distance-is found target hf, moved-up found n) in
@@ -163,11 +163,11 @@ same-test a b c d true e f g = le-leb a b (f (leb-true c d e))
 same-test a b c d false e f g = lt-leb a b (g (leb-false c d e))
 
 -- a stored hue is in the band of shown hues exactly where the hue that it shows is one of them
-pub shown-is : (low high hue : ℕ) → inBand (shownBand low high) hue ≡ inBand (record { low = low; high = high }) (shownHue hue)
+pub shown-is : (low high hue : ℕ) → inBand (currentHueBand low high) hue ≡ inBand (record { low = low; high = high }) (currentHue hue)
 unfolding inBand
 shown-is low high hue =
     rw
     (same-test (low * 256) (high * 256 + 255) low high (leb low high) refl (λ h. omega arith) (λ h. omega arith), same-test (low * 256) hue low (hue / 256) (leb low (hue / 256)) refl (λ h. omega arith) (λ h. omega arith), same-test hue (high * 256 + 255) (hue / 256) high (leb (hue / 256) high) refl (λ h. omega arith) (λ h. omega arith))
 
-pub typed-shown : (low high : ℕ) → low < 256 → high < 256 → TypedBand (shownBand low high)
-typed-shown low high l h = record { low = omega arith; high = omega arith }
+pub in-range-shown : (low high : ℕ) → low < 256 → high < 256 → InRangeBand (currentHueBand low high)
+in-range-shown low high l h = record { low = omega arith; high = omega arith }

@@ -6,7 +6,7 @@ use lib.Dec.{leb}
 use lib.IntN.{ℤ, pos, negsuc, negℤ, natAbs}
 use lib.Signed.{leZ}
 use Rattle.matter.specs.declared.enums.DirectionEnum.{DirectionEnum}
-use Rattle.matter.specs.Typed.{Word}
+use Rattle.matter.specs.InRange.{Short}
 use Rattle.hue.specs.Hue.{distance, pathDelta, movedHue}
 use Rattle.arc.specs.declared.Band.{Band}
 
@@ -27,9 +27,9 @@ pub record OnArc (found : ℕ) (way : ℤ) (hue : ℕ) : Type 0 where
 unfoldable pub inBand : Band → ℕ → Bool
 inBand b hue = cond (leb (b .low) (b .high)) (leb (b .low) hue && leb hue (b .high)) (leb (b .low) hue || leb hue (b .high))
 
-pub record TypedBand (b : Band) : Type 0 where
-  pub low : Word (b .low)
-  pub high : Word (b .high)
+pub record InRangeBand (b : Band) : Type 0 where
+  pub low : Short (b .low)
+  pub high : Short (b .high)
 
 -- a hue of the band on the arc
 pub record Passed (found : ℕ) (way : ℤ) (b : Band) : Type 0 where
@@ -51,5 +51,5 @@ passesThrough found target direction b =
 -- ---- a band by the hues that are shown
 
 -- every stored hue whose shown hue is one of `low` to `high`
-abbrev pub shownBand : ℕ → ℕ → Band
-shownBand low high = record { low = low * 256; high = high * 256 + 255 }
+abbrev pub currentHueBand : ℕ → ℕ → Band
+currentHueBand low high = record { low = low * 256; high = high * 256 + 255 }

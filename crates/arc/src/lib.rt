@@ -4,7 +4,7 @@ use matter::DirectionEnum;
 ghost use mathlib.Core.Path.{_≡_};
 ghost use Prim.Native.Nat.{_*_};
 ghost use Rattle.hue.specs.Hue.{distance};
-ghost use Rattle.arc.specs.Arc.{meet, passesThrough, shownBand};
+ghost use Rattle.arc.specs.Arc.{meet, passesThrough, currentHueBand};
 
 // The hues from `low` up to `high`, past 65,535 to 0 where `high` is below `low`.
 pub struct Band {
@@ -14,8 +14,8 @@ pub struct Band {
 
 impl Band {
     // The stored hues that show as those from `low` to `high`.
-    pub fn of_shown(low: u8, high: u8) -> Band
-        ensures { λ r. ⌜ r ≡ shownBand low high ⌝ }
+    pub fn of_current_hue(low: u8, high: u8) -> Band
+        ensures { λ r. ⌜ r ≡ currentHueBand low high ⌝ }
     {
         Band {
             low: (low as u16) * 256,

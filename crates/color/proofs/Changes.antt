@@ -9,7 +9,7 @@ use borrow.Author.Tests.{eqb-true, eqb-false, le-leb, lt-leb}
 use Rattle.matter.specs.declared.enums.EnhancedColorModeEnum.{EnhancedColorModeEnum}
 use Rattle.notices.specs.Notices.{only}
 use Rattle.color.specs.declared.Color.{Color}
-use Rattle.color.specs.Setters.{due, same, changeNotices, hueMode, keptHueMode, hueSet, hueTold, saturationSet, saturationTold, miredsSet, miredsTold}
+use Rattle.color.specs.Setters.{due, same, changeNotices, hueMode, keptHueMode, hueSet, hueReported, saturationSet, saturationReported, miredsSet, miredsReported}
 use Rattle.color.specs.Changes.{Attribute, Changes, hueAttribute, saturationAttribute, miredsAttribute, SettersChange}
 
 -- a colour that is set: the number and the modes, with a stamp, and the rest as it was
@@ -25,7 +25,7 @@ module _ (a : Attribute) (c : Color) (new clock : ℕ) (active : Bool) (after : 
   joined : changeNotices active true (a .notices) ≡ only (not active) 13 ++ a .notices ++ (6 ∷ 7 ∷ 14 ∷ [])
   joined = simp append-assoc
 
-  -- a change: the number is another one, or it is an end; it is told at an end or a second after the last
+  -- a change: the number is another one, or it is an end; it is reported at an end or a second after the last
   changed : (end due : Bool) → (end ≡ false → a .number c ≡ new → ⊥) → (end ≡ true → due ≡ true) →
       (a .stamp c + 1000 ≤ clock → due ≡ true) → (end ≡ false → clock < a .stamp c + 1000 → due ≡ false) →
       Changes a c new end clock active (after (cond due clock (a .stamp c))) (changeNotices active due (a .notices))
@@ -78,14 +78,14 @@ kept-emode EnhancedColorModeEnum.EnhancedCurrentHueAndCurrentSaturation = (λ e.
 
 module _ (c : Color) (new : ℕ) (end : Bool) (clock : ℕ) (active : Bool) where
   hue-changes : (enhanced : Bool) →
-      Changes (hueAttribute enhanced) c new end clock active (hueSet c new end enhanced clock) (hueTold c new end enhanced clock active)
-  unfolding hueSet hueTold
+      Changes (hueAttribute enhanced) c new end clock active (hueSet c new end enhanced clock) (hueReported c new end enhanced clock active)
+  unfolding hueSet hueReported
   hue-changes enhanced =
       follows (hueAttribute enhanced) c new clock active _
       (record { number = λ s. refl; mode = λ s. refl; emode = λ s. hue-emode enhanced (c .emode); stamp = λ s. refl; rest = λ s. refl }) end
 
   pub setters-change : SettersChange c new end clock active
-  unfolding saturationSet saturationTold miredsSet miredsTold
+  unfolding saturationSet saturationReported miredsSet miredsReported
   setters-change =
       record {
         hue = hue-changes;

@@ -1,4 +1,4 @@
--- The setters keep the form of the colour at the clock they set it at, form lasts as the clock goes on, and a setter tells few notices.
+-- The setters keep the form of the colour at the clock they set it at, form lasts as the clock goes on, and a setter reports few notices.
 use Prim.Native.Nat.{ℕ, _+_, _≤_}
 use mathlib.Core.Bool.{Bool, true, false, cond}
 use mathlib.Core.List.{List, [], _∷_}
@@ -12,46 +12,46 @@ use Rattle.matter.specs.declared.enums.ColorModeEnum.{ColorModeEnum}
 use Rattle.matter.specs.declared.enums.EnhancedColorModeEnum.{EnhancedColorModeEnum}
 use Rattle.matter.proofs.Laws.{cond-both, leb-later, each, all-of}
 use Rattle.matter.specs.Limits.{saturationLimit}
-use Rattle.matter.specs.Typed.{Word}
+use Rattle.matter.specs.InRange.{Short}
 use Rattle.notices.proofs.Laws.{only-one}
 use Rattle.notices.specs.Names.{CurrentHue, EnhancedCurrentHue, CurrentSaturation, ColorTemperatureMireds}
 use Rattle.notices.specs.Notices.{only}
 use Rattle.color.specs.declared.Color.{Color}
-use Rattle.color.specs.Form.{modesAgree, colorForm}
-use Rattle.color.specs.Setters.{due, changeNotices, same, hueMode, keptHueMode, hueSet, hueTold, saturationSet, saturationTold, miredsSet, miredsTold}
+use Rattle.color.specs.Valid.{modesAgree, colorValid}
+use Rattle.color.specs.Setters.{due, changeNotices, same, hueMode, keptHueMode, hueSet, hueReported, saturationSet, saturationReported, miredsSet, miredsReported}
 
 -- ---- form lasts
 
--- a colour in form is in form at a later clock
-pub color-later : (c : Color) (bounds : Bounds) (clock more : ℕ) → colorForm c bounds clock ≡ true → clock ≤ more → colorForm c bounds more ≡ true
-unfolding colorForm
-color-later c bounds clock more formed h =
-    let (s, (a, (b, (o, (m, (x, (y, (z, tt)))))))) = each _ formed in
+-- a colour valid is valid at a later clock
+pub color-later : (c : Color) (bounds : Bounds) (clock more : ℕ) → colorValid c bounds clock ≡ true → clock ≤ more → colorValid c bounds more ≡ true
+unfolding colorValid
+color-later c bounds clock more validity h =
+    let (s, (a, (b, (o, (m, (x, (y, (z, tt)))))))) = each _ validity in
     all-of _ (s, (a, (b, (o, (m, (leb-later _ clock more x h, (leb-later _ clock more y h, (leb-later _ clock more z h, tt))))))))
 
--- ---- the numbers of a colour in form
+-- ---- the numbers of a colour valid
 
-module _ (c : Color) (bounds : Bounds) (clock : ℕ) (formed : colorForm c bounds clock ≡ true) where
+module _ (c : Color) (bounds : Bounds) (clock : ℕ) (validity : colorValid c bounds clock ≡ true) where
   -- its saturation is at most 254
-  pub form-saturation : c .saturation ≤ saturationLimit
-  unfolding colorForm
-  form-saturation = leb-true _ _ (each _ formed .0)
+  pub valid-saturation : c .saturation ≤ saturationLimit
+  unfolding colorValid
+  valid-saturation = leb-true _ _ (each _ validity .0)
 
   -- its mireds are no less than the lower bound
-  pub form-above : bounds .min ≤ c .mireds
-  unfolding colorForm
-  form-above = leb-true _ _ (each _ formed .1 .0)
+  pub valid-above : bounds .min ≤ c .mireds
+  unfolding colorValid
+  valid-above = leb-true _ _ (each _ validity .1 .0)
 
   -- and no more than the upper one
-  pub form-below : c .mireds ≤ bounds .max
-  unfolding colorForm
-  form-below = leb-true _ _ (each _ formed .1 .1 .0)
+  pub valid-below : c .mireds ≤ bounds .max
+  unfolding colorValid
+  valid-below = leb-true _ _ (each _ validity .1 .1 .0)
 
   -- no stamp is after the clock
-  pub form-stamps : (c .stamps .hue ≤ clock) × (c .stamps .saturation ≤ clock) × (c .stamps .mireds ≤ clock)
-  unfolding colorForm
-  form-stamps =
-      let (s, (a, (b, (o, (m, (x, (y, (z, tt)))))))) = each _ formed in
+  pub valid-stamps : (c .stamps .hue ≤ clock) × (c .stamps .saturation ≤ clock) × (c .stamps .mireds ≤ clock)
+  unfolding colorValid
+  valid-stamps =
+      let (s, (a, (b, (o, (m, (x, (y, (z, tt)))))))) = each _ validity in
       (leb-true _ _ x, leb-true _ _ y, leb-true _ _ z)
 
 -- ---- a setter keeps form
@@ -73,38 +73,38 @@ kept-modes EnhancedColorModeEnum.CurrentXAndCurrentY = refl
 kept-modes EnhancedColorModeEnum.ColorTemperatureMireds = refl
 kept-modes EnhancedColorModeEnum.EnhancedCurrentHueAndCurrentSaturation = refl
 
-module _ (c : Color) (bounds : Bounds) (clock : ℕ) (formed : colorForm c bounds clock ≡ true) where
+module _ (c : Color) (bounds : Bounds) (clock : ℕ) (validity : colorValid c bounds clock ≡ true) where
   -- `set_hue` keeps form
-  pub hue-kept : (new : ℕ) (end enhanced : Bool) → colorForm (hueSet c new end enhanced clock) bounds clock ≡ true
-  unfolding colorForm hueSet
+  pub hue-kept : (new : ℕ) (end enhanced : Bool) → colorValid (hueSet c new end enhanced clock) bounds clock ≡ true
+  unfolding colorValid hueSet
   hue-kept new end enhanced =
-      let (s, (a, (b, (o, (m, (x, (y, (z, tt)))))))) = each _ formed in
-      cond-both (λ d. colorForm d bounds clock ≡ true) (same (c .hue) new end) _ _ (λ e. formed)
+      let (s, (a, (b, (o, (m, (x, (y, (z, tt)))))))) = each _ validity in
+      cond-both (λ d. colorValid d bounds clock ≡ true) (same (c .hue) new end) _ _ (λ e. validity)
       (λ e. all-of _ (s, (a, (b, (o, (hue-modes enhanced, (stamped (due end (c .stamps .hue) clock) _ clock x, (y, (z, tt)))))))))
 
   -- `set_saturation` keeps form, up to 254
-  pub saturation-kept : (new : ℕ) (end : Bool) → new ≤ saturationLimit → colorForm (saturationSet c new end clock) bounds clock ≡ true
-  unfolding colorForm saturationSet
+  pub saturation-kept : (new : ℕ) (end : Bool) → new ≤ saturationLimit → colorValid (saturationSet c new end clock) bounds clock ≡ true
+  unfolding colorValid saturationSet
   saturation-kept new end h =
-      let (s, (a, (b, (o, (m, (x, (y, (z, tt)))))))) = each _ formed in
-      cond-both (λ d. colorForm d bounds clock ≡ true) (same (c .saturation) new end) _ _ (λ e. formed)
+      let (s, (a, (b, (o, (m, (x, (y, (z, tt)))))))) = each _ validity in
+      cond-both (λ d. colorValid d bounds clock ≡ true) (same (c .saturation) new end) _ _ (λ e. validity)
       (λ e. all-of _ (le-leb new saturationLimit h, (a, (b, (o, (kept-modes (c .emode), (x, (stamped (due end (c .stamps .saturation) clock) _ clock y, (z, tt)))))))))
 
   -- `set_color_temperature` keeps form, within the bounds
-  pub mireds-kept : (new : ℕ) (end : Bool) → bounds .min ≤ new → new ≤ bounds .max → colorForm (miredsSet c new end clock) bounds clock ≡ true
-  unfolding colorForm miredsSet
+  pub mireds-kept : (new : ℕ) (end : Bool) → bounds .min ≤ new → new ≤ bounds .max → colorValid (miredsSet c new end clock) bounds clock ≡ true
+  unfolding colorValid miredsSet
   mireds-kept new end h k =
-      let (s, (a, (b, (o, (m, (x, (y, (z, tt)))))))) = each _ formed in
-      cond-both (λ d. colorForm d bounds clock ≡ true) (same (c .mireds) new end) _ _ (λ e. formed)
+      let (s, (a, (b, (o, (m, (x, (y, (z, tt)))))))) = each _ validity in
+      cond-both (λ d. colorValid d bounds clock ≡ true) (same (c .mireds) new end) _ _ (λ e. validity)
       (λ e. all-of _ (s, (le-leb _ _ h, (le-leb _ _ k, (o, (refl, (x, (y, (stamped (due end (c .stamps .mireds) clock) _ clock z, tt)))))))))
 
 -- ---- the hue that a setter leaves
 
 module _ (c : Color) (new : ℕ) (end : Bool) (clock : ℕ) where
   -- `set_hue` leaves the old hue or the new one
-  pub hue-word : (enhanced : Bool) → Word (c .hue) → Word new → Word (hueSet c new end enhanced clock .hue)
+  pub hue-word : (enhanced : Bool) → Short (c .hue) → Short new → Short (hueSet c new end enhanced clock .hue)
   unfolding hueSet
-  hue-word enhanced h k = cond-both (λ (d : Color). Word (d .hue)) (same (c .hue) new end) _ _ (λ e. h) (λ e. k)
+  hue-word enhanced h k = cond-both (λ (d : Color). Short (d .hue)) (same (c .hue) new end) _ _ (λ e. h) (λ e. k)
 
   -- `set_saturation` leaves the hue
   pub saturation-hue : saturationSet c new end clock .hue ≡ c .hue
@@ -116,30 +116,30 @@ module _ (c : Color) (new : ℕ) (end : Bool) (clock : ℕ) where
   unfolding miredsSet
   mireds-hue = cond-both (λ (d : Color). d .hue ≡ c .hue) (same (c .mireds) new end) _ _ (λ e. refl) (λ e. refl)
 
--- ---- a setter tells few
+-- ---- a setter reports few
 
--- a setter tells nothing, or four notices and its attribute's
-told-few : (quiet active told : Bool) (attributes : List ℕ) → length (cond quiet [] (changeNotices active told attributes)) ≤ 4 + length attributes
-told-few true active told xs = omega arith
-told-few false true true xs = simp length-append (omega arith)
-told-few false true false xs = omega arith
-told-few false false true xs = simp length-append (omega arith)
-told-few false false false xs = omega arith
+-- a setter reports nothing, or four notices and its attribute's
+reported-few : (quiet active reported : Bool) (attributes : List ℕ) → length (cond quiet [] (changeNotices active reported attributes)) ≤ 4 + length attributes
+reported-few true active reported xs = omega arith
+reported-few false true true xs = simp length-append (omega arith)
+reported-few false true false xs = omega arith
+reported-few false false true xs = simp length-append (omega arith)
+reported-few false false false xs = omega arith
 
 module _ (c : Color) (new : ℕ) (end : Bool) (clock : ℕ) (active : Bool) where
-  -- `set_hue` tells at most six
-  pub hue-few : (enhanced : Bool) → length (hueTold c new end enhanced clock active) ≤ 6
-  unfolding hueTold
+  -- `set_hue` reports at most six
+  pub hue-few : (enhanced : Bool) → length (hueReported c new end enhanced clock active) ≤ 6
+  unfolding hueReported
   hue-few enhanced =
       omega
-      (arith, only-one enhanced EnhancedCurrentHue, told-few (same (c .hue) new end) active (due end (c .stamps .hue) clock) (CurrentHue ∷ only enhanced EnhancedCurrentHue))
+      (arith, only-one enhanced EnhancedCurrentHue, reported-few (same (c .hue) new end) active (due end (c .stamps .hue) clock) (CurrentHue ∷ only enhanced EnhancedCurrentHue))
 
-  -- `set_saturation` tells at most five
-  pub saturation-few : length (saturationTold c new end clock active) ≤ 5
-  unfolding saturationTold
-  saturation-few = told-few (same (c .saturation) new end) active (due end (c .stamps .saturation) clock) (CurrentSaturation ∷ [])
+  -- `set_saturation` reports at most five
+  pub saturation-few : length (saturationReported c new end clock active) ≤ 5
+  unfolding saturationReported
+  saturation-few = reported-few (same (c .saturation) new end) active (due end (c .stamps .saturation) clock) (CurrentSaturation ∷ [])
 
-  -- `set_color_temperature` tells at most five
-  pub mireds-few : length (miredsTold c new end clock active) ≤ 5
-  unfolding miredsTold
-  mireds-few = told-few (same (c .mireds) new end) active (due end (c .stamps .mireds) clock) (ColorTemperatureMireds ∷ [])
+  -- `set_color_temperature` reports at most five
+  pub mireds-few : length (miredsReported c new end clock active) ≤ 5
+  unfolding miredsReported
+  mireds-few = reported-few (same (c .mireds) new end) active (due end (c .stamps .mireds) clock) (ColorTemperatureMireds ∷ [])

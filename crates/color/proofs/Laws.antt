@@ -17,9 +17,9 @@ by stamp clock false h e = lt-leb (stamp + 1000) clock (omega (arith, leb-false 
 pub second-old : (stamp clock : ℕ) → stamp ≤ clock → leb 1000 (clock - stamp) ≡ leb (stamp + 1000) clock
 second-old stamp clock h = sym (by stamp clock (leb 1000 (clock - stamp)) h refl)
 
--- of six notices those that are told are the change's
-pub change-chosen : (active told enhanced : Bool) (attribute : ℕ)
-    → chosen (not active ∷ told ∷ (told && enhanced) ∷ told ∷ told ∷ true ∷ []) (13 ∷ attribute ∷ 3 ∷ 6 ∷ 7 ∷ 14 ∷ []) ≡ changeNotices active told (attribute ∷ only enhanced 3)
+-- of six notices those that are reported are the change's
+pub change-chosen : (active reported enhanced : Bool) (attribute : ℕ)
+    → chosen (not active ∷ reported ∷ (reported && enhanced) ∷ reported ∷ reported ∷ true ∷ []) (13 ∷ attribute ∷ 3 ∷ 6 ∷ 7 ∷ 14 ∷ []) ≡ changeNotices active reported (attribute ∷ only enhanced 3)
 unfolding chosen
 change-chosen active false enhanced attribute = refl
 change-chosen active true false attribute = refl

@@ -1,4 +1,4 @@
--- What document 01, leaf 5, says of a setter, as a statement over a colour before and after it and the notices it told.
+-- What document 01, leaf 5, says of a setter, as a statement over a colour before and after it and the notices it reported.
 use Prim.Native.Nat.{ℕ, _+_, _≤_, _<_}
 use mathlib.Core.Bool.{Bool, true, false, not}
 use mathlib.Core.List.{List, [], _∷_, _++_}
@@ -8,7 +8,7 @@ use Rattle.matter.specs.declared.enums.ColorModeEnum.{ColorModeEnum}
 use Rattle.matter.specs.declared.enums.EnhancedColorModeEnum.{EnhancedColorModeEnum}
 use Rattle.notices.specs.Notices.{only}
 use Rattle.color.specs.declared.Color.{Color}
-use Rattle.color.specs.Setters.{hueSet, hueTold, saturationSet, saturationTold, miredsSet, miredsTold}
+use Rattle.color.specs.Setters.{hueSet, hueReported, saturationSet, saturationReported, miredsSet, miredsReported}
 
 -- the number that a setter sets, its stamp, the numbers and stamps of the other two, and its attribute's notices; the
 -- color mode that it sets, and what it makes of the enhanced one
@@ -22,22 +22,22 @@ pub record Attribute : Type 1 where
 
 -- from a colour to another with these notices, of a new number, at an end or not, at a clock, with the loop active or not
 pub record Changes (a : Attribute) (c : Color) (new : ℕ) (end : Bool) (clock : ℕ) (active : Bool)
-    (after : Color) (told : List ℕ) : Type 0 where
+    (after : Color) (reported : List ℕ) : Type 0 where
   -- "An equal number, not at the end of a transition, changes nothing and notifies nothing, modes included"
-  pub equal : a .number c ≡ new → end ≡ false → (after ≡ c) × (told ≡ [])
+  pub equal : a .number c ≡ new → end ≡ false → (after ≡ c) × (reported ≡ [])
   -- "Otherwise number and modes are set"
   pub set : (a .number c ≡ new → ⊥) ⊎ (end ≡ true) →
       (a .number after ≡ new) × (after .mode ≡ a .mode) × (a .EnhancedMode (c .emode) (after .emode))
   -- "With every such change 13 comes first and 14 last", 13 "withheld in the setters while the loop is active"; "Between
   -- them, notices of the attribute and of both modes come at an end": then the clock is its stamp
   pub at-end : end ≡ true →
-      (told ≡ only (not active) 13 ++ a .notices ++ (6 ∷ 7 ∷ 14 ∷ [])) × (a .stamp after ≡ clock)
+      (reported ≡ only (not active) 13 ++ a .notices ++ (6 ∷ 7 ∷ 14 ∷ [])) × (a .stamp after ≡ clock)
   -- "or one second or more after its last"
   pub after-a-second : (a .number c ≡ new → ⊥) → a .stamp c + 1000 ≤ clock →
-      (told ≡ only (not active) 13 ++ a .notices ++ (6 ∷ 7 ∷ 14 ∷ [])) × (a .stamp after ≡ clock)
+      (reported ≡ only (not active) 13 ++ a .notices ++ (6 ∷ 7 ∷ 14 ∷ [])) × (a .stamp after ≡ clock)
   -- and not before: then its stamp stays
   pub within-a-second : (a .number c ≡ new → ⊥) → end ≡ false → clock < a .stamp c + 1000 →
-      (told ≡ only (not active) 13 ++ (14 ∷ [])) × (a .stamp after ≡ a .stamp c)
+      (reported ≡ only (not active) 13 ++ (14 ∷ [])) × (a .stamp after ≡ a .stamp c)
   -- the other two, with their stamps, stay in any case
   pub rest : a .others after ≡ a .others c
 
@@ -92,9 +92,9 @@ miredsAttribute =
 pub record SettersChange (c : Color) (new : ℕ) (end : Bool) (clock : ℕ) (active : Bool) : Type 0 where
   pub hue : (enhanced : Bool) →
       Changes (hueAttribute enhanced) c new end clock active
-      (hueSet c new end enhanced clock) (hueTold c new end enhanced clock active)
+      (hueSet c new end enhanced clock) (hueReported c new end enhanced clock active)
   pub saturation :
       Changes saturationAttribute c new end clock active
-      (saturationSet c new end clock) (saturationTold c new end clock active)
+      (saturationSet c new end clock) (saturationReported c new end clock active)
   pub mireds :
-      Changes miredsAttribute c new end clock active (miredsSet c new end clock) (miredsTold c new end clock active)
+      Changes miredsAttribute c new end clock active (miredsSet c new end clock) (miredsReported c new end clock active)

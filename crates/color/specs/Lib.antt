@@ -1,4 +1,4 @@
 pub mod Setters
-pub mod Form
+pub mod Valid
 pub mod Making
 pub mod Changes

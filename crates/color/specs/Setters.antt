@@ -7,7 +7,7 @@ use Rattle.matter.specs.declared.enums.ColorModeEnum.{ColorModeEnum}
 use Rattle.matter.specs.declared.enums.EnhancedColorModeEnum.{EnhancedColorModeEnum}
 use Rattle.notices.specs.declared.Notices.{Notices}
 use Rattle.notices.specs.Notices.{only, pushedAll}
-use Rattle.notices.specs.Names.{CurrentHue, EnhancedCurrentHue, CurrentSaturation, ColorTemperatureMireds, ColorMode, EnhancedColorMode, markedDirty, scenesTold}
+use Rattle.notices.specs.Names.{CurrentHue, EnhancedCurrentHue, CurrentSaturation, ColorTemperatureMireds, ColorMode, EnhancedColorMode, markedDirty, scenesNotified}
 use Rattle.color.specs.declared.Color.{Color}
 use Rattle.color.specs.declared.ColorSet.{ColorSet}
 
@@ -18,8 +18,8 @@ due end stamp clock = end || leb (stamp + 1000) clock
 -- "With every such change 13 comes first and 14 last. Between them, notices of the attribute and of both modes"; "13 is
 -- withheld in the setters while the loop is active"
 abbrev pub changeNotices : Bool → Bool → List ℕ → List ℕ
-changeNotices active told attributes =
-    only (not active) markedDirty ++ (cond told (attributes ++ (ColorMode ∷ EnhancedColorMode ∷ [])) [] ++ (scenesTold ∷ []))
+changeNotices active reported attributes =
+    only (not active) markedDirty ++ (cond reported (attributes ++ (ColorMode ∷ EnhancedColorMode ∷ [])) [] ++ (scenesNotified ∷ []))
 
 -- "An equal number, not at the end of a transition, changes nothing and notifies nothing, modes included. Otherwise
 -- number and modes are set": from the old number, the new one and whether it is an end
@@ -55,9 +55,9 @@ hueSet c new end enhanced clock =
           };
     })
 
--- and what it tells, with the loop active or not
-unfoldable pub hueTold : Color → ℕ → Bool → Bool → ℕ → Bool → List ℕ
-hueTold c new end enhanced clock active =
+-- and what it reports, with the loop active or not
+unfoldable pub hueReported : Color → ℕ → Bool → Bool → ℕ → Bool → List ℕ
+hueReported c new end enhanced clock active =
     cond (same (c .hue) new end) []
     (changeNotices active (due end (c .stamps .hue) clock) (CurrentHue ∷ only enhanced EnhancedCurrentHue))
 
@@ -79,9 +79,9 @@ saturationSet c new end clock =
           };
     })
 
--- and what it tells
-unfoldable pub saturationTold : Color → ℕ → Bool → ℕ → Bool → List ℕ
-saturationTold c new end clock active =
+-- and what it reports
+unfoldable pub saturationReported : Color → ℕ → Bool → ℕ → Bool → List ℕ
+saturationReported c new end clock active =
     cond (same (c .saturation) new end) []
     (changeNotices active (due end (c .stamps .saturation) clock) (CurrentSaturation ∷ []))
 
@@ -103,12 +103,12 @@ miredsSet c new end clock =
           };
     })
 
--- and what it tells
-unfoldable pub miredsTold : Color → ℕ → Bool → ℕ → Bool → List ℕ
-miredsTold c new end clock active =
+-- and what it reports
+unfoldable pub miredsReported : Color → ℕ → Bool → ℕ → Bool → List ℕ
+miredsReported c new end clock active =
     cond (same (c .mireds) new end) []
     (changeNotices active (due end (c .stamps .mireds) clock) (ColorTemperatureMireds ∷ []))
 
 -- a setter's answer: the colour, and its notices behind those so far
 abbrev pub answered : Color → Notices → List ℕ → ColorSet
-answered c list told = record { color = c; notices = pushedAll list told }
+answered c list reported = record { color = c; notices = pushedAll list reported }

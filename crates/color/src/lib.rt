@@ -1,4 +1,4 @@
-// The colour: hue, saturation, mireds, the two modes, and when each was last told. Its making and its form, and the
+// The colour: hue, saturation, mireds, the two modes, and when each was last reported. Its making and its form, and the
 // setters with what they tell: document 01, leaves 4 and 5.
 // Carried over from project-chip/rs-matter, commit 43f61585a4 (Apache-2.0, see NOTICE), and changed.
 use matter::Bounds;
@@ -7,17 +7,17 @@ use matter::EnhancedColorModeEnum;
 use matter::color_mode_of;
 use matter::default_color_mode;
 use notices::Notices;
-use progress::brought_within;
+use progress::clamped_sum;
 ghost use mathlib.Core.Path.{_≡_};
 ghost use mathlib.Core.Bool.{cond};
 ghost use mathlib.Core.List.{_∷_};
 ghost use Rattle.notices.specs.Notices.{only, pushedAll};
 ghost use Rattle.notices.specs.Names.{EnhancedCurrentHue};
-ghost use Rattle.color.specs.Setters.{due, changeNotices, hueMode, keptHueMode, hueSet, hueTold, saturationSet, saturationTold, miredsSet, miredsTold, answered};
-ghost use Rattle.color.specs.Form.{modesAgree, colorForm};
+ghost use Rattle.color.specs.Setters.{due, changeNotices, hueMode, keptHueMode, hueSet, hueReported, saturationSet, saturationReported, miredsSet, miredsReported, answered};
+ghost use Rattle.color.specs.Valid.{modesAgree, colorValid};
 ghost use Rattle.color.specs.Making.{newColor};
 
-// The clocks at which each attribute was last told.
+// The clocks at which each attribute was last reported.
 pub struct Stamps {
     pub hue: u64,
     pub saturation: u64,
@@ -34,13 +34,13 @@ pub struct Color {
     pub stamps: Stamps,
 }
 
-// The colour after a setter, and the list with what the setter tells.
+// The colour after a setter, and the list with what the setter reports.
 pub struct ColorSet {
     pub color: Color,
     pub notices: Notices,
 }
 
-// Whether an attribute is told: at an end, or one second or more after it last was. A stamp after the clock is never
+// Whether an attribute is reported: at an end, or one second or more after it last was. A stamp after the clock is never
 // a second old.
 fn is_due(is_end: bool, stamp: u64, clock: u64) -> bool
     ensures { λ r. ⌜ r ≡ due «is_end» stamp clock ⌝ }
@@ -54,33 +54,40 @@ fn is_due(is_end: bool, stamp: u64, clock: u64) -> bool
     1000 <= clock - stamp
 }
 
-// The stamp of an attribute that is told, or not, at this clock.
-fn stamp_at(told: bool, clock: u64, stamp: u64) -> u64
-    ensures { λ r. ⌜ r ≡ cond told clock stamp ⌝ }
+// The stamp of an attribute that is reported, or not, at this clock.
+fn stamp_at(reported: bool, clock: u64, stamp: u64) -> u64
+    ensures { λ r. ⌜ r ≡ cond reported clock stamp ⌝ }
 {
-    if told { clock } else { stamp }
+    if reported { clock } else { stamp }
 }
 
-// What a change tells: persistence first, unless the loop is active; where it is due the attribute, with an enhanced
+// What a change reports: persistence first, unless the loop is active; where it is due the attribute, with an enhanced
 // hue that too, and both modes; scenes last.
-fn tell_change(
+fn report_change(
     list: Notices,
     loop_active: bool,
-    told: bool,
+    reported: bool,
     attribute: u8,
     is_enhanced: bool,
 ) -> Notices
-    ensures { λ r. ⌜ r ≡ pushedAll list (changeNotices «loop_active» told (attribute ∷ only «is_enhanced» EnhancedCurrentHue)) ⌝ }
+    ensures { λ r. ⌜ r ≡ pushedAll list (changeNotices «loop_active» reported (attribute ∷ only «is_enhanced» EnhancedCurrentHue)) ⌝ }
 {
     list.push_each(
-        [!loop_active, told, told & is_enhanced, told, told, true],
+        [
+            !loop_active,
+            reported,
+            reported & is_enhanced,
+            reported,
+            reported,
+            true,
+        ],
         [
             notices::MARKED_DIRTY,
             attribute,
             notices::ENHANCED_CURRENT_HUE,
             notices::COLOR_MODE,
             notices::ENHANCED_COLOR_MODE,
-            notices::SCENES_TOLD,
+            notices::SCENES_NOTIFIED,
         ],
     )
 }
@@ -130,7 +137,7 @@ impl Color {
         Color {
             hue: 0,
             saturation: 0,
-            mireds: brought_within(bounds.min, bounds.max, 250, 0),
+            mireds: clamped_sum(bounds.min, bounds.max, 250, 0),
             mode: color_mode_of(emode),
             emode: emode,
             stamps: Stamps {
@@ -141,7 +148,7 @@ impl Color {
         }
     }
 
-    // Sets the hue, and tells it as plain or enhanced.
+    // Sets the hue, and reports it as plain or enhanced.
     pub fn set_hue(
         self,
         list: Notices,
@@ -151,7 +158,7 @@ impl Color {
         clock: u64,
         loop_active: bool,
     ) -> ColorSet
-        ensures { λ r. ⌜ r ≡ answered (hueSet self «new_eh» «is_end» «is_enhanced» clock) list (hueTold self «new_eh» «is_end» «is_enhanced» clock «loop_active») ⌝ }
+        ensures { λ r. ⌜ r ≡ answered (hueSet self «new_eh» «is_end» «is_enhanced» clock) list (hueReported self «new_eh» «is_end» «is_enhanced» clock «loop_active») ⌝ }
     {
         if (self.hue == new_eh) & !is_end {
             return ColorSet {
@@ -160,10 +167,16 @@ impl Color {
             };
         }
         let stamps = self.stamps;
-        let told = is_due(is_end, stamps.hue, clock);
-        let stamp = stamp_at(told, clock, stamps.hue);
+        let reported = is_due(is_end, stamps.hue, clock);
+        let stamp = stamp_at(reported, clock, stamps.hue);
         let emode = hue_mode(is_enhanced);
-        let next = tell_change(list, loop_active, told, notices::CURRENT_HUE, is_enhanced);
+        let next = report_change(
+            list,
+            loop_active,
+            reported,
+            notices::CURRENT_HUE,
+            is_enhanced,
+        );
         ColorSet {
             color: Color {
                 hue: new_eh,
@@ -188,7 +201,7 @@ impl Color {
         clock: u64,
         loop_active: bool,
     ) -> ColorSet
-        ensures { λ r. ⌜ r ≡ answered (saturationSet self «new_sat» «is_end» clock) list (saturationTold self «new_sat» «is_end» clock «loop_active») ⌝ }
+        ensures { λ r. ⌜ r ≡ answered (saturationSet self «new_sat» «is_end» clock) list (saturationReported self «new_sat» «is_end» clock «loop_active») ⌝ }
     {
         if (self.saturation == new_sat) & !is_end {
             return ColorSet {
@@ -197,11 +210,17 @@ impl Color {
             };
         }
         let stamps = self.stamps;
-        let told = is_due(is_end, stamps.saturation, clock);
-        let stamp = stamp_at(told, clock, stamps.saturation);
+        let reported = is_due(is_end, stamps.saturation, clock);
+        let stamp = stamp_at(reported, clock, stamps.saturation);
         let old = self.emode;
         let emode = kept_hue_mode(old);
-        let next = tell_change(list, loop_active, told, notices::CURRENT_SATURATION, false);
+        let next = report_change(
+            list,
+            loop_active,
+            reported,
+            notices::CURRENT_SATURATION,
+            false,
+        );
         ColorSet {
             color: Color {
                 saturation: new_sat,
@@ -226,7 +245,7 @@ impl Color {
         clock: u64,
         loop_active: bool,
     ) -> ColorSet
-        ensures { λ r. ⌜ r ≡ answered (miredsSet self «new_mireds» «is_end» clock) list (miredsTold self «new_mireds» «is_end» clock «loop_active») ⌝ }
+        ensures { λ r. ⌜ r ≡ answered (miredsSet self «new_mireds» «is_end» clock) list (miredsReported self «new_mireds» «is_end» clock «loop_active») ⌝ }
     {
         if (self.mireds == new_mireds) & !is_end {
             return ColorSet {
@@ -235,12 +254,12 @@ impl Color {
             };
         }
         let stamps = self.stamps;
-        let told = is_due(is_end, stamps.mireds, clock);
-        let stamp = stamp_at(told, clock, stamps.mireds);
-        let next = tell_change(
+        let reported = is_due(is_end, stamps.mireds, clock);
+        let stamp = stamp_at(reported, clock, stamps.mireds);
+        let next = report_change(
             list,
             loop_active,
-            told,
+            reported,
             notices::COLOR_TEMPERATURE_MIREDS,
             false,
         );
@@ -259,9 +278,9 @@ impl Color {
         }
     }
 
-    // Whether a lamp with this colour, these bounds and this clock can be in form.
-    pub fn in_form(self, bounds: Bounds, clock: u64) -> bool
-        ensures { λ r. ⌜ r ≡ colorForm self bounds clock ⌝ }
+    // Whether a lamp with this colour, these bounds and this clock can be valid.
+    pub fn is_valid(self, bounds: Bounds, clock: u64) -> bool
+        ensures { λ r. ⌜ r ≡ colorValid self bounds clock ⌝ }
     {
         let mode = self.mode;
         let emode = self.emode;

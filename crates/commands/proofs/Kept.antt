@@ -1,5 +1,5 @@
 -- Every call, refused ones too, keeps form, widths, bounds and options; an accepted one sets the clock, and a command other than
--- the colour loop's sets nothing else. The number of an answer is its cause. A command tells few notices.
+-- the colour loop's sets nothing else. The number of an answer is its cause. A command reports few notices.
 use Prim.Native.Nat.{ℕ, _≤_}
 use mathlib.Core.Bool.{true, false, cond, true≢false}
 use mathlib.Core.List.{List, [], _∷_}
@@ -14,7 +14,7 @@ use Rattle.matter.specs.declared.enums.ColorLoopDirectionEnum.{ColorLoopDirecti
 use Rattle.matter.specs.declared.enums.OnOff.{OnOff}
 use Rattle.matter.specs.Flags.{hasFlag, updateAction, updateDirection, updateTime, updateStartHue}
 use Rattle.matter.proofs.Laws.{cond-both}
-use Rattle.matter.specs.Typed.{Word, TypedCommand}
+use Rattle.matter.specs.InRange.{Short, InRangeCommand}
 use Rattle.notices.proofs.Laws.{only-one}
 use Rattle.notices.specs.Names.{ColorLoopActive, ColorLoopDirection, ColorLoopTime, ColorLoopStartEnhancedHue, ColorLoopStoredEnhancedHue}
 use Rattle.color.specs.declared.Color.{Color}
@@ -26,16 +26,16 @@ use Rattle.tasks.specs.declared.Task.{Task}
 use Rattle.lamp.specs.declared.Lamp.{Lamp}
 use Rattle.lamp.specs.declared.LoopSettings.{LoopSettings}
 use Rattle.lamp.specs.declared.Answer.{Answer}
-use Rattle.lamp.specs.Answers.{atClock, formOrClock, refusal}
+use Rattle.lamp.specs.Answers.{atClock, firstCause, refusal}
 use Rattle.lamp.specs.Calls.{startCause, stepCause, startAnswer, stepAnswer, haltAnswer}
-use Rattle.lamp.specs.Form.{lampForm}
-use Rattle.lamp.proofs.Kept.{form-clock, form-color, form-running, form-of, no-cause, ready, start-ready, step-ready, choose-both, start-form, step-form, halt-form}
+use Rattle.lamp.specs.Valid.{lampValid}
+use Rattle.lamp.proofs.Kept.{valid-clock, valid-color, valid-running, valid-of, no-cause, ready, start-ready, step-ready, choose-both, start-valid, step-valid, halt-valid}
 use Rattle.lamp.specs.Passes.{moved}
 use Rattle.lamp.specs.declared.Call.{Call}
-use Rattle.lamp.specs.Typed.{TypedLamp, TypedCall}
-use Rattle.lamp.proofs.TypedKept.{changed, started-any, stepped-any, typed-of, clock-typed, changed-typed, started-typed, stepped-typed}
+use Rattle.lamp.specs.InRange.{InRangeLamp, InRangeCall}
+use Rattle.lamp.proofs.InRangeKept.{changed, started-any, stepped-any, in-range-of, clock-in-range, changed-in-range, started-in-range, stepped-in-range}
 use Rattle.commands.specs.Answers.{afterClock, allowed, commandCause, commandDone, commandAnswer, cause, answer, granted, clockOf, isLoopSet}
-use Rattle.commands.specs.Commands.{CommandEffect, passOver, giving, stopMode, withLoop, updated, updatedTold, acted, deactivated, activated, loopSet, commandEffect}
+use Rattle.commands.specs.Commands.{CommandEffect, skip, giving, stopMode, withLoop, updated, updatedReported, acted, deactivated, activated, loopSet, commandEffect}
 
 -- ---- an answer is a refusal with its cause, or what is granted where there is none
 
@@ -46,7 +46,7 @@ module _ (l : Lamp) where
   answer-both P (Call.Command c onOff clock) h k = choose-both P (commandCause l c onOff clock) l _ h k
   answer-both P (Call.Start task clock) h k = choose-both P (startCause l task clock) l _ h k
   answer-both P (Call.Step clock) h k = choose-both P (stepCause l clock) l _ h k
-  answer-both P (Call.Halt clock) h k = choose-both P (formOrClock l clock) l _ h k
+  answer-both P (Call.Halt clock) h k = choose-both P (firstCause l clock) l _ h k
 
   -- what is granted has number 0
   granted-number : (x : Call) → granted l x .number ≡ 0
@@ -63,10 +63,10 @@ module _ (l : Lamp) where
   pub refused-same : (x : Call) → (cause l x ≡ 0 → ⊥) → answer l x ≡ refusal l (cause l x)
   refused-same x n = answer-both (λ a. a ≡ refusal l (cause l x)) x (λ e. absurd (n e)) (λ e. refl)
 
-  -- where a call is accepted, the lamp at its clock is in form
-  pub granted-ready : (x : Call) → cause l x ≡ 0 → lampForm (atClock l (clockOf x)) ≡ true
+  -- where a call is accepted, the lamp at its clock is valid
+  pub granted-ready : (x : Call) → cause l x ≡ 0 → lampValid (atClock l (clockOf x)) ≡ true
   unfolding cause commandCause
-  granted-ready (Call.Command c onOff clock) e = ready l clock (no-cause (formOrClock l clock) (afterClock l c onOff) e .0)
+  granted-ready (Call.Command c onOff clock) e = ready l clock (no-cause (firstCause l clock) (afterClock l c onOff) e .0)
   granted-ready (Call.Start task clock) e = start-ready l clock task e .0
   granted-ready (Call.Step clock) e = step-ready l clock e
   granted-ready (Call.Halt clock) e = ready l clock e
@@ -94,7 +94,7 @@ module _ (l : Lamp) (P : CommandEffect → Type 0) (gives : (task : Task) → P 
   effect-by (Command.StopMoveStep options) loops = gives _
 
   -- and with the second, of any
-  done-by : (c : Command) (onOff : OnOff) → P (passOver l) → ((flags : ℕ) (action : ColorLoopActionEnum) (direction : ColorLoopDirectionEnum) (time hue : ℕ) (options : CommandOptions) → c ≡ Command.ColorLoopSet flags action direction time hue options → P (loopSet l flags action direction time hue)) → P (commandDone l c onOff)
+  done-by : (c : Command) (onOff : OnOff) → P (skip l) → ((flags : ℕ) (action : ColorLoopActionEnum) (direction : ColorLoopDirectionEnum) (time hue : ℕ) (options : CommandOptions) → c ≡ Command.ColorLoopSet flags action direction time hue options → P (loopSet l flags action direction time hue)) → P (commandDone l c onOff)
   done-by c onOff passes loops =
       cond-both P (stopMode c) _ _ (λ e. gives Task.Stop) (λ e. cond-both P (allowed l c onOff) _ _ (λ t. effect-by c loops) (λ t. passes))
 
@@ -113,13 +113,13 @@ quiet-command l c onOff clock h z =
 -- `Q` holds of the lamp's hue and settings; `P` holds of every lamp with such settings that keeps its hue or has such a one set
 module _ (l : Lamp) (Q : ℕ → Type 0) (hue : Q (l .color .hue)) (time : Q (l .looping .time)) (first : Q (l .looping .start)) (stored : Q (l .looping .stored)) (P : Lamp → Type 0) (kept : (s : LoopSettings) → Q (s .time) → Q (s .start) → Q (s .stored) → P (withLoop l (l .color) s)) (set : (new : ℕ) (s : LoopSettings) → Q new → Q (s .time) → Q (s .start) → Q (s .stored) → P (withLoop l (hueSet (l .color) new true true (l .clock)) s)) where
   -- then `P` holds after an action
-  acted-by : (told : List ℕ) (action : ColorLoopActionEnum) (u : LoopSettings) → Q (u .time) → Q (u .start) → Q (u .stored) → P (acted (withLoop l (l .color) u) told action .lamp)
+  acted-by : (reported : List ℕ) (action : ColorLoopActionEnum) (u : LoopSettings) → Q (u .time) → Q (u .start) → Q (u .stored) → P (acted (withLoop l (l .color) u) reported action .lamp)
   unfolding activated deactivated
-  acted-by told ColorLoopActionEnum.Deactivate u t f s =
+  acted-by reported ColorLoopActionEnum.Deactivate u t f s =
       cond-both (λ (e : CommandEffect). P (e .lamp)) (u .active) _ _ (λ e. set (u .stored) _ s t f s) (λ e. kept u t f s)
-  acted-by told ColorLoopActionEnum.ActivateFromColorLoopStartEnhancedHue u t f s =
+  acted-by reported ColorLoopActionEnum.ActivateFromColorLoopStartEnhancedHue u t f s =
       set (u .start) _ f t f (cond-both Q (u .active) _ _ (λ e. s) (λ e. hue))
-  acted-by told ColorLoopActionEnum.ActivateFromEnhancedCurrentHue u t f s =
+  acted-by reported ColorLoopActionEnum.ActivateFromEnhancedCurrentHue u t f s =
       set (l .color .hue) _ hue t f (cond-both Q (u .active) _ _ (λ e. s) (λ e. hue))
 
   -- and after the command, if `Q` holds of its time and hue
@@ -129,7 +129,7 @@ module _ (l : Lamp) (Q : ℕ → Type 0) (hue : Q (l .color .hue)) (time : Q (l 
       let u : LoopSettings = updated (l .looping) flags direction newTime newHue in
       let ut : Q (u .time) = cond-both Q (hasFlag flags updateTime) _ _ (λ e. t) (λ e. time) in
       let uf : Q (u .start) = cond-both Q (hasFlag flags updateStartHue) _ _ (λ e. h) (λ e. first) in
-      cond-both (λ (e : CommandEffect). P (e .lamp)) (hasFlag flags updateAction) _ _ (λ e. acted-by (updatedTold flags) action u ut uf stored) (λ e. kept u ut uf stored)
+      cond-both (λ (e : CommandEffect). P (e .lamp)) (hasFlag flags updateAction) _ _ (λ e. acted-by (updatedReported flags) action u ut uf stored) (λ e. kept u ut uf stored)
 
 -- what holds whatever colour and settings of the loop are left holds after any command
 pub done-any : (l : Lamp) (P : Lamp → Type 0) → ((c : Color) (s : LoopSettings) → P (withLoop l c s)) → (c : Command) (onOff : OnOff) → P (commandDone l c onOff .lamp)
@@ -138,21 +138,21 @@ done-any l P any c onOff =
     (λ flags action direction time hue options e. loop-by l (λ n. Unit) tt tt tt tt P (λ s t f u. any _ s) (λ new s n t f u. any _ s) flags action direction time hue tt tt)
 
 -- a command keeps form
-done-form : (l : Lamp) (c : Command) (onOff : OnOff) → lampForm l ≡ true → lampForm (commandDone l c onOff .lamp) ≡ true
-unfolding lampForm
-done-form l c onOff formed =
-    done-by l (λ (e : CommandEffect). lampForm (e .lamp) ≡ true) (λ t. formed) c onOff formed
-    (λ flags action direction time hue options e. loop-by l (λ n. Unit) tt tt tt tt (λ m. lampForm m ≡ true) (λ s t f u. formed) (λ new s n t f u. form-of (withLoop l (hueSet (l .color) new true true (l .clock)) s) (form-clock l formed) (hue-kept _ _ _ (form-color l formed) new true true) (form-running l formed)) flags action direction time hue tt tt)
+done-valid : (l : Lamp) (c : Command) (onOff : OnOff) → lampValid l ≡ true → lampValid (commandDone l c onOff .lamp) ≡ true
+unfolding lampValid
+done-valid l c onOff validity =
+    done-by l (λ (e : CommandEffect). lampValid (e .lamp) ≡ true) (λ t. validity) c onOff validity
+    (λ flags action direction time hue options e. loop-by l (λ n. Unit) tt tt tt tt (λ m. lampValid m ≡ true) (λ s t f u. validity) (λ new s n t f u. valid-of (withLoop l (hueSet (l .color) new true true (l .clock)) s) (valid-clock l validity) (hue-kept _ _ _ (valid-color l validity) new true true) (valid-running l validity)) flags action direction time hue tt tt)
 
 -- and widths
-done-typed : (l : Lamp) (c : Command) (onOff : OnOff) → TypedLamp l → TypedCommand c → lampForm (commandDone l c onOff .lamp) ≡ true → TypedLamp (commandDone l c onOff .lamp)
-done-typed l c onOff typed t =
-    done-by l (λ (e : CommandEffect). lampForm (e .lamp) ≡ true → TypedLamp (e .lamp)) (λ task f. typed) c onOff (λ f. typed)
+done-in-range : (l : Lamp) (c : Command) (onOff : OnOff) → InRangeLamp l → InRangeCommand c → lampValid (commandDone l c onOff .lamp) ≡ true → InRangeLamp (commandDone l c onOff .lamp)
+done-in-range l c onOff inRange t =
+    done-by l (λ (e : CommandEffect). lampValid (e .lamp) ≡ true → InRangeLamp (e .lamp)) (λ task f. inRange) c onOff (λ f. inRange)
     (λ flags action direction time hue options e.
-    let t' : TypedCommand (Command.ColorLoopSet flags action direction time hue options) = rw e at t in
-    loop-by l Word (typed .hue) (typed .loopTime) (typed .loopStart) (typed .loopStored) (λ m. lampForm m ≡ true → TypedLamp m)
-    (λ s t f u formed. typed-of _ formed (typed .bounds) (typed .hue) t f u (typed .remaining) (typed .options) (typed .running))
-    (λ new s n t f u formed. typed-of _ formed (typed .bounds) (hue-word _ new true _ true (typed .hue) n) t f u (typed .remaining) (typed .options) (typed .running))
+    let t' : InRangeCommand (Command.ColorLoopSet flags action direction time hue options) = rw e at t in
+    loop-by l Short (inRange .hue) (inRange .loopTime) (inRange .loopStart) (inRange .loopStored) (λ m. lampValid m ≡ true → InRangeLamp m)
+    (λ s t f u validity. in-range-of _ validity (inRange .bounds) (inRange .hue) t f u (inRange .remaining) (inRange .options) (inRange .running))
+    (λ new s n t f u validity. in-range-of _ validity (inRange .bounds) (hue-word _ new true _ true (inRange .hue) n) t f u (inRange .remaining) (inRange .options) (inRange .running))
     flags action direction time hue (t' .1) (t' .2))
 
 -- ---- every call
@@ -180,65 +180,65 @@ module _ (l : Lamp) (x : Call) where
       answer-both l (λ a. a .lamp .options ≡ l .options) x (λ e. granted-any l x (λ m. m .options ≡ l .options) (λ m. refl)) (λ n. refl)
 
 -- every call keeps form
-pub form-kept : (l : Lamp) (x : Call) → lampForm l ≡ true → lampForm (answer l x .lamp) ≡ true
+pub valid-kept : (l : Lamp) (x : Call) → lampValid l ≡ true → lampValid (answer l x .lamp) ≡ true
 unfolding answer
-form-kept l (Call.Command c onOff clock) formed =
-    answer-both l (λ a. lampForm (a .lamp) ≡ true) (Call.Command c onOff clock) (λ e. done-form (atClock l clock) c onOff (granted-ready l (Call.Command c onOff clock) e)) (λ n. formed)
-form-kept l (Call.Start task clock) formed = start-form l clock formed task
-form-kept l (Call.Step clock) formed = step-form l clock formed
-form-kept l (Call.Halt clock) formed = halt-form l clock formed
+valid-kept l (Call.Command c onOff clock) validity =
+    answer-both l (λ a. lampValid (a .lamp) ≡ true) (Call.Command c onOff clock) (λ e. done-valid (atClock l clock) c onOff (granted-ready l (Call.Command c onOff clock) e)) (λ n. validity)
+valid-kept l (Call.Start task clock) validity = start-valid l clock validity task
+valid-kept l (Call.Step clock) validity = step-valid l clock validity
+valid-kept l (Call.Halt clock) validity = halt-valid l clock validity
 
 -- what is granted keeps widths
-granted-typed : (l : Lamp) (x : Call) → lampForm (atClock l (clockOf x)) ≡ true → TypedLamp l → TypedCall x → lampForm (granted l x .lamp) ≡ true → TypedLamp (granted l x .lamp)
-granted-typed l (Call.Command c onOff clock) before typed t formed = done-typed _ c onOff (clock-typed l typed clock before) (t .0) formed
-granted-typed l (Call.Start task clock) before typed t formed = started-typed _ task before formed (clock-typed l typed clock before) (t .0)
-granted-typed l (Call.Step clock) before typed t formed = stepped-typed _ (clock-typed l typed clock before) (l .running) (typed .running) formed
-granted-typed l (Call.Halt clock) before typed t formed =
-    changed-typed _ (clock-typed l typed clock before) _ _ _ formed (typed .hue) (typed .remaining) tt
+granted-in-range : (l : Lamp) (x : Call) → lampValid (atClock l (clockOf x)) ≡ true → InRangeLamp l → InRangeCall x → lampValid (granted l x .lamp) ≡ true → InRangeLamp (granted l x .lamp)
+granted-in-range l (Call.Command c onOff clock) before inRange t validity = done-in-range _ c onOff (clock-in-range l inRange clock before) (t .0) validity
+granted-in-range l (Call.Start task clock) before inRange t validity = started-in-range _ task before validity (clock-in-range l inRange clock before) (t .0)
+granted-in-range l (Call.Step clock) before inRange t validity = stepped-in-range _ (clock-in-range l inRange clock before) (l .running) (inRange .running) validity
+granted-in-range l (Call.Halt clock) before inRange t validity =
+    changed-in-range _ (clock-in-range l inRange clock before) _ _ _ validity (inRange .hue) (inRange .remaining) tt
 
 -- every call keeps widths
-pub typed-kept : (l : Lamp) (x : Call) → lampForm l ≡ true → TypedLamp l → TypedCall x → TypedLamp (answer l x .lamp)
-typed-kept l x formed typed t =
-    answer-both l (λ a. lampForm (a .lamp) ≡ true → TypedLamp (a .lamp)) x (λ e f. granted-typed l x (granted-ready l x e) typed t f) (λ n f. typed) (form-kept l x formed)
+pub in-range-kept : (l : Lamp) (x : Call) → lampValid l ≡ true → InRangeLamp l → InRangeCall x → InRangeLamp (answer l x .lamp)
+in-range-kept l x validity inRange t =
+    answer-both l (λ a. lampValid (a .lamp) ≡ true → InRangeLamp (a .lamp)) x (λ e f. granted-in-range l x (granted-ready l x e) inRange t f) (λ n f. inRange) (valid-kept l x validity)
 
--- ---- a command tells few
+-- ---- a command reports few
 
 -- the settings' notices are at most four
-pub updated-few : (flags : ℕ) → length (updatedTold flags) ≤ 4
+pub updated-few : (flags : ℕ) → length (updatedReported flags) ≤ 4
 updated-few flags =
     simp length-append
     (omega
     (arith, only-one (hasFlag flags updateDirection) ColorLoopDirection, only-one (hasFlag flags updateTime) ColorLoopTime, only-one (hasFlag flags updateStartHue) ColorLoopStartEnhancedHue))
 
 -- with those of going off, at most 14
-deactivated-few : (l : Lamp) (told : List ℕ) → length told ≤ 4 → length (deactivated l told .told) ≤ 14
+deactivated-few : (l : Lamp) (reported : List ℕ) → length reported ≤ 4 → length (deactivated l reported .reported) ≤ 14
 unfolding deactivated
-deactivated-few l told h =
-    cond-both (λ (e : CommandEffect). length (e .told) ≤ 14) (l .looping .active) _ (record { lamp = l; told = told; task = GivenTask.Nothing })
+deactivated-few l reported h =
+    cond-both (λ (e : CommandEffect). length (e .reported) ≤ 14) (l .looping .active) _ (record { lamp = l; reported = reported; task = GivenTask.Nothing })
     (λ e. simp length-append (omega (arith, hue-few (l .color) (l .looping .stored) true (l .clock) false true)))
     (λ e. omega arith)
 
 -- and with those of going on from a hue
-activated-few : (l : Lamp) (told : List ℕ) (seed : ℕ) → length told ≤ 4 → length (activated l told seed .told) ≤ 14
+activated-few : (l : Lamp) (reported : List ℕ) (seed : ℕ) → length reported ≤ 4 → length (activated l reported seed .reported) ≤ 14
 unfolding activated
-activated-few l told seed h =
+activated-few l reported seed h =
     let both : List ℕ = ColorLoopStoredEnhancedHue ∷ ColorLoopActive ∷ [] in
     let some : length (cond (l .looping .active) [] both) ≤ 2 = cond-both (λ xs. length xs ≤ 2) (l .looping .active) [] both (λ e. omega arith) (λ e. omega arith) in
     simp length-append (omega (arith, hue-few (l .color) seed true (l .clock) true true))
 
--- the colour loop's command tells at most 14
-loop-few : (l : Lamp) (flags : ℕ) (action : ColorLoopActionEnum) (direction : ColorLoopDirectionEnum) (time hue : ℕ) → length (loopSet l flags action direction time hue .told) ≤ 14
+-- the colour loop's command reports at most 14
+loop-few : (l : Lamp) (flags : ℕ) (action : ColorLoopActionEnum) (direction : ColorLoopDirectionEnum) (time hue : ℕ) → length (loopSet l flags action direction time hue .reported) ≤ 14
 unfolding loopSet
 loop-few l flags action direction time hue =
-    cond-both (λ (e : CommandEffect). length (e .told) ≤ 14) (hasFlag flags updateAction) _ _ (λ e. acts action) (λ e. le-trans (updated-few flags) (omega arith))
+    cond-both (λ (e : CommandEffect). length (e .reported) ≤ 14) (hasFlag flags updateAction) _ _ (λ e. acts action) (λ e. le-trans (updated-few flags) (omega arith))
   where
-    acts : (a : ColorLoopActionEnum) → length (acted (withLoop l (l .color) (updated (l .looping) flags direction time hue)) (updatedTold flags) a .told) ≤ 14
+    acts : (a : ColorLoopActionEnum) → length (acted (withLoop l (l .color) (updated (l .looping) flags direction time hue)) (updatedReported flags) a .reported) ≤ 14
     acts ColorLoopActionEnum.Deactivate = deactivated-few _ _ (updated-few flags)
     acts ColorLoopActionEnum.ActivateFromColorLoopStartEnhancedHue = activated-few _ _ _ (updated-few flags)
     acts ColorLoopActionEnum.ActivateFromEnhancedCurrentHue = activated-few _ _ _ (updated-few flags)
 
 -- and so does every command
-pub commands-few : (l : Lamp) (c : Command) (onOff : OnOff) → length (commandDone l c onOff .told) ≤ 14
+pub commands-few : (l : Lamp) (c : Command) (onOff : OnOff) → length (commandDone l c onOff .reported) ≤ 14
 commands-few l c onOff =
-    done-by l (λ (e : CommandEffect). length (e .told) ≤ 14) (λ t. omega arith) c onOff (omega arith)
+    done-by l (λ (e : CommandEffect). length (e .reported) ≤ 14) (λ t. omega arith) c onOff (omega arith)
     (λ flags action direction time hue options e. loop-few l flags action direction time hue)

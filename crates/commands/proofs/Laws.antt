@@ -18,12 +18,12 @@ use Rattle.matter.specs.Flags.{hasFlag, updateDirection, updateTime, updateStar
 use Rattle.notices.specs.declared.Notices.{Notices}
 use Rattle.notices.specs.Notices.{only, noted, pushed, pushedAll}
 use Rattle.notices.proofs.Laws.{only-one, pushed-append, pushed-behind, pushed-all-noted}
-use Rattle.color.specs.Setters.{hueSet, hueTold}
+use Rattle.color.specs.Setters.{hueSet, hueReported}
 use Rattle.color.proofs.Kept.{hue-few}
 use Rattle.tasks.specs.declared.GivenTask.{GivenTask}
 use Rattle.tasks.specs.declared.Task.{Task}
 use Rattle.lamp.specs.declared.Lamp.{Lamp}
-use Rattle.commands.specs.Commands.{CommandEffect, withLoop, activity, updatedTold, deactivated, activated, acted}
+use Rattle.commands.specs.Commands.{CommandEffect, withLoop, activity, updatedReported, deactivated, activated, acted}
 use Rattle.commands.specs.Answers.{commandAccepted}
 use Rattle.commands.proofs.Kept.{updated-few}
 use Rattle.commands.specs.Shared.{pushedAnswer}
@@ -71,10 +71,10 @@ pub both-noted : (xs ys : List ℕ) → length xs + length ys ≤ 16 → pushedA
 both-noted xs ys h =
     pushed-append (noted []) xs ys ∙ pushed-all-noted [] (xs ++ ys) (simp length-append (omega arith))
 
--- ---- the loop's command: what was told so far stands before what the action tells
+-- ---- the loop's command: what was reported so far stands before what the action reports
 
 -- the flags' notices fit
-pub few : (flags : ℕ) → length {A = ℕ} [] + length (updatedTold flags) ≤ 16
+pub few : (flags : ℕ) → length {A = ℕ} [] + length (updatedReported flags) ≤ 16
 few flags = omega (arith, updated-few flags)
 
 -- two choices by one test
@@ -86,11 +86,11 @@ stored-few : (active : Bool) → length {A = ℕ} (cond active [] (12 ∷ 8 ∷ 
 stored-few true = omega arith
 stored-few false = omega arith
 
-module _ (l : Lamp) (told : List ℕ) (few : length told ≤ 4) where
-  off : pushedAnswer (pushedAll (noted []) told) (deactivated l []) ≡ commandAccepted (deactivated l told)
+module _ (l : Lamp) (reported : List ℕ) (few : length reported ≤ 4) where
+  off : pushedAnswer (pushedAll (noted []) reported) (deactivated l []) ≡ commandAccepted (deactivated l reported)
   unfolding deactivated pushedAll
   off =
-      both (λ (x y : CommandEffect). pushedAnswer (pushedAll (noted []) told) x ≡ commandAccepted y) (l .looping .active)
+      both (λ (x y : CommandEffect). pushedAnswer (pushedAll (noted []) reported) x ≡ commandAccepted y) (l .looping .active)
       (simp append-assoc
       (ap
       (λ (n : Notices).
@@ -101,12 +101,12 @@ module _ (l : Lamp) (told : List ℕ) (few : length told ≤ 4) where
         task = GivenTask.Given Task.Stop;
         wait = 0;
       })
-      (both-noted told (17 ∷ 8 ∷ (hueTold (l .color) (l .looping .stored) true true (l .clock) false ++ (15 ∷ [])))
+      (both-noted reported (17 ∷ 8 ∷ (hueReported (l .color) (l .looping .stored) true true (l .clock) false ++ (15 ∷ [])))
       (simp length-append (omega (arith, hue-few (l .color) (l .looping .stored) true (l .clock) false true))))))
       (ap (λ (n : Notices). record { number = 0; lamp = l; notices = n; task = GivenTask.Nothing; wait = 0 })
-      (pushed-all-noted [] told (omega arith)))
+      (pushed-all-noted [] reported (omega arith)))
 
-  on : (seed : ℕ) → pushedAnswer (pushedAll (noted []) told) (activated l [] seed) ≡ commandAccepted (activated l told seed)
+  on : (seed : ℕ) → pushedAnswer (pushedAll (noted []) reported) (activated l [] seed) ≡ commandAccepted (activated l reported seed)
   unfolding activated
   on seed =
       simp append-assoc
@@ -119,12 +119,12 @@ module _ (l : Lamp) (told : List ℕ) (few : length told ≤ 4) where
         task = activated l [] seed .task;
         wait = 0;
       })
-      (both-noted told
-      (cond (l .looping .active) [] (12 ∷ 8 ∷ []) ++ (hueTold (l .color) seed true true (l .clock) true ++ (15 ∷ 17 ∷ [])))
+      (both-noted reported
+      (cond (l .looping .active) [] (12 ∷ 8 ∷ []) ++ (hueReported (l .color) seed true true (l .clock) true ++ (15 ∷ 17 ∷ [])))
       (simp length-append
       (omega (arith, stored-few (l .looping .active), hue-few (l .color) seed true (l .clock) true true)))))
 
-  pub acted-behind : (action : ColorLoopActionEnum) → pushedAnswer (pushedAll (noted []) told) (acted l [] action) ≡ commandAccepted (acted l told action)
+  pub acted-behind : (action : ColorLoopActionEnum) → pushedAnswer (pushedAll (noted []) reported) (acted l [] action) ≡ commandAccepted (acted l reported action)
   acted-behind ColorLoopActionEnum.Deactivate = off
   acted-behind ColorLoopActionEnum.ActivateFromColorLoopStartEnhancedHue = on (l .looping .start)
   acted-behind ColorLoopActionEnum.ActivateFromEnhancedCurrentHue = on (l .color .hue)

@@ -15,7 +15,7 @@ use Rattle.lamp.specs.Answers.{atClock}
 use Rattle.lamp.specs.Calls.{temperatureStart, started, stepped}
 use Rattle.lamp.specs.Passes.{Effect, huePass, saturationPass, temperaturePass, loopPass}
 use Rattle.lamp.specs.declared.Call.{Call}
-use Rattle.lamp.proofs.TypedKept.{started-any, stepped-any}
+use Rattle.lamp.proofs.InRangeKept.{started-any, stepped-any}
 use Rattle.commands.specs.Answers.{cause, answer, granted}
 use Rattle.commands.specs.Leaves.{bare, isMoveTo, movesTo, Leaves}
 use Rattle.commands.proofs.Kept.{answer-both, refused-same, done-any, bounds-kept, options-kept}

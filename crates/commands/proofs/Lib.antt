@@ -1,5 +1,5 @@
 pub mod Laws
 pub mod Kept
-pub mod TaskForm
+pub mod TaskValid
 pub mod Table
 pub mod Leaves

@@ -12,12 +12,12 @@ use Rattle.matter.proofs.Laws.{cond-both}
 use Rattle.matter.specs.Limits.{hueLimit, saturationLimit}
 use Rattle.notices.specs.Notices.{noted}
 use Rattle.tasks.specs.declared.Task.{Task}
-use Rattle.tasks.specs.Form.{taskForm}
+use Rattle.tasks.specs.Valid.{taskValid}
 use Rattle.tasks.specs.Runs.{runs}
 use Rattle.lamp.specs.declared.Lamp.{Lamp}
 use Rattle.lamp.specs.declared.Answer.{Answer}
-use Rattle.lamp.specs.Answers.{atClock, badClock, formOrClock, refusal}
-use Rattle.lamp.specs.Form.{lampForm}
+use Rattle.lamp.specs.Answers.{atClock, badClock, firstCause, refusal}
+use Rattle.lamp.specs.Valid.{lampValid}
 use Rattle.lamp.specs.Calls.{started, stepped, startAnswer, stepAnswer, haltAnswer, choose, startCause, stepCause}
 use Rattle.lamp.proofs.Kept.{started-few, stepped-few}
 use Rattle.lamp.specs.declared.Call.{Call}
@@ -28,82 +28,82 @@ use Rattle.commands.proofs.Kept.{commands-few}
 
 module _ (l : Lamp) (clock : ℕ) where
   -- ---- a step: 8, 7, 4
-  pub step-8 : lampForm l ≡ false → cause l (Call.Step clock) ≡ 8
+  pub step-8 : lampValid l ≡ false → cause l (Call.Step clock) ≡ 8
   unfolding cause
   step-8 f = simp f
 
-  pub step-7 : lampForm l ≡ true → runs (l .running) ≡ false → cause l (Call.Step clock) ≡ 7
+  pub step-7 : lampValid l ≡ true → runs (l .running) ≡ false → cause l (Call.Step clock) ≡ 7
   unfolding cause
   step-7 f r = simp (f, r)
 
-  pub step-4 : lampForm l ≡ true → runs (l .running) ≡ true → badClock l clock ≡ true → cause l (Call.Step clock) ≡ 4
+  pub step-4 : lampValid l ≡ true → runs (l .running) ≡ true → badClock l clock ≡ true → cause l (Call.Step clock) ≡ 4
   unfolding cause
   step-4 f r b = simp (f, r, b)
 
-  -- a step of a running lamp in form with a good clock is never refused
-  pub step-0 : lampForm l ≡ true → runs (l .running) ≡ true → badClock l clock ≡ false → cause l (Call.Step clock) ≡ 0
+  -- a step of a running lamp valid with a good clock is never refused
+  pub step-0 : lampValid l ≡ true → runs (l .running) ≡ true → badClock l clock ≡ false → cause l (Call.Step clock) ≡ 0
   unfolding cause
   step-0 f r b = simp (f, r, b)
 
   -- ---- a halt: 8, 4
-  pub halt-8 : lampForm l ≡ false → cause l (Call.Halt clock) ≡ 8
-  unfolding cause formOrClock
+  pub halt-8 : lampValid l ≡ false → cause l (Call.Halt clock) ≡ 8
+  unfolding cause firstCause
   halt-8 f = simp f
 
-  pub halt-4 : lampForm l ≡ true → badClock l clock ≡ true → cause l (Call.Halt clock) ≡ 4
-  unfolding cause formOrClock
+  pub halt-4 : lampValid l ≡ true → badClock l clock ≡ true → cause l (Call.Halt clock) ≡ 4
+  unfolding cause firstCause
   halt-4 f b = simp (f, b)
 
-  pub halt-0 : lampForm l ≡ true → badClock l clock ≡ false → cause l (Call.Halt clock) ≡ 0
-  unfolding cause formOrClock
+  pub halt-0 : lampValid l ≡ true → badClock l clock ≡ false → cause l (Call.Halt clock) ≡ 0
+  unfolding cause firstCause
   halt-0 f b = simp (f, b)
 
   module _ (task : Task) where
     -- ---- a start: 8, 4, 6
-    pub start-8 : lampForm l ≡ false → cause l (Call.Start task clock) ≡ 8
-    unfolding cause formOrClock
+    pub start-8 : lampValid l ≡ false → cause l (Call.Start task clock) ≡ 8
+    unfolding cause firstCause
     start-8 f = simp f
 
-    pub start-4 : lampForm l ≡ true → badClock l clock ≡ true → cause l (Call.Start task clock) ≡ 4
-    unfolding cause formOrClock
+    pub start-4 : lampValid l ≡ true → badClock l clock ≡ true → cause l (Call.Start task clock) ≡ 4
+    unfolding cause firstCause
     start-4 f b = simp (f, b)
 
-    pub start-6 : lampForm l ≡ true → badClock l clock ≡ false → taskForm task ≡ false → cause l (Call.Start task clock) ≡ 6
-    unfolding cause formOrClock
+    pub start-6 : lampValid l ≡ true → badClock l clock ≡ false → taskValid task ≡ false → cause l (Call.Start task clock) ≡ 6
+    unfolding cause firstCause
     start-6 f b t = simp (f, b, t)
 
-    pub start-0 : lampForm l ≡ true → badClock l clock ≡ false → taskForm task ≡ true → cause l (Call.Start task clock) ≡ 0
-    unfolding cause formOrClock
+    pub start-0 : lampValid l ≡ true → badClock l clock ≡ false → taskValid task ≡ true → cause l (Call.Start task clock) ≡ 0
+    unfolding cause firstCause
     start-0 f b t = simp (f, b, t)
 
   module _ (c : Command) (onOff : OnOff) where
     -- ---- a command: 8, 4, Stop mode, its own numbers (1 or 2), off, 3
-    pub command-8 : lampForm l ≡ false → cause l (Call.Command c onOff clock) ≡ 8
-    unfolding cause commandCause formOrClock
+    pub command-8 : lampValid l ≡ false → cause l (Call.Command c onOff clock) ≡ 8
+    unfolding cause commandCause firstCause
     command-8 f = simp f
 
-    pub command-4 : lampForm l ≡ true → badClock l clock ≡ true → cause l (Call.Command c onOff clock) ≡ 4
-    unfolding cause commandCause formOrClock
+    pub command-4 : lampValid l ≡ true → badClock l clock ≡ true → cause l (Call.Command c onOff clock) ≡ 4
+    unfolding cause commandCause firstCause
     command-4 f b = simp (f, b)
 
-    pub command-stop : lampForm l ≡ true → badClock l clock ≡ false → stopMode c ≡ true → cause l (Call.Command c onOff clock) ≡ 0
-    unfolding cause commandCause formOrClock
+    pub command-stop : lampValid l ≡ true → badClock l clock ≡ false → stopMode c ≡ true → cause l (Call.Command c onOff clock) ≡ 0
+    unfolding cause commandCause firstCause
     command-stop f b s = simp (f, b, s)
 
-    pub command-number : lampForm l ≡ true → badClock l clock ≡ false → stopMode c ≡ false → eqb (numberCause c) 0 ≡ false → cause l (Call.Command c onOff clock) ≡ numberCause c
-    unfolding cause commandCause formOrClock
+    pub command-number : lampValid l ≡ true → badClock l clock ≡ false → stopMode c ≡ false → eqb (numberCause c) 0 ≡ false → cause l (Call.Command c onOff clock) ≡ numberCause c
+    unfolding cause commandCause firstCause
     command-number f b s n = simp (f, b, s, n)
 
-    pub command-off : lampForm l ≡ true → badClock l clock ≡ false → stopMode c ≡ false → eqb (numberCause c) 0 ≡ true → allowed l c onOff ≡ false → cause l (Call.Command c onOff clock) ≡ 0
-    unfolding cause commandCause formOrClock
+    pub command-off : lampValid l ≡ true → badClock l clock ≡ false → stopMode c ≡ false → eqb (numberCause c) 0 ≡ true → allowed l c onOff ≡ false → cause l (Call.Command c onOff clock) ≡ 0
+    unfolding cause commandCause firstCause
     command-off f b s n a = simp (f, b, s, n, a)
 
-    pub command-3 : lampForm l ≡ true → badClock l clock ≡ false → stopMode c ≡ false → eqb (numberCause c) 0 ≡ true → allowed l c onOff ≡ true → crossed (l .bounds) c ≡ true → cause l (Call.Command c onOff clock) ≡ 3
-    unfolding cause commandCause formOrClock
+    pub command-3 : lampValid l ≡ true → badClock l clock ≡ false → stopMode c ≡ false → eqb (numberCause c) 0 ≡ true → allowed l c onOff ≡ true → crossed (l .bounds) c ≡ true → cause l (Call.Command c onOff clock) ≡ 3
+    unfolding cause commandCause firstCause
     command-3 f b s n a x = simp (f, b, s, n, a, x)
 
-    pub command-0 : lampForm l ≡ true → badClock l clock ≡ false → stopMode c ≡ false → eqb (numberCause c) 0 ≡ true → allowed l c onOff ≡ true → crossed (l .bounds) c ≡ false → cause l (Call.Command c onOff clock) ≡ 0
-    unfolding cause commandCause formOrClock
+    pub command-0 : lampValid l ≡ true → badClock l clock ≡ false → stopMode c ≡ false → eqb (numberCause c) 0 ≡ true → allowed l c onOff ≡ true → crossed (l .bounds) c ≡ false → cause l (Call.Command c onOff clock) ≡ 0
+    unfolding cause commandCause firstCause
     command-0 f b s n a x = simp (f, b, s, n, a, x)
 
 -- ---- no number is above 8
@@ -130,44 +130,44 @@ own-small (Command.StepColorTemperature mode size time min max options) = small 
 own-small (Command.ColorLoopSet flags action direction time startHue options) = omega arith
 own-small (Command.StopMoveStep options) = omega arith
 
-first-small : (l : Lamp) (clock : ℕ) → formOrClock l clock ≤ 8
-unfolding formOrClock
+first-small : (l : Lamp) (clock : ℕ) → firstCause l clock ≤ 8
+unfolding firstCause
 first-small l clock =
-    cond-both (λ n. n ≤ 8) (not (lampForm l)) 8 _ (λ e. omega arith) (λ e. small (badClock l clock) 4 (omega arith))
+    cond-both (λ n. n ≤ 8) (not (lampValid l)) 8 _ (λ e. omega arith) (λ e. small (badClock l clock) 4 (omega arith))
 
 pub cause-small : (l : Lamp) (x : Call) → cause l x ≤ 8
 unfolding cause commandCause
 cause-small l (Call.Command c onOff clock) =
-    cond-both (λ n. n ≤ 8) (eqb (formOrClock l clock) 0) (afterClock l c onOff) (formOrClock l clock)
+    cond-both (λ n. n ≤ 8) (eqb (firstCause l clock) 0) (afterClock l c onOff) (firstCause l clock)
     (λ e. cond-both (λ n. n ≤ 8) (stopMode c) 0 _ (λ e. omega arith)
     (λ e. cond-both (λ n. n ≤ 8) (eqb (numberCause c) 0) _ (numberCause c) (λ e. small (allowed l c onOff && crossed (l .bounds) c) 3 (omega arith)) (λ e. omega (arith, own-small c))))
     (λ e. first-small l clock)
 cause-small l (Call.Start task clock) =
-    cond-both (λ n. n ≤ 8) (eqb (formOrClock l clock) 0) _ (formOrClock l clock)
-    (λ e. cond-both (λ n. n ≤ 8) (taskForm task) 0 6 (λ e. omega arith) (λ e. omega arith))
+    cond-both (λ n. n ≤ 8) (eqb (firstCause l clock) 0) _ (firstCause l clock)
+    (λ e. cond-both (λ n. n ≤ 8) (taskValid task) 0 6 (λ e. omega arith) (λ e. omega arith))
     (λ e. first-small l clock)
 cause-small l (Call.Step clock) =
-    cond-both (λ n. n ≤ 8) (not (lampForm l)) 8 _ (λ e. omega arith)
+    cond-both (λ n. n ≤ 8) (not (lampValid l)) 8 _ (λ e. omega arith)
     (λ e. cond-both (λ n. n ≤ 8) (not (runs (l .running))) 7 _ (λ e. omega arith) (λ e. small (badClock l clock) 4 (omega arith)))
 cause-small l (Call.Halt clock) = first-small l clock
 
 -- ---- at most 14 notices: an answer's list is some list of at most 14 in its places, with zeros behind
 
 chosen : (n : ℕ) (l : Lamp) (a : Answer) → Few a → Few (choose n l a)
-chosen n l a f = cond-both Few (eqb n 0) a (refusal l n) (λ e. f) (λ e. record { told = []; listed = refl; few = omega arith })
+chosen n l a f = cond-both Few (eqb n 0) a (refusal l n) (λ e. f) (λ e. record { reported = []; listed = refl; few = omega arith })
 
 pub answer-few : (l : Lamp) (x : Call) → Few (answer l x)
 unfolding answer commandAnswer startAnswer stepAnswer haltAnswer
 answer-few l (Call.Command c onOff clock) =
     chosen (commandCause l c onOff clock) l _
-    (record { told = commandDone (atClock l clock) c onOff .told; listed = refl; few = commands-few (atClock l clock) c onOff })
+    (record { reported = commandDone (atClock l clock) c onOff .reported; listed = refl; few = commands-few (atClock l clock) c onOff })
 answer-few l (Call.Start task clock) =
     chosen (startCause l task clock) l _
-    (record { told = started (atClock l clock) task .told; listed = refl; few = started-few (atClock l clock) task })
+    (record { reported = started (atClock l clock) task .reported; listed = refl; few = started-few (atClock l clock) task })
 answer-few l (Call.Step clock) =
     chosen (stepCause l clock) l _
-    (record { told = stepped (atClock l clock) (l .running) .told; listed = refl; few = stepped-few (atClock l clock) (l .running) })
-answer-few l (Call.Halt clock) = chosen (formOrClock l clock) l _ (record { told = []; listed = refl; few = omega arith })
+    (record { reported = stepped (atClock l clock) (l .running) .reported; listed = refl; few = stepped-few (atClock l clock) (l .running) })
+answer-few l (Call.Halt clock) = chosen (firstCause l clock) l _ (record { reported = []; listed = refl; few = omega arith })
 
 -- ---- together
 

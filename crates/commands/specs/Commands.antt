@@ -20,7 +20,7 @@ use Rattle.notices.specs.Names.{ColorLoopActive, ColorLoopDirection, ColorLoopT
 use Rattle.hue.specs.Hue.{pathDelta}
 use Rattle.progress.specs.Progress.{clamp}
 use Rattle.color.specs.declared.Color.{Color}
-use Rattle.color.specs.Setters.{hueSet, hueTold}
+use Rattle.color.specs.Setters.{hueSet, hueReported}
 use Rattle.tasks.specs.declared.GivenTask.{GivenTask}
 use Rattle.tasks.specs.declared.HueDelta.{HueDelta}
 use Rattle.tasks.specs.declared.TargetSaturation.{TargetSaturation}
@@ -30,19 +30,19 @@ use Rattle.lamp.specs.declared.LoopSettings.{LoopSettings}
 use Rattle.matter.specs.Bounds.{lower, upper}
 use Rattle.matter.specs.Rules.{signed}
 
--- what an accepted command does: the lamp after it, what it tells, and the task it gives
+-- what an accepted command does: the lamp after it, what it reports, and the task it gives
 pub record CommandEffect : Type 0 where
   pub lamp : Lamp
-  pub told : List ℕ
+  pub reported : List ℕ
   pub task : GivenTask
 
 -- a pass-over: nothing but the clock changes
-abbrev pub passOver : Lamp → CommandEffect
-passOver l = record { lamp = l; told = []; task = GivenTask.Nothing }
+abbrev pub skip : Lamp → CommandEffect
+skip l = record { lamp = l; reported = []; task = GivenTask.Nothing }
 
 -- a task given
 abbrev pub giving : Lamp → Task → CommandEffect
-giving l task = record { lamp = l; told = taskGiven ∷ []; task = GivenTask.Given task }
+giving l task = record { lamp = l; reported = taskGiven ∷ []; task = GivenTask.Given task }
 
 -- ---- what a command carries
 
@@ -165,9 +165,9 @@ abbrev pub temperatureTask : ℕ → ℕ → Task
 temperatureTask target tenths = Task.ColorTemperatureMoveTo (record { target = target; ms = ms tenths })
 
 -- a step's size with its sign
-abbrev pub stepWay : StepModeEnum → ℕ → ℤ
-stepWay StepModeEnum.Up size = pos size
-stepWay StepModeEnum.Down size = negℤ (pos size)
+abbrev pub stepDelta : StepModeEnum → ℕ → ℤ
+stepDelta StepModeEnum.Up size = pos size
+stepDelta StepModeEnum.Down size = negℤ (pos size)
 
 -- "Saturation steps stop at 0 and 254"
 abbrev pub saturationStep : StepModeEnum → ℕ → ℕ → ℕ
@@ -193,8 +193,8 @@ updated s flags direction time startHue =
     }
 
 -- ", marks dirty"
-abbrev pub updatedTold : ℕ → List ℕ
-updatedTold flags =
+abbrev pub updatedReported : ℕ → List ℕ
+updatedReported flags =
     only (hasFlag flags updateDirection) ColorLoopDirection
     ++ only (hasFlag flags updateTime) ColorLoopTime
     ++ only (hasFlag flags updateStartHue) ColorLoopStartEnhancedHue
@@ -205,49 +205,49 @@ activity s active stored = record { active = active; direction = s .direction; t
 
 -- ", then acts": off, where it is active, the stored hue comes back and the Stop task is given
 unfoldable pub deactivated : Lamp → List ℕ → CommandEffect
-deactivated l told =
+deactivated l reported =
     cond (l .looping .active)
     (record {
       lamp = withLoop l (hueSet (l .color) (l .looping .stored) true true (l .clock)) (activity (l .looping) false (l .looping .stored));
-      told =
-          told ++ (taskGiven ∷ ColorLoopActive ∷ []) ++ hueTold (l .color) (l .looping .stored) true true (l .clock) false
+      reported =
+          reported ++ (taskGiven ∷ ColorLoopActive ∷ []) ++ hueReported (l .color) (l .looping .stored) true true (l .clock) false
           ++ (deviceHueSaturation ∷ []);
       task = GivenTask.Given Task.Stop;
     })
-    (record { lamp = l; told = told; task = GivenTask.Nothing })
+    (record { lamp = l; reported = reported; task = GivenTask.Nothing })
 
 -- on: the hue is stored, unless the loop is active already, the first hue is set, and the loop's task is given
 unfoldable pub activated : Lamp → List ℕ → ℕ → CommandEffect
-activated l told seed =
+activated l reported seed =
     record {
       lamp =
           withLoop l (hueSet (l .color) seed true true (l .clock))
           (activity (l .looping) true (cond (l .looping .active) (l .looping .stored) (l .color .hue)));
-      told =
-          told ++ cond (l .looping .active) [] (ColorLoopStoredEnhancedHue ∷ ColorLoopActive ∷ [])
-          ++ hueTold (l .color) seed true true (l .clock) true
+      reported =
+          reported ++ cond (l .looping .active) [] (ColorLoopStoredEnhancedHue ∷ ColorLoopActive ∷ [])
+          ++ hueReported (l .color) seed true true (l .clock) true
           ++ (deviceHueSaturation ∷ taskGiven ∷ []);
       task = GivenTask.Given (Task.ColorLoop (record { direction = l .looping .direction; seconds = l .looping .time }));
     }
 
 abbrev pub acted : Lamp → List ℕ → ColorLoopActionEnum → CommandEffect
-acted l told ColorLoopActionEnum.Deactivate = deactivated l told
-acted l told ColorLoopActionEnum.ActivateFromColorLoopStartEnhancedHue = activated l told (l .looping .start)
-acted l told ColorLoopActionEnum.ActivateFromEnhancedCurrentHue = activated l told (l .color .hue)
+acted l reported ColorLoopActionEnum.Deactivate = deactivated l reported
+acted l reported ColorLoopActionEnum.ActivateFromColorLoopStartEnhancedHue = activated l reported (l .looping .start)
+acted l reported ColorLoopActionEnum.ActivateFromEnhancedCurrentHue = activated l reported (l .color .hue)
 
 unfoldable pub loopSet : Lamp → ℕ → ColorLoopActionEnum → ColorLoopDirectionEnum → ℕ → ℕ → CommandEffect
 loopSet l flags action direction time startHue =
     let changed : Lamp = withLoop l (l .color) (updated (l .looping) flags direction time startHue) in
-    cond (hasFlag flags updateAction) (acted changed (updatedTold flags) action)
-    (record { lamp = changed; told = updatedTold flags; task = GivenTask.Nothing })
+    cond (hasFlag flags updateAction) (acted changed (updatedReported flags) action)
+    (record { lamp = changed; reported = updatedReported flags; task = GivenTask.Nothing })
 
--- ---- a command with leave to run, in no Stop mode
+-- ---- a command with leave to execute, in no Stop mode
 
 unfoldable pub commandEffect : Lamp → Command → CommandEffect
 commandEffect l (Command.MoveToHue hue direction time options) =
     giving l (hueTask (pathDelta (l .color .hue) (stored hue) direction) TargetSaturation.Keep time false)
 commandEffect l (Command.MoveHue mode rate enhanced options) = giving l (hueMoveTask mode (cond enhanced rate (stored rate)) enhanced)
-commandEffect l (Command.StepHue mode size time options) = giving l (hueTask (stepWay mode (stored size)) TargetSaturation.Keep time false)
+commandEffect l (Command.StepHue mode size time options) = giving l (hueTask (stepDelta mode (stored size)) TargetSaturation.Keep time false)
 commandEffect l (Command.MoveToSaturation saturation time options) = giving l (saturationTask saturation time)
 commandEffect l (Command.MoveSaturation mode rate options) = giving l (Task.SaturationMove (record { direction = mode; rate = rate }))
 commandEffect l (Command.StepSaturation mode size time options) =
@@ -258,13 +258,13 @@ commandEffect l (Command.MoveToHueAndSaturation hue saturation time enhanced enh
 commandEffect l (Command.EnhancedMoveToHue hue direction time options) =
     giving l (hueTask (pathDelta (l .color .hue) hue direction) TargetSaturation.Keep time true)
 commandEffect l (Command.EnhancedMoveHue mode rate options) = giving l (hueMoveTask mode rate true)
-commandEffect l (Command.EnhancedStepHue mode size time options) = giving l (hueTask (stepWay mode size) TargetSaturation.Keep time true)
+commandEffect l (Command.EnhancedStepHue mode size time options) = giving l (hueTask (stepDelta mode size) TargetSaturation.Keep time true)
 commandEffect l (Command.MoveToColorTemperature mireds time options) =
     giving l (temperatureTask (clamp (l .bounds .min) (l .bounds .max) (pos mireds)) time)
 commandEffect l (Command.MoveColorTemperature mode rate min max options) =
     giving l
     (Task.ColorTemperatureMove (record { rate = signed mode rate; min = asked (l .bounds .min) min; max = asked (l .bounds .max) max }))
 commandEffect l (Command.StepColorTemperature mode size time min max options) =
-    giving l (temperatureTask (clamp (lo (l .bounds) min) (hi (l .bounds) max) (pos (l .color .mireds) +ℤ stepWay mode size)) time)
+    giving l (temperatureTask (clamp (lo (l .bounds) min) (hi (l .bounds) max) (pos (l .color .mireds) +ℤ stepDelta mode size)) time)
 commandEffect l (Command.ColorLoopSet flags action direction time startHue options) = loopSet l flags action direction time startHue
 commandEffect l (Command.StopMoveStep options) = giving l Task.Stop

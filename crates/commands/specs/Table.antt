@@ -12,56 +12,56 @@ use Rattle.matter.specs.declared.commands.Command.{Command}
 use Rattle.matter.specs.declared.enums.OnOff.{OnOff}
 use Rattle.notices.specs.Notices.{noted}
 use Rattle.tasks.specs.declared.Task.{Task}
-use Rattle.tasks.specs.Form.{taskForm}
+use Rattle.tasks.specs.Valid.{taskValid}
 use Rattle.tasks.specs.Runs.{runs}
 use Rattle.lamp.specs.declared.Lamp.{Lamp}
 use Rattle.lamp.specs.declared.Answer.{Answer}
 use Rattle.lamp.specs.Answers.{badClock}
-use Rattle.lamp.specs.Form.{lampForm}
+use Rattle.lamp.specs.Valid.{lampValid}
 use Rattle.lamp.specs.declared.Call.{Call}
 use Rattle.commands.specs.Commands.{stopMode, numberCause, crossed}
 use Rattle.commands.specs.Answers.{allowed, cause, answer}
 
--- steps 8, 7, 4; a step of a running lamp in form with a good clock is never refused
+-- steps 8, 7, 4; a step of a running lamp valid with a good clock is never refused
 pub record StepCauses (l : Lamp) (clock : ℕ) : Type 0 where
-  pub step-8 : lampForm l ≡ false → cause l (Call.Step clock) ≡ 8
-  pub step-7 : lampForm l ≡ true → runs (l .running) ≡ false → cause l (Call.Step clock) ≡ 7
-  pub step-4 : lampForm l ≡ true → runs (l .running) ≡ true → badClock l clock ≡ true → cause l (Call.Step clock) ≡ 4
-  pub step-0 : lampForm l ≡ true → runs (l .running) ≡ true → badClock l clock ≡ false → cause l (Call.Step clock) ≡ 0
+  pub step-8 : lampValid l ≡ false → cause l (Call.Step clock) ≡ 8
+  pub step-7 : lampValid l ≡ true → runs (l .running) ≡ false → cause l (Call.Step clock) ≡ 7
+  pub step-4 : lampValid l ≡ true → runs (l .running) ≡ true → badClock l clock ≡ true → cause l (Call.Step clock) ≡ 4
+  pub step-0 : lampValid l ≡ true → runs (l .running) ≡ true → badClock l clock ≡ false → cause l (Call.Step clock) ≡ 0
 
 -- halts 8, 4
 pub record HaltCauses (l : Lamp) (clock : ℕ) : Type 0 where
-  pub halt-8 : lampForm l ≡ false → cause l (Call.Halt clock) ≡ 8
-  pub halt-4 : lampForm l ≡ true → badClock l clock ≡ true → cause l (Call.Halt clock) ≡ 4
-  pub halt-0 : lampForm l ≡ true → badClock l clock ≡ false → cause l (Call.Halt clock) ≡ 0
+  pub halt-8 : lampValid l ≡ false → cause l (Call.Halt clock) ≡ 8
+  pub halt-4 : lampValid l ≡ true → badClock l clock ≡ true → cause l (Call.Halt clock) ≡ 4
+  pub halt-0 : lampValid l ≡ true → badClock l clock ≡ false → cause l (Call.Halt clock) ≡ 0
 
 -- starts 8, 4, 6
 pub record StartCauses (l : Lamp) (clock : ℕ) (task : Task) : Type 0 where
-  pub start-8 : lampForm l ≡ false → cause l (Call.Start task clock) ≡ 8
-  pub start-4 : lampForm l ≡ true → badClock l clock ≡ true → cause l (Call.Start task clock) ≡ 4
-  pub start-6 : lampForm l ≡ true → badClock l clock ≡ false → taskForm task ≡ false → cause l (Call.Start task clock) ≡ 6
-  pub start-0 : lampForm l ≡ true → badClock l clock ≡ false → taskForm task ≡ true → cause l (Call.Start task clock) ≡ 0
+  pub start-8 : lampValid l ≡ false → cause l (Call.Start task clock) ≡ 8
+  pub start-4 : lampValid l ≡ true → badClock l clock ≡ true → cause l (Call.Start task clock) ≡ 4
+  pub start-6 : lampValid l ≡ true → badClock l clock ≡ false → taskValid task ≡ false → cause l (Call.Start task clock) ≡ 6
+  pub start-0 : lampValid l ≡ true → badClock l clock ≡ false → taskValid task ≡ true → cause l (Call.Start task clock) ≡ 0
 
 -- commands 8, 4, Stop mode, the command's own numbers (1 or 2), off, 3
 pub record CommandCauses (l : Lamp) (clock : ℕ) (c : Command) (onOff : OnOff) : Type 0 where
-  pub command-8 : lampForm l ≡ false → cause l (Call.Command c onOff clock) ≡ 8
-  pub command-4 : lampForm l ≡ true → badClock l clock ≡ true → cause l (Call.Command c onOff clock) ≡ 4
-  pub command-stop : lampForm l ≡ true → badClock l clock ≡ false → stopMode c ≡ true →
+  pub command-8 : lampValid l ≡ false → cause l (Call.Command c onOff clock) ≡ 8
+  pub command-4 : lampValid l ≡ true → badClock l clock ≡ true → cause l (Call.Command c onOff clock) ≡ 4
+  pub command-stop : lampValid l ≡ true → badClock l clock ≡ false → stopMode c ≡ true →
       cause l (Call.Command c onOff clock) ≡ 0
-  pub command-number : lampForm l ≡ true → badClock l clock ≡ false → stopMode c ≡ false → eqb (numberCause c) 0 ≡ false →
+  pub command-number : lampValid l ≡ true → badClock l clock ≡ false → stopMode c ≡ false → eqb (numberCause c) 0 ≡ false →
       cause l (Call.Command c onOff clock) ≡ numberCause c
-  pub command-off : lampForm l ≡ true → badClock l clock ≡ false → stopMode c ≡ false → eqb (numberCause c) 0 ≡ true →
+  pub command-off : lampValid l ≡ true → badClock l clock ≡ false → stopMode c ≡ false → eqb (numberCause c) 0 ≡ true →
       allowed l c onOff ≡ false → cause l (Call.Command c onOff clock) ≡ 0
-  pub command-3 : lampForm l ≡ true → badClock l clock ≡ false → stopMode c ≡ false → eqb (numberCause c) 0 ≡ true →
+  pub command-3 : lampValid l ≡ true → badClock l clock ≡ false → stopMode c ≡ false → eqb (numberCause c) 0 ≡ true →
       allowed l c onOff ≡ true → crossed (l .bounds) c ≡ true → cause l (Call.Command c onOff clock) ≡ 3
-  pub command-0 : lampForm l ≡ true → badClock l clock ≡ false → stopMode c ≡ false → eqb (numberCause c) 0 ≡ true →
+  pub command-0 : lampValid l ≡ true → badClock l clock ≡ false → stopMode c ≡ false → eqb (numberCause c) 0 ≡ true →
       allowed l c onOff ≡ true → crossed (l .bounds) c ≡ false → cause l (Call.Command c onOff clock) ≡ 0
 
 -- an answer's list is some list of at most 14 in its places, with zeros behind
 pub record Few (a : Answer) : Type 0 where
-  pub told : List ℕ
-  pub listed : a .notices ≡ noted told
-  pub few : length told ≤ 14
+  pub reported : List ℕ
+  pub listed : a .notices ≡ noted reported
+  pub few : length reported ≤ 14
 
 pub record TableOfCauses : Type 0 where
   pub steps : (l : Lamp) (clock : ℕ) → StepCauses l clock

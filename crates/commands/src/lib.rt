@@ -23,7 +23,7 @@ use matter::StepModeEnum;
 use matter::should_continue;
 use notices::Notices;
 use notices::TASK_GIVEN;
-use progress::brought_within;
+use progress::clamped_sum;
 use tasks::ColorTemperatureMove;
 use tasks::ColorTemperatureMoveTo;
 use tasks::GivenTask;
@@ -35,7 +35,7 @@ use tasks::TargetSaturation;
 use tasks::Task;
 ghost use mathlib.Core.Path.{_≡_};
 ghost use mathlib.Core.Bool.{cond};
-ghost use Rattle.commands.specs.Commands.{passOver, giving, isStop, causeIf, asked, lo, hi, hueTask, saturationTask, temperatureTask, saturationStep, stepWay, stored};
+ghost use Rattle.commands.specs.Commands.{skip, giving, isStop, causeIf, asked, lo, hi, hueTask, saturationTask, temperatureTask, saturationStep, stepDelta, stored};
 ghost use Rattle.commands.specs.Answers.{commandAccepted, commandAnswer, answer};
 ghost use Rattle.commands.specs.Shared.{options, taskAnswer};
 ghost use Rattle.matter.specs.Rules.{signed};
@@ -53,9 +53,9 @@ fn given(lamp: Lamp, task: Task) -> Answer
     }
 }
 
-// The answer of a command without leave to run.
-pub(crate) fn passed_over(lamp: Lamp) -> Answer
-    ensures { λ r. ⌜ r ≡ commandAccepted (passOver lamp) ⌝ }
+// The answer of a command without leave to execute.
+pub(crate) fn skipped(lamp: Lamp) -> Answer
+    ensures { λ r. ⌜ r ≡ commandAccepted (skip lamp) ⌝ }
 {
     Answer {
         number: ACCEPTED,
@@ -66,7 +66,7 @@ pub(crate) fn passed_over(lamp: Lamp) -> Answer
     }
 }
 
-// The order of looks that every command with a task shares: 8, 4, Stop mode, the command's own numbers, off, crossed limits.
+// The order of checks that every command with a task shares: 8, 4, Stop mode, the command's own numbers, off, crossed limits.
 fn answer_with(
     lamp: Lamp,
     stop: bool,
@@ -80,7 +80,7 @@ fn answer_with(
 ) -> Answer
     ensures { λ r. ⌜ r ≡ taskAnswer lamp stop number crossed task (options mask over) «on_off» clock ⌝ }
 {
-    let cause = lamp.form_or_clock(clock);
+    let cause = lamp.first_cause(clock);
     if cause != ACCEPTED {
         return lamp.refused(cause);
     }
@@ -92,7 +92,7 @@ fn answer_with(
         return lamp.refused(number);
     }
     if !should_continue(on_off, lamp.options, mask, over) {
-        return passed_over(at);
+        return skipped(at);
     }
     if crossed {
         return lamp.refused(CROSSED_LIMITS);
@@ -125,8 +125,8 @@ fn limit_asked(physical: u16, n: u16) -> u16
 }
 
 // A step's size with its sign.
-fn step_way(mode: StepModeEnum, size: u16) -> i64
-    ensures { λ r. ⌜ r ≡ stepWay mode size ⌝ }
+fn step_delta(mode: StepModeEnum, size: u16) -> i64
+    ensures { λ r. ⌜ r ≡ stepDelta mode size ⌝ }
 {
     match mode {
         StepModeEnum::Up => size as i64,
@@ -335,7 +335,7 @@ pub fn cmd_step_hue(
     ensures { λ r. ⌜ r ≡ commandAnswer lamp (Command.StepHue «step_mode» «step_size» «transition_time_ds» (options «options_mask» «options_override»)) «on_off» clock ⌝ }
 {
     let number = number_if(step_size == 0, INVALID_COMMAND);
-    let way = step_way(step_mode, stored_hue(step_size));
+    let way = step_delta(step_mode, stored_hue(step_size));
     let task = hue_task(way, TargetSaturation::Keep, transition_time_ds, false);
     answer_with(
         lamp,
@@ -363,7 +363,7 @@ pub fn cmd_enhanced_step_hue(
     ensures { λ r. ⌜ r ≡ commandAnswer lamp (Command.EnhancedStepHue «step_mode» «step_size» «transition_time_ds» (options «options_mask» «options_override»)) «on_off» clock ⌝ }
 {
     let number = number_if(step_size == 0, INVALID_COMMAND);
-    let way = step_way(step_mode, step_size);
+    let way = step_delta(step_mode, step_size);
     let task = hue_task(way, TargetSaturation::Keep, transition_time_ds, true);
     answer_with(
         lamp,
@@ -534,7 +534,7 @@ pub fn cmd_move_to_color_temperature(
     ensures { λ r. ⌜ r ≡ commandAnswer lamp (Command.MoveToColorTemperature mireds «transition_time_ds» (options «options_mask» «options_override»)) «on_off» clock ⌝ }
 {
     let number = number_if(mireds == 0, CONSTRAINT_ERROR);
-    let target = brought_within(lamp.bounds.min, lamp.bounds.max, mireds, 0);
+    let target = clamped_sum(lamp.bounds.min, lamp.bounds.max, mireds, 0);
     let task = temperature_task(target, transition_time_ds);
     answer_with(
         lamp,
@@ -599,7 +599,12 @@ pub fn cmd_step_color_temperature(
     let bounds = lamp.bounds;
     let low = bounds.lower_limit(limit_asked(bounds.min, color_temperature_minimum_mireds));
     let high = bounds.upper_limit(limit_asked(bounds.max, color_temperature_maximum_mireds));
-    let target = brought_within(low, high, lamp.color.mireds, step_way(step_mode, step_size));
+    let target = clamped_sum(
+        low,
+        high,
+        lamp.color.mireds,
+        step_delta(step_mode, step_size),
+    );
     let task = temperature_task(target, transition_time_ds);
     answer_with(
         lamp,

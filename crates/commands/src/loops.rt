@@ -1,6 +1,6 @@
 // The colour loop's command: it looks at off first and has no number of its own.
 // Carried over from project-chip/rs-matter, commit 43f61585a4 (Apache-2.0, see NOTICE), and changed.
-use crate::passed_over;
+use crate::skipped;
 use lamp::Answer;
 use lamp::Lamp;
 use lamp::LoopSettings;
@@ -23,7 +23,7 @@ ghost use mathlib.Core.Path.{_≡_};
 ghost use mathlib.Core.Bool.{cond};
 ghost use mathlib.Core.List.{[]};
 ghost use Rattle.notices.specs.Notices.{noted, pushedAll};
-ghost use Rattle.commands.specs.Commands.{updated, updatedTold, deactivated, activated, acted, loopSet};
+ghost use Rattle.commands.specs.Commands.{updated, updatedReported, deactivated, activated, acted, loopSet};
 ghost use Rattle.commands.specs.Answers.{commandAccepted, commandAnswer};
 ghost use Rattle.commands.specs.Shared.{options, pushedAnswer};
 
@@ -64,7 +64,7 @@ fn updated_settings(
 }
 
 fn updated_notices(flags: u8) -> Notices
-    ensures { λ r. ⌜ r ≡ pushedAll (noted []) (updatedTold flags) ⌝ }
+    ensures { λ r. ⌜ r ≡ pushedAll (noted []) (updatedReported flags) ⌝ }
 {
     let bits = flags as u32;
     Notices::new()
@@ -99,12 +99,12 @@ fn deactivate(lamp: Lamp, list: Notices) -> Answer
     if !lamp.looping.active {
         return answer_of(lamp, list, GivenTask::Nothing);
     }
-    let told = list.push(notices::TASK_GIVEN)
+    let reported = list.push(notices::TASK_GIVEN)
         .push(notices::COLOR_LOOP_ACTIVE);
     let color = lamp.color;
-    let set = color.set_hue(told, lamp.looping.stored, true, true, lamp.clock, false);
+    let set = color.set_hue(reported, lamp.looping.stored, true, true, lamp.clock, false);
     let next = set.color;
-    let tells = set.notices;
+    let reports = set.notices;
     let old = lamp.looping;
     let changed = Lamp {
         color: next,
@@ -116,7 +116,7 @@ fn deactivate(lamp: Lamp, list: Notices) -> Answer
     };
     answer_of(
         changed,
-        tells.push(notices::DEVICE_HUE_SATURATION),
+        reports.push(notices::DEVICE_HUE_SATURATION),
         GivenTask::Given(Task::Stop),
     )
 }
@@ -127,12 +127,12 @@ fn activate(lamp: Lamp, list: Notices, seed: u16) -> Answer
 {
     let old = lamp.looping;
     let active = old.active;
-    let told = list.push_if(!active, notices::COLOR_LOOP_STORED_ENHANCED_HUE)
+    let reported = list.push_if(!active, notices::COLOR_LOOP_STORED_ENHANCED_HUE)
         .push_if(!active, notices::COLOR_LOOP_ACTIVE);
     let color = lamp.color;
-    let set = color.set_hue(told, seed, true, true, lamp.clock, true);
+    let set = color.set_hue(reported, seed, true, true, lamp.clock, true);
     let next = set.color;
-    let tells = set.notices;
+    let reports = set.notices;
     let stored = word_if(active, old.stored, lamp.color.hue);
     let direction = old.direction;
     let changed = Lamp {
@@ -150,7 +150,7 @@ fn activate(lamp: Lamp, list: Notices, seed: u16) -> Answer
     });
     answer_of(
         changed,
-        tells
+        reports
             .push(notices::DEVICE_HUE_SATURATION)
             .push(notices::TASK_GIVEN),
         GivenTask::Given(task),
@@ -207,13 +207,13 @@ pub fn cmd_color_loop_set(
 ) -> Answer
     ensures { λ r. ⌜ r ≡ commandAnswer lamp (Command.ColorLoopSet «update_flags» action direction time «start_hue» (options «options_mask» «options_override»)) «on_off» clock ⌝ }
 {
-    let cause = lamp.form_or_clock(clock);
+    let cause = lamp.first_cause(clock);
     if cause != ACCEPTED {
         return lamp.refused(cause);
     }
     let at = lamp.at_clock(clock);
     if !should_continue(on_off, lamp.options, options_mask, options_override) {
-        return passed_over(at);
+        return skipped(at);
     }
     set_loop(at, update_flags, action, direction, time, start_hue)
 }

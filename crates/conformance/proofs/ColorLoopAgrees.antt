@@ -20,7 +20,7 @@ use Rattle.lamp.specs.declared.Lamp.{Lamp}
 use Rattle.lamp.specs.Answers.{atClock}
 use Rattle.lamp.specs.declared.Call.{Call}
 use Rattle.commands.specs.Answers.{allowed, cause, answer}
-use Rattle.commands.specs.Commands.{withLoop, updated, updatedTold, deactivated, activated, acted, loopSet, commandEffect}
+use Rattle.commands.specs.Commands.{withLoop, updated, updatedReported, deactivated, activated, acted, loopSet, commandEffect}
 use Rattle.commands.proofs.Kept.{answer-both}
 use Rattle.conformance.specs.Modes.{enhancedHueModes}
 use Rattle.conformance.proofs.ModesAgree.{modesOf, hue-modes, end-sets}
@@ -43,30 +43,30 @@ attributes l =
 abbrev pub loopTask : Turning → GivenTask
 loopTask t = GivenTask.Given (Task.ColorLoop (record { direction = t .direction; seconds = t .seconds }))
 
-module _ (l : Lamp) (told : List ℕ) where
+module _ (l : Lamp) (reported : List ℕ) where
   deactivated-by : (t : Bool) → l .looping .active ≡ t →
-      attributes (deactivated l told .lamp) ≡ deactivate (attributes l)
+      attributes (deactivated l reported .lamp) ≡ deactivate (attributes l)
   unfolding deactivated
   deactivated-by true e = rw (e, hue-is-set (l .color) (l .looping .stored) true true (l .clock))
   deactivated-by false e = rw e
 
-  activated-agrees : (seed : ℕ) → attributes (activated l told seed .lamp) ≡ activateFrom seed (attributes l)
+  activated-agrees : (seed : ℕ) → attributes (activated l reported seed .lamp) ≡ activateFrom seed (attributes l)
   unfolding activated
   activated-agrees seed = rw (hue-is-set (l .color) seed true true (l .clock))
 
-  acted-agrees : (action : ColorLoopActionEnum) → attributes (acted l told action .lamp) ≡ actedBy action (attributes l)
+  acted-agrees : (action : ColorLoopActionEnum) → attributes (acted l reported action .lamp) ≡ actedBy action (attributes l)
   unfolding actedBy
   acted-agrees ColorLoopActionEnum.Deactivate = deactivated-by (l .looping .active) refl
   acted-agrees ColorLoopActionEnum.ActivateFromColorLoopStartEnhancedHue = activated-agrees (l .looping .start)
   acted-agrees ColorLoopActionEnum.ActivateFromEnhancedCurrentHue = activated-agrees (l .color .hue)
 
   -- an activation sets the modes of the enhanced hue
-  activated-modes : (seed : ℕ) → modesOf (activated l told seed .lamp .color) ≡ enhancedHueModes
+  activated-modes : (seed : ℕ) → modesOf (activated l reported seed .lamp .color) ≡ enhancedHueModes
   unfolding activated
   activated-modes seed = hue-modes (l .color) seed true (l .clock) true (end-sets (l .color .hue) seed)
 
   acted-modes : (action : ColorLoopActionEnum) → (action ≡ ColorLoopActionEnum.Deactivate → ⊥) →
-      modesOf (acted l told action .lamp .color) ≡ enhancedHueModes
+      modesOf (acted l reported action .lamp .color) ≡ enhancedHueModes
   acted-modes ColorLoopActionEnum.Deactivate n = absurd (n refl)
   acted-modes ColorLoopActionEnum.ActivateFromColorLoopStartEnhancedHue n = activated-modes (l .looping .start)
   acted-modes ColorLoopActionEnum.ActivateFromEnhancedCurrentHue n = activated-modes (l .color .hue)
@@ -77,8 +77,8 @@ module _ (l : Lamp) (flags : ℕ) (action : ColorLoopActionEnum) (direction : Co
   changed = withLoop l (l .color) (updated (l .looping) flags direction time startHue)
 
   set-by-flag : (t : Bool) → eqb (flags / 1 % 2) 1 ≡ t →
-      attributes (cond t (acted changed (updatedTold flags) action) (record { lamp = changed; told = updatedTold flags; task = GivenTask.Nothing }) .lamp) ≡ cond t (actedBy action (attributes changed)) (attributes changed)
-  set-by-flag true e = acted-agrees changed (updatedTold flags) action
+      attributes (cond t (acted changed (updatedReported flags) action) (record { lamp = changed; reported = updatedReported flags; task = GivenTask.Nothing }) .lamp) ≡ cond t (actedBy action (attributes changed)) (attributes changed)
+  set-by-flag true e = acted-agrees changed (updatedReported flags) action
   set-by-flag false e = refl
 
   set-agrees : attributes (loopSet l flags action direction time startHue .lamp)
@@ -86,7 +86,7 @@ module _ (l : Lamp) (flags : ℕ) (action : ColorLoopActionEnum) (direction : Co
   unfolding loopSet colorLoopSet updatedBy hasFlag changed
   set-agrees = set-by-flag (eqb (flags / 1 % 2) 1) refl
 
--- ---- an accepted command with leave to run
+-- ---- an accepted command with leave to execute
 
 module _ (l : Lamp) (flags : ℕ) (action : ColorLoopActionEnum) (direction : ColorLoopDirectionEnum) (time startHue : ℕ)
     (options : CommandOptions) (onOff : OnOff) (clock : ℕ) where
@@ -98,14 +98,14 @@ module _ (l : Lamp) (flags : ℕ) (action : ColorLoopActionEnum) (direction : Co
   set = colorLoopSet flags action direction time startHue (attributes l)
 
   module _ (accepted : cause l setting ≡ 0)
-      (leave : allowed l (Command.ColorLoopSet flags action direction time startHue options) onOff ≡ true) where
+      (mayExecute : allowed l (Command.ColorLoopSet flags action direction time startHue options) onOff ≡ true) where
     set-by : (P : Lamp → GivenTask → Type 0) →
         P (loopSet (atClock l clock) flags action direction time startHue .lamp)
         (loopSet (atClock l clock) flags action direction time startHue .task) →
         P (answer l setting .lamp) (answer l setting .task)
     unfolding commandEffect
     set-by P p =
-        answer-both l (λ (a : Answer). P (a .lamp) (a .task)) setting (λ e. rw leave p) (λ k. absurd (k accepted))
+        answer-both l (λ (a : Answer). P (a .lamp) (a .task)) setting (λ e. rw mayExecute p) (λ k. absurd (k accepted))
 
     -- the attributes after the command are the text's
     pub loop-set-agrees : attributes (answer l setting .lamp) ≡ set
@@ -136,7 +136,7 @@ module _ (l : Lamp) (flags : ℕ) (action : ColorLoopActionEnum) (direction : Co
     pub loop-modes : hasFlag flags updateAction ≡ true → (action ≡ ColorLoopActionEnum.Deactivate → ⊥) →
         modesOf (answer l setting .lamp .color) ≡ enhancedHueModes
     unfolding loopSet
-    loop-modes e n = set-by (λ m t. modesOf (m .color) ≡ enhancedHueModes) (rw e (acted-modes _ (updatedTold flags) action n))
+    loop-modes e n = set-by (λ m t. modesOf (m .color) ≡ enhancedHueModes) (rw e (acted-modes _ (updatedReported flags) action n))
 
     -- without the action flag nothing is given and what turns turns on as it did, where the text's loop follows the
     -- attributes

@@ -21,7 +21,7 @@ use Rattle.tasks.specs.declared.ColorTemperatureRun.{ColorTemperatureRun}
 use Rattle.tasks.specs.declared.GivenTask.{GivenTask}
 use Rattle.tasks.specs.declared.Running.{Running}
 use Rattle.tasks.specs.declared.Task.{Task}
-use Rattle.tasks.specs.Form.{taskForm}
+use Rattle.tasks.specs.Valid.{taskValid}
 use Rattle.lamp.specs.declared.Answer.{Answer}
 use Rattle.lamp.specs.declared.Lamp.{Lamp}
 use Rattle.lamp.specs.Answers.{atClock}
@@ -109,8 +109,8 @@ module _ (l : Lamp) (mode : MoveModeEnum) (rate minimum maximum : ℕ) (options 
 
   -- the task that a command gives is the Stop task or this one, and a Stop is not started
   stop-refused : task ≡ Task.Stop → ⊥
-  unfolding cause taskForm
-  stop-refused e = true≢false (sym (start-ready m clock task accepted .1) ∙ ap taskForm e)
+  unfolding cause taskValid
+  stop-refused e = true≢false (sym (start-ready m clock task accepted .1) ∙ ap taskValid e)
 
   abbrev Gives : CommandEffect → Type 0
   Gives e = e .task ≡ GivenTask.Given task → task ≡ Task.ColorTemperatureMove asks
@@ -155,10 +155,10 @@ module _ (l : Lamp) (mode : MoveModeEnum) (rate minimum maximum : ℕ) (options 
             (within-allowed (l .bounds) minimum maximum (hi (l .bounds) maximum) (omega arith) (omega arith)),
       ))
 
-  -- where no two mireds are allowed, it is done at once: the lamp is idle, nothing else but the clock changes, nothing is told
+  -- where no two mireds are allowed, it is done at once: the lamp is idle, nothing else but the clock changes, nothing is reported
   pub move-at-once : NoTwo (l .bounds) minimum maximum →
       answer m (Call.Start task clock)
-      ≡ done (record { lamp = moved (atClock m clock) (m .color) Running.Idle; told = []; wait = 0 })
+      ≡ done (record { lamp = moved (atClock m clock) (m .color) Running.Idle; reported = []; wait = 0 })
   unfolding temperatureStart
   move-at-once h = start-is ∙ rw (high-is, low-is, crossed-by _ refl h)
 

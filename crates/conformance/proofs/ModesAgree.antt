@@ -13,7 +13,7 @@ use Rattle.matter.specs.Flags.{hasFlag}
 use Rattle.matter.specs.Numbers.{colorModeNumber, enhancedColorModeNumber}
 use Rattle.matter.specs.Rules.{colorModeOf, defaultColorMode}
 use Rattle.color.specs.declared.Color.{Color}
-use Rattle.color.specs.Form.{modesAgree}
+use Rattle.color.specs.Valid.{modesAgree}
 use Rattle.color.specs.Setters.{same, keptHueMode, hueSet, saturationSet, miredsSet}
 use Rattle.tasks.specs.declared.GivenTask.{GivenTask}
 use Rattle.tasks.specs.declared.HueDelta.{HueDelta}
@@ -21,7 +21,7 @@ use Rattle.tasks.specs.declared.ColorTemperatureToRun.{ColorTemperatureToRun}
 use Rattle.tasks.specs.declared.HueSaturationRun.{HueSaturationRun}
 use Rattle.tasks.specs.declared.TargetSaturation.{TargetSaturation}
 use Rattle.tasks.specs.declared.Task.{Task}
-use Rattle.tasks.specs.Form.{deltaGiven, saturationGiven}
+use Rattle.tasks.specs.Valid.{deltaGiven, saturationGiven}
 use Rattle.lamp.specs.declared.Lamp.{Lamp}
 use Rattle.lamp.specs.Making.{freshLamp}
 use Rattle.lamp.specs.Passes.{atEnd, hueNow, hueMoved, saturationNow, saturationMoved, hueSaturationPass, miredsNow, temperatureToPass}

@@ -15,7 +15,7 @@ use Rattle.matter.proofs.Laws.{cond-both}
 use Rattle.matter.specs.Limits.{clockLimit}
 use Rattle.hue.specs.Hue.{movedHue}
 use Rattle.hue.proofs.Laws.{moved-up, moved-down}
-use Rattle.progress.specs.Progress.{wayAtRate, broughtWithin, loopTurn, loopWay}
+use Rattle.progress.specs.Progress.{deltaAtRate, clampedSum, loopTurn, loopDelta}
 use Rattle.color.specs.declared.Color.{Color}
 use Rattle.tasks.specs.declared.ColorLoop.{ColorLoop}
 use Rattle.tasks.specs.declared.ColorLoopRun.{ColorLoopRun}
@@ -32,7 +32,7 @@ use Rattle.lamp.specs.declared.Lamp.{Lamp}
 use Rattle.lamp.specs.Answers.{atClock}
 use Rattle.matter.specs.Bounds.{lower, upper}
 use Rattle.lamp.specs.Calls.{temperatureStart, started, stepped}
-use Rattle.lamp.proofs.Kept.{form-clock}
+use Rattle.lamp.proofs.Kept.{valid-clock}
 use Rattle.matter.specs.Rules.{signed}
 use Rattle.lamp.specs.Passes.{Effect, saturationDone, miredsDone, huePass, saturationPass, temperaturePass, loopPass}
 use Rattle.lamp.specs.declared.Call.{Call}
@@ -52,7 +52,7 @@ turnMode ColorLoopDirectionEnum.Increment = MoveModeEnum.Up
 turnMode ColorLoopDirectionEnum.Decrement = MoveModeEnum.Down
 
 turn-by : (direction : ColorLoopDirectionEnum) (elapsed seconds hue : ℕ) → hue < 65536 →
-    movedHue hue (loopWay direction elapsed seconds)
+    movedHue hue (loopDelta direction elapsed seconds)
     ≡ hueMoveTo (turnMode direction) enhancedHueMaximum (loopTurn elapsed seconds) hue
 turn-by ColorLoopDirectionEnum.Increment elapsed seconds hue h =
     moved-up hue (loopTurn elapsed seconds) ∙ sym (hue-units-up (loopTurn elapsed seconds) hue h)
@@ -67,7 +67,7 @@ module _ (x : Lamp) where
   unfolding huePass
   hue-pass run t h =
       hue-is-set (x .color)
-      (movedHue (run .hue) (wayAtRate (signed (run .task .direction) (run .task .rate)) (x .clock - run .start))) false
+      (movedHue (run .hue) (deltaAtRate (signed (run .task .direction) (run .task .rate)) (x .clock - run .start))) false
       (run .task .enhanced) (x .clock)
       ∙ hue-move-agrees (run .task .rate) (x .clock - run .start) (omega arith) (run .task .direction) (run .hue) h
 
@@ -90,7 +90,7 @@ module _ (x : Lamp) where
   mireds-pass run mode rate e t low high =
       let now : ℕ = miredsAt run (x .clock) in
       mireds-is-set (x .color) now (miredsDone (run .rate) (run .lo) (run .hi) now) (x .clock)
-      ∙ ap (λ (r : ℤ). broughtWithin (run .lo) (run .hi) (run .mireds) (wayAtRate r (x .clock - run .start))) e
+      ∙ ap (λ (r : ℤ). clampedSum (run .lo) (run .hi) (run .mireds) (deltaAtRate r (x .clock - run .start))) e
       ∙ move-agrees rate (x .clock - run .start) (omega arith) mode (run .lo) (run .hi) (run .mireds) low high
 
   loop-pass : (run : ColorLoopRun) → run .hue < 65536 →
@@ -100,7 +100,7 @@ module _ (x : Lamp) where
   unfolding loopPass
   loop-pass run h =
       hue-is-set (x .color)
-      (movedHue (run .hue) (loopWay (run .task .direction) (x .clock - run .start) (run .task .seconds))) false true
+      (movedHue (run .hue) (loopDelta (run .task .direction) (x .clock - run .start) (run .task .seconds))) false true
       (x .clock)
       ∙ turn-by (run .task .direction) (x .clock - run .start) (run .task .seconds) (run .hue) h
 
@@ -117,7 +117,7 @@ module _ (l : Lamp) (clock : ℕ) (accepted : cause l (Call.Step clock) ≡ 0) w
       step-by l (Running.HueMove run) clock
       (λ y. y .color .hue ≡ hueMoveTo (run .task .direction) enhancedHueMaximum
       (stepsMade (run .task .rate) (clock - run .start)) (run .hue))
-      e accepted (λ f g. hue-pass (atClock l clock) run (form-clock (atClock l clock) f) h)
+      e accepted (λ f g. hue-pass (atClock l clock) run (valid-clock (atClock l clock) f) h)
 
   pub hue-move-goes-on : (run : HueRun) → l .running ≡ Running.HueMove run →
       answer l (Call.Step clock) .lamp .running ≡ Running.HueMove run
@@ -135,7 +135,7 @@ module _ (l : Lamp) (clock : ℕ) (accepted : cause l (Call.Step clock) ≡ 0) w
       step-by l (Running.SaturationMove run) clock
       (λ y. y .color .saturation ≡ moveTo (run .task .direction) 0 saturationMaximum
       (stepsMade (run .task .rate) (clock - run .start)) (run .saturation))
-      e accepted (λ f g. saturation-pass (atClock l clock) run (form-clock (atClock l clock) f) h)
+      e accepted (λ f g. saturation-pass (atClock l clock) run (valid-clock (atClock l clock) f) h)
 
   -- MoveColorTemperature, from within its bounds
   pub shown-mireds-move : (run : ColorTemperatureRun) (mode : MoveModeEnum) (rate : ℕ) →
@@ -147,7 +147,7 @@ module _ (l : Lamp) (clock : ℕ) (accepted : cause l (Call.Step clock) ≡ 0) w
   shown-mireds-move run mode rate e r low high =
       step-by l (Running.ColorTemperatureMove run) clock
       (λ y. y .color .mireds ≡ moveTo mode (run .lo) (run .hi) (stepsMade rate (clock - run .start)) (run .mireds))
-      e accepted (λ f g. mireds-pass (atClock l clock) run mode rate r (form-clock (atClock l clock) f) low high)
+      e accepted (λ f g. mireds-pass (atClock l clock) run mode rate r (valid-clock (atClock l clock) f) low high)
 
   -- the colour loop
   pub shown-loop : (run : ColorLoopRun) → l .running ≡ Running.ColorLoop run → run .hue < 65536 →
@@ -206,9 +206,9 @@ module _ (m : Lamp) (begun : ℕ) where
     hue-goes-on same on n r clock lasts =
         let (running, shows) =
         ran-by m task begun (GoesOn (m .color))
-        (λ f g. rw same (on (atClock m begun) (form-clock _ f)))
+        (λ f g. rw same (on (atClock m begun) (valid-clock _ f)))
         (λ x k f g p.
-        let (running, shows) = on (atClock x k) (form-clock _ f) in (
+        let (running, shows) = on (atClock x k) (valid-clock _ f) in (
           running,
           record {
             hue = shows .hue;
@@ -284,8 +284,8 @@ module _ (m : Lamp) (begun : ℕ) where
     unfolding started stepped
     saturation-move-follows n r =
         ran-by m (Task.SaturationMove task) begun SaturationFollows
-        (λ f g. saturation-follows (atClock m begun) (form-clock _ f) refl refl)
-        (λ x k f g p. saturation-follows (atClock x k) (form-clock _ f) (p (x .clock) (inl refl) .hue)
+        (λ f g. saturation-follows (atClock m begun) (valid-clock _ f) refl refl)
+        (λ x k f g p. saturation-follows (atClock x k) (valid-clock _ f) (p (x .clock) (inl refl) .hue)
         (p (x .clock) (inl refl) .mireds))
         n r
 
@@ -368,8 +368,8 @@ module _ (m : Lamp) (begun : ℕ) where
           mireds = mireds-still
               (stepsMade rate (clock - begun)) mode (leb-true _ _ t);
         })
-        (λ t. mireds-follow (atClock m begun) (form-clock _ f) refl refl))
-        (λ x k f g p. mireds-follow (atClock x k) (form-clock _ f) (p (x .clock) (inl refl) .hue)
+        (λ t. mireds-follow (atClock m begun) (valid-clock _ f) refl refl))
+        (λ x k f g p. mireds-follow (atClock x k) (valid-clock _ f) (p (x .clock) (inl refl) .hue)
         (p (x .clock) (inl refl) .saturation))
         n r
 

@@ -8,10 +8,10 @@ use Rattle.matter.specs.declared.commands.Command.{Command}
 use Rattle.matter.specs.declared.enums.MoveModeEnum.{MoveModeEnum}
 use Rattle.matter.specs.declared.enums.OnOff.{OnOff}
 use Rattle.matter.specs.Flags.{hasFlag}
-use Rattle.matter.specs.Rules.{leave}
+use Rattle.matter.specs.Rules.{mayExecute}
 use Rattle.tasks.specs.declared.Task.{Task}
 use Rattle.lamp.specs.declared.Lamp.{Lamp}
-use Rattle.commands.specs.Commands.{optionsOf, stopMode, passOver, giving}
+use Rattle.commands.specs.Commands.{optionsOf, stopMode, skip, giving}
 use Rattle.commands.specs.Answers.{commandDone}
 use Rattle.conformance.specs.Options.{bit, bitmap, temporaryBit, temporaryOptions, continues}
 
@@ -39,8 +39,8 @@ by : (b : Bool) (x y : ℕ) → not (eqb (cond b (x / 1 % 2) (y / 1 % 2)) 0) ≡
 by true x y = not-0-is-1 (x / 1 % 2) (omega arith)
 by false x y = not-0-is-1 (y / 1 % 2) (omega arith)
 
--- the port's leave to run is the text's rule
-pub options-agree : (onOff : OnOff) (options mask over : ℕ) → leave onOff options mask over ≡ continues onOff options mask over
+-- the port's leave to execute is the text's rule
+pub options-agree : (onOff : OnOff) (options mask over : ℕ) → mayExecute onOff options mask over ≡ continues onOff options mask over
 unfolding continues hasFlag
 options-agree OnOff.Off options mask over = rw (execute-if-off options mask over) (sym (by (eqb (bit 0 mask) 1) over options))
 options-agree OnOff.On options mask over = refl
@@ -48,7 +48,7 @@ options-agree OnOff.NoHandler options mask over = refl
 
 module _ (l : Lamp) (c : Command) (onOff : OnOff) where
   -- a command that may not continue does nothing, unless it is in Stop mode
-  pub options-heeded : continues onOff (l .options) (optionsOf c .mask) (optionsOf c .over) ≡ false → stopMode c ≡ false → commandDone l c onOff ≡ passOver l
+  pub options-heeded : continues onOff (l .options) (optionsOf c .mask) (optionsOf c .over) ≡ false → stopMode c ≡ false → commandDone l c onOff ≡ skip l
   options-heeded h s = rw (s, options-agree onOff (l .options) (optionsOf c .mask) (optionsOf c .over), h)
 
   -- in Stop mode it gives the Stop task all the same, where the text's does nothing

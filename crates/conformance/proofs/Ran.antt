@@ -9,21 +9,21 @@ use lib.Dec.{leb}
 use lib.IntN.{pos}
 use Rattle.matter.proofs.Laws.{cond-both}
 use Rattle.matter.specs.Limits.{saturationLimit}
-use Rattle.progress.specs.Progress.{wayAtRate, clamp, broughtWithin}
+use Rattle.progress.specs.Progress.{deltaAtRate, clamp, clampedSum}
 use Rattle.tasks.specs.declared.ColorTemperatureRun.{ColorTemperatureRun}
 use Rattle.tasks.specs.declared.ColorTemperatureToRun.{ColorTemperatureToRun}
 use Rattle.tasks.specs.declared.HueSaturationRun.{HueSaturationRun}
 use Rattle.tasks.specs.declared.Running.{Running}
 use Rattle.tasks.specs.declared.SaturationRun.{SaturationRun}
 use Rattle.tasks.specs.declared.Task.{Task}
-use Rattle.tasks.specs.Form.{taskForm, runningForm}
+use Rattle.tasks.specs.Valid.{taskValid, runningValid}
 use Rattle.tasks.specs.Runs.{runs}
 use Rattle.lamp.specs.declared.Lamp.{Lamp}
 use Rattle.lamp.specs.Answers.{atClock}
 use Rattle.matter.specs.Bounds.{lower, upper}
 use Rattle.lamp.specs.Calls.{hueSaturationStart, temperatureToStart, temperatureStart, started, stepped}
-use Rattle.lamp.specs.Form.{lampForm}
-use Rattle.lamp.proofs.Kept.{form-running, start-ready}
+use Rattle.lamp.specs.Valid.{lampValid}
+use Rattle.lamp.proofs.Kept.{valid-running, start-ready}
 use Rattle.matter.specs.Rules.{signed}
 use Rattle.lamp.specs.Passes.{Effect, unless, atEnd, saturationDone, miredsDone, hueSaturationPass, temperatureToPass, huePass, saturationPass, temperaturePass, loopPass}
 use Rattle.lamp.specs.declared.Call.{Call}
@@ -42,11 +42,11 @@ unless-so end run = cond-both (OnOrIdle run) end _ _ (λ e. inr refl) (λ e. inl
 -- the numbers that the moves at a rate have come to
 abbrev pub saturationAt : SaturationRun → ℕ → ℕ
 saturationAt run clock =
-    broughtWithin 0 saturationLimit (run .saturation)
-    (wayAtRate (signed (run .task .direction) (run .task .rate)) (clock - run .start))
+    clampedSum 0 saturationLimit (run .saturation)
+    (deltaAtRate (signed (run .task .direction) (run .task .rate)) (clock - run .start))
 
 abbrev pub miredsAt : ColorTemperatureRun → ℕ → ℕ
-miredsAt run clock = broughtWithin (run .lo) (run .hi) (run .mireds) (wayAtRate (run .rate) (clock - run .start))
+miredsAt run clock = clampedSum (run .lo) (run .hi) (run .mireds) (deltaAtRate (run .rate) (clock - run .start))
 
 module _ (x : Lamp) where
   move-to-so : (run : HueSaturationRun) (p : ℕ) →
@@ -78,9 +78,9 @@ module _ (x : Lamp) where
   stepped-so (Running.ColorTemperatureMove run) e = mireds-so run
   stepped-so (Running.ColorLoop run) e = inl refl
 
-started-so : (m : Lamp) (clock : ℕ) (task : Task) → taskForm task ≡ true →
+started-so : (m : Lamp) (clock : ℕ) (task : Task) → taskValid task ≡ true →
     OnOrIdle (saved m task clock) (started (atClock m clock) task .lamp .running)
-unfolding started hueSaturationStart temperatureToStart temperatureStart huePass loopPass taskForm
+unfolding started hueSaturationStart temperatureToStart temperatureStart huePass loopPass taskValid
 started-so m clock (Task.HueSaturationMoveTo task) t = move-to-so _ _ _
 started-so m clock (Task.HueMove task) t = inl refl
 started-so m clock (Task.SaturationMove task) t = saturation-so _ _
@@ -97,24 +97,24 @@ started-so m clock Task.Stop t = absurd (true≢false (sym t))
 pub granted-is : (l : Lamp) (x : Call) → cause l x ≡ 0 → answer l x ≡ granted l x
 granted-is l x z = answer-both l (λ a. a ≡ granted l x) x (λ e. refl) (λ n. absurd (n z))
 
--- what holds of a lamp in form that begins a task in form holds after an accepted start
+-- what holds of a lamp valid that begins a task valid holds after an accepted start
 pub start-by : (m : Lamp) (task : Task) (clock : ℕ) (P : Lamp → Type 0) → cause m (Call.Start task clock) ≡ 0 →
-    (lampForm (atClock m clock) ≡ true → taskForm task ≡ true → P (started (atClock m clock) task .lamp)) →
+    (lampValid (atClock m clock) ≡ true → taskValid task ≡ true → P (started (atClock m clock) task .lamp)) →
     P (answer m (Call.Start task clock) .lamp)
 unfolding cause
 start-by m task clock P z h =
     let f = start-ready m clock task z in
     answer-both m (λ a. P (a .lamp)) (Call.Start task clock) (λ e. h (f .0) (f .1)) (λ n. absurd (n z))
 
--- and of one that makes a pass of what runs, in form too, after an accepted step
+-- and of one that makes a pass of what runs, valid too, after an accepted step
 pub step-by : (x : Lamp) (run : Running) (clock : ℕ) (P : Lamp → Type 0) → x .running ≡ run → cause x (Call.Step clock) ≡ 0 →
-    (lampForm (atClock x clock) ≡ true → runningForm run (x .bounds) clock ≡ true →
+    (lampValid (atClock x clock) ≡ true → runningValid run (x .bounds) clock ≡ true →
     P (stepped (atClock x clock) run .lamp)) →
     P (answer x (Call.Step clock) .lamp)
 step-by x run clock P e z h =
-    let f : lampForm (atClock x clock) ≡ true = granted-ready x (Call.Step clock) z in
-    let g : runningForm run (x .bounds) clock ≡ true =
-    subst (λ (r : Running). runningForm r (x .bounds) clock ≡ true) e (form-running (atClock x clock) f)
+    let f : lampValid (atClock x clock) ≡ true = granted-ready x (Call.Step clock) z in
+    let g : runningValid run (x .bounds) clock ≡ true =
+    subst (λ (r : Running). runningValid r (x .bounds) clock ≡ true) e (valid-running (atClock x clock) f)
     in
     answer-both x (λ a. P (a .lamp)) (Call.Step clock)
     (λ k. subst (λ (r : Running). P (stepped (atClock x clock) r .lamp)) (sym e) (h f g))
@@ -130,9 +130,9 @@ start-saves m task clock z =
 step-runs : (x : Lamp) (run : Running) (clock : ℕ) → OnOrIdle run (x .running) → cause x (Call.Step clock) ≡ 0 →
     x .running ≡ run
 step-runs x run clock (inl e) z = e
-step-runs x run clock (inr e) z = by (lampForm x) refl
+step-runs x run clock (inr e) z = by (lampValid x) refl
   where
-    by : (t : Bool) → lampForm x ≡ t → x .running ≡ run
+    by : (t : Bool) → lampValid x ≡ t → x .running ≡ run
     by true f = absurd (omega (arith, step-7 x clock f (ap runs e)))
     by false f = absurd (omega (arith, step-8 x clock f))
 
@@ -152,9 +152,9 @@ module _ (m : Lamp) (task : Task) (begun : ℕ) where
 
   -- what holds after the start, and after each step of what it saved, holds of every lamp that they leave
   module _ (P : Lamp → Type 0)
-      (first : lampForm (atClock m begun) ≡ true → taskForm task ≡ true → P (started (atClock m begun) task .lamp))
-      (next : (x : Lamp) (clock : ℕ) → lampForm (atClock x clock) ≡ true →
-      runningForm (saved m task begun) (x .bounds) clock ≡ true → P x →
+      (first : lampValid (atClock m begun) ≡ true → taskValid task ≡ true → P (started (atClock m begun) task .lamp))
+      (next : (x : Lamp) (clock : ℕ) → lampValid (atClock x clock) ≡ true →
+      runningValid (saved m task begun) (x .bounds) clock ≡ true → P x →
       P (stepped (atClock x clock) (saved m task begun) .lamp)) where
     pub ran-by : (n : Lamp) → Ran m task begun n → P n
     ran-by n (began z) = start-by m task begun P z first
@@ -166,7 +166,7 @@ pub idle-done : (end : Bool) (run : Running) → runs run ≡ true → unless en
 idle-done true run r e = refl
 idle-done false run r e = absurd (true≢false (sym r ∙ ap runs e))
 
--- the lamp was in form
-pub ran-form : {m : Lamp} {task : Task} {begun : ℕ} {n : Lamp} → Ran m task begun n → lampForm (atClock m begun) ≡ true
-ran-form {m} {task} {begun} (began z) = granted-ready m (Call.Start task begun) z
-ran-form (went clock r z) = ran-form r
+-- the lamp was valid
+pub ran-valid : {m : Lamp} {task : Task} {begun : ℕ} {n : Lamp} → Ran m task begun n → lampValid (atClock m begun) ≡ true
+ran-valid {m} {task} {begun} (began z) = granted-ready m (Call.Start task begun) z
+ran-valid (went clock r z) = ran-valid r

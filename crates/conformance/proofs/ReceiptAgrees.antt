@@ -1,5 +1,5 @@
 -- Every command that moves a number does what the text asks of it, from its fields to the numbers that a lamp shows:
--- the call is accepted and gives a task in form, and every lamp on which that task is started, and stepped, shows
+-- the call is accepted and gives a task valid, and every lamp on which that task is started, and stepped, shows
 -- what the text has then.
 use Prim.Native.Nat.{ℕ, zero, suc, _-_, _≤_, _<_, min, max}
 use mathlib.Core.Bool.{Bool, true, false, cond, true≢false}
@@ -16,33 +16,33 @@ use Rattle.matter.specs.declared.enums.MoveModeEnum.{MoveModeEnum}
 use Rattle.matter.specs.declared.enums.OnOff.{OnOff}
 use Rattle.matter.specs.declared.enums.StepModeEnum.{StepModeEnum}
 use Rattle.matter.proofs.Laws.{cond-both}
-use Rattle.matter.specs.Typed.{TypedCommand}
+use Rattle.matter.specs.InRange.{InRangeCommand}
 use Rattle.hue.specs.Hue.{pathDelta}
 use Rattle.progress.proofs.Laws.{clamp-keeps, clamp-within}
 use Rattle.progress.specs.Progress.{clamp}
 use Rattle.color.specs.declared.Color.{Color}
-use Rattle.color.proofs.Kept.{form-saturation, form-above, form-below}
+use Rattle.color.proofs.Kept.{valid-saturation, valid-above, valid-below}
 use Rattle.tasks.specs.declared.GivenTask.{GivenTask}
 use Rattle.tasks.specs.declared.Task.{Task}
-use Rattle.tasks.specs.Form.{taskForm}
+use Rattle.tasks.specs.Valid.{taskValid}
 use Rattle.tasks.specs.Runs.{runs}
 use Rattle.lamp.specs.declared.Lamp.{Lamp}
-use Rattle.lamp.specs.Answers.{atClock, formOrClock}
+use Rattle.lamp.specs.Answers.{atClock, firstCause}
 use Rattle.matter.specs.Bounds.{lower, upper}
-use Rattle.lamp.specs.Form.{lampForm}
-use Rattle.lamp.proofs.Kept.{form-color, no-cause}
+use Rattle.lamp.specs.Valid.{lampValid}
+use Rattle.lamp.proofs.Kept.{valid-color, no-cause}
 use Rattle.lamp.specs.declared.Call.{Call}
 use Rattle.commands.specs.Answers.{allowed, commandCause, afterClock, cause, answer}
-use Rattle.commands.specs.Commands.{causeIf, stopMode, numberCause, asked, lo, hi, stored, temperatureTask, stepWay, commandEffect}
+use Rattle.commands.specs.Commands.{causeIf, stopMode, numberCause, asked, lo, hi, stored, temperatureTask, stepDelta, commandEffect}
 use Rattle.commands.proofs.Kept.{answer-both, granted-ready}
-use Rattle.commands.proofs.TaskForm.{given-form}
+use Rattle.commands.proofs.TaskValid.{given-valid}
 use Rattle.conformance.proofs.ArrivalsAgree.{move-to-follows, mireds-to-follow}
 use Rattle.conformance.proofs.DirectionsAgree.{directions-agree}
 use Rattle.conformance.specs.Limits.{Allowed}
 use Rattle.conformance.proofs.LimitsAgree.{allowed-within, within-allowed, closest-agrees}
 use Rattle.conformance.proofs.MovesAgree.{hue-move-follows, saturation-move-follows, mireds-move-follows}
 use Rattle.conformance.specs.Started.{Ran, Lasts, saved}
-use Rattle.conformance.proofs.Ran.{ran-form}
+use Rattle.conformance.proofs.Ran.{ran-valid}
 use Rattle.conformance.specs.Receipt.{Reaches, Goes-by, Goes-to, sense, Ends, Each, MiredsAlone, moves, OnReceipt}
 use Rattle.conformance.specs.Transition.{milliseconds}
 use Rattle.conformance.specs.Steps.{stepsMade, stepTo, moveTo}
@@ -54,17 +54,17 @@ Follows bounds received c task =
     (m n : Lamp) (begun : ℕ) → m .bounds ≡ bounds → m .color .hue < 65536 → Ran m task begun n →
     (clock : ℕ) → Lasts n clock → OnReceipt bounds received c (clock - begun) (m .color) (n .color)
 
--- a task in form that does so
+-- a task valid that does so
 pub record Gives (l : Lamp) (c : Command) (given : GivenTask) : Type 0 where
   pub task : Task
   pub is : given ≡ GivenTask.Given task
-  pub inForm : taskForm task ≡ true
+  pub isValid : taskValid task ≡ true
   pub follows : Follows (l .bounds) (l .color) c task
 
 -- ---- ways of a step
 
 step-goes : (mode : StepModeEnum) (size time elapsed from now : ℕ) → 0 < size →
-    Goes-by (sense (stepWay mode size)) (natAbs (stepWay mode size)) time elapsed from now →
+    Goes-by (sense (stepDelta mode size)) (natAbs (stepDelta mode size)) time elapsed from now →
     Goes-by mode size time elapsed from now
 step-goes StepModeEnum.Up size time elapsed from now h g = g
 step-goes StepModeEnum.Down zero time elapsed from now h g = absurd (omega arith)
@@ -125,15 +125,15 @@ module _ {H S M : Type 0} (g : Each H S M) where
   with-mireds : {So : Type 0} → (M → So) → Each H S So
   with-mireds f = record { hue = g .hue; saturation = g .saturation; mireds = f (g .mireds) }
 
-module _ (l : Lamp) (formed : lampForm l ≡ true) (hued : l .color .hue < 65536) where
-  -- a lamp on which a task was started was in form
+module _ (l : Lamp) (validity : lampValid l ≡ true) (hued : l .color .hue < 65536) where
+  -- a lamp on which a task was started was valid
   fair : {m n : Lamp} {task : Task} {begun : ℕ} → Ran m task begun n → m .color .saturation ≤ 254
-  fair {m} {begun = begun} r = form-saturation _ _ _ (form-color (atClock m begun) (ran-form r))
+  fair {m} {begun = begun} r = valid-saturation _ _ _ (valid-color (atClock m begun) (ran-valid r))
 
   ordered : l .bounds .min ≤ l .bounds .max
   ordered =
-      let c = form-color l formed in
-      omega (arith, form-above (l .color) (l .bounds) (l .clock) c, form-below (l .color) (l .bounds) (l .clock) c)
+      let c = valid-color l validity in
+      omega (arith, valid-above (l .color) (l .bounds) (l .clock) c, valid-below (l .color) (l .bounds) (l .clock) c)
 
   -- where a command's task moves mireds to a target within the bounds
   to-mireds : (target time : ℕ) (m n : Lamp) (begun : ℕ) → m .bounds ≡ l .bounds →
@@ -159,7 +159,7 @@ module _ (l : Lamp) (formed : lampForm l ≡ true) (hued : l .color .hue < 65536
 
   -- a command with good fields
   abbrev Asked : Command → Type 0
-  Asked c = TypedCommand c → numberCause c ≡ 0 → Does (l .bounds) (l .color) c (commandEffect l c .task)
+  Asked c = InRangeCommand c → numberCause c ≡ 0 → Does (l .bounds) (l .color) c (commandEffect l c .task)
 
   move-to-hue-does : (hue : ℕ) (direction : DirectionEnum) (time : ℕ) (options : CommandOptions) →
       Asked (Command.MoveToHue hue direction time options)
@@ -209,7 +209,7 @@ module _ (l : Lamp) (formed : lampForm l ≡ true) (hued : l .color .hue < 65536
     λ m n begun b k r clock lasts.
         with-saturation (move-to-follows m begun _ k n r clock lasts)
         (subst (λ (to : ℕ). Reaches (m .color .saturation) to (milliseconds time) (clock - begun) (n .color .saturation))
-        (saturation-step-agrees mode (l .color .saturation) size (form-saturation _ _ _ (form-color l formed)))),
+        (saturation-step-agrees mode (l .color .saturation) size (valid-saturation _ _ _ (valid-color l validity)))),
   )
 
   move-to-hue-and-saturation-does : (hue saturation time : ℕ) (enhanced : Bool) (enhancedHue : ℕ)
@@ -294,12 +294,12 @@ module _ (l : Lamp) (formed : lampForm l ≡ true) (hued : l .color .hue < 65536
     λ m clock. refl,
     λ m n begun b k r clock lasts least most ends allow.
         let from : ℕ = l .color .mireds in
-        let target : ℕ = clamp (lo (l .bounds) min) (hi (l .bounds) max) (pos from +ℤ stepWay mode size) in
+        let target : ℕ = clamp (lo (l .bounds) min) (hi (l .bounds) max) (pos from +ℤ stepDelta mode size) in
         let i : (lo (l .bounds) min ≤ from) × (from ≤ hi (l .bounds) max) =
         allowed-within (l .bounds) min max from allow
         in
         let w : (lo (l .bounds) min ≤ target) × (target ≤ hi (l .bounds) max) =
-        clamp-within (lo (l .bounds) min) (hi (l .bounds) max) (pos from +ℤ stepWay mode size) (omega arith)
+        clamp-within (lo (l .bounds) min) (hi (l .bounds) max) (pos from +ℤ stepDelta mode size) (omega arith)
         in
         with-mireds (to-mireds target time m n begun b (omega (arith, w), omega (arith, w)) r clock lasts)
         (subst (λ (to : ℕ). Reaches (m .color .mireds) to (milliseconds time) (clock - begun) (n .color .mireds))
@@ -334,10 +334,10 @@ command-fields : (l : Lamp) (c : Command) (onOff : OnOff) (clock : ℕ) → caus
     stopMode c ≡ false → numberCause c ≡ 0
 unfolding cause commandCause
 command-fields l c onOff clock z s =
-    no-cause (numberCause c) _ (rw s at (no-cause (formOrClock l clock) (afterClock l c onOff) z .1)) .0
+    no-cause (numberCause c) _ (rw s at (no-cause (firstCause l clock) (afterClock l c onOff) z .1)) .0
 
--- an accepted command with leave to run, in no Stop mode, does what the text asks
-pub receipt-agrees : (l : Lamp) (c : Command) (onOff : OnOff) (clock : ℕ) → l .color .hue < 65536 → TypedCommand c →
+-- an accepted command with leave to execute, in no Stop mode, does what the text asks
+pub receipt-agrees : (l : Lamp) (c : Command) (onOff : OnOff) (clock : ℕ) → l .color .hue < 65536 → InRangeCommand c →
     moves c ≡ true → cause l (Call.Command c onOff clock) ≡ 0 → allowed l c onOff ≡ true → stopMode c ≡ false →
     Gives l c (answer l (Call.Command c onOff clock) .task)
 receipt-agrees l c onOff clock h t v z a s =
@@ -354,8 +354,8 @@ receipt-agrees l c onOff clock h t v z a s =
         record {
           task = task;
           is = refl;
-          inForm =
-              given-form l c onOff clock t task e
+          isValid =
+              given-valid l c onOff clock t task e
               (λ p. true≢false (sym (d .0 l clock) ∙ ap (λ (x : Task). runs (saved l x clock)) p));
           follows = d .1;
         }

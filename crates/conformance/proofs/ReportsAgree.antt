@@ -1,5 +1,5 @@
--- The remaining time is told exactly where the text has it reportable, for all numbers; a colour attribute is told of a change
--- exactly where the text allows it, by its setter and in every accepted step. Where the port tells more, or less.
+-- The remaining time is reported exactly where the text has it reportable, for all numbers; a colour attribute is reported of a change
+-- exactly where the text allows it, by its setter and in every accepted step. Where the port reports more, or less.
 use Prim.Native.Nat.{ℕ, zero, suc, _+_, _-_, _<_}
 use mathlib.Core.Bool.{Bool, true, false, not, cond, _&&_, true≢false, _||_, or-true, or-false, or-assoc, and-true, and-false}
 use mathlib.Core.List.{List, [], _∷_, _++_, append-assoc}
@@ -13,12 +13,12 @@ use Rattle.matter.specs.declared.enums.ColorModeEnum.{ColorModeEnum}
 use Rattle.matter.specs.Limits.{saturationLimit}
 use Rattle.matter.proofs.Laws.{and-left, and-right, or-left, or-right, cond-both}
 use Rattle.notices.specs.Notices.{only, filled}
-use Rattle.notices.specs.Names.{CurrentHue, EnhancedCurrentHue, CurrentSaturation, ColorTemperatureMireds, ColorMode, EnhancedColorMode, RemainingTime, markedDirty, scenesTold, deviceHueSaturation, deviceMireds}
+use Rattle.notices.specs.Names.{CurrentHue, EnhancedCurrentHue, CurrentSaturation, ColorTemperatureMireds, ColorMode, EnhancedColorMode, RemainingTime, markedDirty, scenesNotified, deviceHueSaturation, deviceMireds}
 use Rattle.color.specs.declared.Color.{Color}
-use Rattle.color.specs.Setters.{due, same, changeNotices, hueSet, hueTold, saturationSet, saturationTold, miredsSet, miredsTold}
-use Rattle.progress.specs.Progress.{permilleOf, tenthsOf, wayAtRate, broughtWithin, loopWay}
+use Rattle.color.specs.Setters.{due, same, changeNotices, hueSet, hueReported, saturationSet, saturationReported, miredsSet, miredsReported}
+use Rattle.progress.specs.Progress.{permilleOf, tenthsOf, deltaAtRate, clampedSum, loopDelta}
 use Rattle.hue.specs.Hue.{movedHue}
-use Rattle.remaining_time.specs.RemainingTime.{apart, told}
+use Rattle.remaining_time.specs.RemainingTime.{apart, reported}
 use Rattle.tasks.specs.declared.ColorLoopRun.{ColorLoopRun}
 use Rattle.tasks.specs.declared.ColorTemperatureRun.{ColorTemperatureRun}
 use Rattle.tasks.specs.declared.ColorTemperatureToRun.{ColorTemperatureToRun}
@@ -34,13 +34,13 @@ use Rattle.lamp.specs.declared.Lamp.{Lamp}
 use Rattle.lamp.specs.Answers.{atClock}
 use Rattle.lamp.specs.Calls.{done, stepped}
 use Rattle.matter.specs.Rules.{signed}
-use Rattle.lamp.specs.Passes.{Effect, unless, atEnd, hueNow, hueMoved, hueMovedTold, saturationNow, saturationMoved, saturationMovedTold, leftWritten, miredsNow, saturationDone, miredsDone, hueSaturationPass, temperatureToPass, huePass, saturationPass, temperaturePass, loopPass}
+use Rattle.lamp.specs.Passes.{Effect, unless, atEnd, hueNow, hueMoved, hueMovedReported, saturationNow, saturationMoved, saturationMovedReported, leftWritten, miredsNow, saturationDone, miredsDone, hueSaturationPass, temperatureToPass, huePass, saturationPass, temperaturePass, loopPass}
 use Rattle.lamp.specs.declared.Call.{Call}
 use Rattle.commands.specs.Answers.{cause, answer}
 use Rattle.conformance.proofs.SettersSet.{hue-is-set, saturation-is-set, mireds-is-set}
 use Rattle.conformance.proofs.Ran.{granted-is}
 use Rattle.conformance.proofs.ShownAgrees.{step-shows}
-use Rattle.conformance.specs.Reports.{RemainingTimeIs, Reportable, fromZero, risen, fallen, toZero, hushed, MayReport, onceASecond, atTheEnd, tells}
+use Rattle.conformance.specs.Reports.{RemainingTimeIs, Reportable, fromZero, risen, fallen, toZero, hushed, MayReport, onceASecond, atTheEnd, reports}
 
 -- ---- RemainingTime
 
@@ -52,15 +52,15 @@ third true b e = refl
 third false true e = refl
 third false false e = e
 
--- what is reportable is told
-pub reportable-told : {old new : ℕ} {start : Bool} → Reportable old new start → told old new start ≡ true
-unfolding told
-reportable-told (fromZero new start h) = rw (ne-eqb new 0 (λ e. omega arith), lt-ltb 10 new h)
-reportable-told (risen old new h) = third (eqb new 0 && not (eqb old 0)) (eqb old 0 && ltb 10 new) (rw (lt-ltb 10 (apart new old) (omega arith)))
-reportable-told (fallen old new h) = third (eqb new 0 && not (eqb old 0)) (eqb old 0 && ltb 10 new) (rw (lt-ltb 10 (apart new old) (omega arith)))
-reportable-told (toZero old start h) = rw (ne-eqb old 0 (λ e. omega arith))
+-- what is reportable is reported
+pub reportable-is-reported : {old new : ℕ} {start : Bool} → Reportable old new start → reported old new start ≡ true
+unfolding reported
+reportable-is-reported (fromZero new start h) = rw (ne-eqb new 0 (λ e. omega arith), lt-ltb 10 new h)
+reportable-is-reported (risen old new h) = third (eqb new 0 && not (eqb old 0)) (eqb old 0 && ltb 10 new) (rw (lt-ltb 10 (apart new old) (omega arith)))
+reportable-is-reported (fallen old new h) = third (eqb new 0 && not (eqb old 0)) (eqb old 0 && ltb 10 new) (rw (lt-ltb 10 (apart new old) (omega arith)))
+reportable-is-reported (toZero old start h) = rw (ne-eqb old 0 (λ e. omega arith))
 
--- what is told is reportable
+-- what is reported is reportable
 module _ (old new : ℕ) where
   changed-by : (t : Bool) → ltb old new ≡ t → 10 < apart new old → Reportable old new true
   changed-by true e h = risen old new (omega (arith, ltb-true old new e))
@@ -86,22 +86,22 @@ module _ (old new : ℕ) where
   by false false c true false ea eb ec ed e = absurd (true≢false (sym e))
   by false false c false start ea eb ec ed e = absurd (true≢false (sym e))
 
-  pub told-reportable : (start : Bool) → told old new start ≡ true → Reportable old new start
-  unfolding told
-  told-reportable start e = by (eqb new 0) (eqb old 0) (ltb 10 new) (ltb 10 (apart new old)) start refl refl refl refl e
+  pub reported-is-reportable : (start : Bool) → reported old new start ≡ true → Reportable old new start
+  unfolding reported
+  reported-is-reportable start e = by (eqb new 0) (eqb old 0) (ltb 10 new) (ltb 10 (apart new old)) start refl refl refl refl e
 
 -- the sentence on times below a second: the start of such a fade from rest is silent, as it asks
-pub short-start : (time : ℕ) → hushed time → told 0 time true ≡ false
-unfolding told
+pub short-start : (time : ℕ) → hushed time → reported 0 time true ≡ false
+unfolding reported
 short-start time h = rw (le-ltb 10 time (omega arith), le-ltb 10 (apart time 0) (omega arith)) (silent (eqb time 0))
   where
     silent : (a : Bool) → ((a && not true) || (true && false) || (false && true)) ≡ false
     silent true = refl
     silent false = refl
 
--- and its end is told, where it asks for silence: the smallest is a fade of a tenth
-pub short-end-differs : hushed 1 × (told 1 0 false ≡ true)
-unfolding told
+-- and its end is reported, where it asks for silence: the smallest is a fade of a tenth
+pub short-end-differs : hushed 1 × (reported 1 0 false ≡ true)
+unfolding reported
 short-end-differs = (omega arith, refl)
 
 -- ---- the colour attributes
@@ -116,102 +116,102 @@ by-due (onceASecond stamp clock end h) = rw (le-leb (stamp + 1000) clock h) (or-
 by-due (atTheEnd stamp clock) = refl
 
 -- whether a list has a notice, of two lists
-tells-both : (n : ℕ) (xs ys : List ℕ) → tells n (xs ++ ys) ≡ (tells n xs || tells n ys)
-tells-both n [] ys = refl
-tells-both n (x ∷ xs) ys =
-    ap (λ (b : Bool). eqb n x || b) (tells-both n xs ys) ∙ sym (or-assoc (eqb n x) (tells n xs) (tells n ys))
+reports-both : (n : ℕ) (xs ys : List ℕ) → reports n (xs ++ ys) ≡ (reports n xs || reports n ys)
+reports-both n [] ys = refl
+reports-both n (x ∷ xs) ys =
+    ap (λ (b : Bool). eqb n x || b) (reports-both n xs ys) ∙ sym (or-assoc (eqb n x) (reports n xs) (reports n ys))
 
 -- of which the second has none
-but-for : (n : ℕ) (told rest : List ℕ) → tells n rest ≡ false → tells n (told ++ rest) ≡ tells n told
-but-for n told rest none = tells-both n told rest ∙ rw none (or-false (tells n told))
+but-for : (n : ℕ) (reported rest : List ℕ) → reports n rest ≡ false → reports n (reported ++ rest) ≡ reports n reported
+but-for n reported rest none = reports-both n reported rest ∙ rw none (or-false (reports n reported))
 
--- of a change, its attributes and the modes are told exactly where the change is due
-module _ (n : ℕ) (attributes : List ℕ) (other : tells n (markedDirty ∷ scenesTold ∷ []) ≡ false) where
+-- of a change, its attributes and the modes are reported exactly where the change is due
+module _ (n : ℕ) (attributes : List ℕ) (other : reports n (markedDirty ∷ scenesNotified ∷ []) ≡ false) where
   abbrev noticed : List ℕ
   noticed = attributes ++ (ColorMode ∷ EnhancedColorMode ∷ [])
 
-  last-by : (d : Bool) → tells n (cond d noticed [] ++ (scenesTold ∷ [])) ≡ d && tells n noticed
-  last-by true = but-for n noticed (scenesTold ∷ []) (or-right (eqb n markedDirty) (tells n (scenesTold ∷ [])) other)
-  last-by false = or-right (eqb n markedDirty) (tells n (scenesTold ∷ [])) other
+  last-by : (d : Bool) → reports n (cond d noticed [] ++ (scenesNotified ∷ [])) ≡ d && reports n noticed
+  last-by true = but-for n noticed (scenesNotified ∷ []) (or-right (eqb n markedDirty) (reports n (scenesNotified ∷ [])) other)
+  last-by false = or-right (eqb n markedDirty) (reports n (scenesNotified ∷ [])) other
 
-  notices-by : (s a d : Bool) → tells n (cond s [] (changeNotices a d attributes)) ≡ not s && (d && tells n noticed)
+  notices-by : (s a d : Bool) → reports n (cond s [] (changeNotices a d attributes)) ≡ not s && (d && reports n noticed)
   notices-by true a d = refl
   notices-by false true d = last-by d
-  notices-by false false d = rw (or-left (eqb n markedDirty) (tells n (scenesTold ∷ [])) other) (last-by d)
+  notices-by false false d = rw (or-left (eqb n markedDirty) (reports n (scenesNotified ∷ [])) other) (last-by d)
 
-  change-by : tells n noticed ≡ true → (s a d : Bool) → tells n (cond s [] (changeNotices a d attributes)) ≡ not s && d
+  change-by : reports n noticed ≡ true → (s a d : Bool) → reports n (cond s [] (changeNotices a d attributes)) ≡ not s && d
   change-by has s a d = notices-by s a d ∙ rw (has, and-true d)
 
   -- and no other
-  no-change-by : tells n noticed ≡ false → (s a d : Bool) → tells n (cond s [] (changeNotices a d attributes)) ≡ false
+  no-change-by : reports n noticed ≡ false → (s a d : Bool) → reports n (cond s [] (changeNotices a d attributes)) ≡ false
   no-change-by none s a d = notices-by s a d ∙ rw (none, and-false d, and-false (not s))
 
--- of a hue, CurrentHue is told, and with it EnhancedCurrentHue where the move is an enhanced one
+-- of a hue, CurrentHue is reported, and with it EnhancedCurrentHue where the move is an enhanced one
 pub data HueNotice : ℕ → Bool → Type 0 where
   ofCurrentHue : (enhanced : Bool) → HueNotice CurrentHue enhanced
   ofEnhancedCurrentHue : HueNotice EnhancedCurrentHue true
 
 hue-by : {n : ℕ} {enhanced : Bool} → HueNotice n enhanced → (s a d : Bool) →
-    tells n (cond s [] (changeNotices a d (CurrentHue ∷ only enhanced EnhancedCurrentHue))) ≡ not s && d
+    reports n (cond s [] (changeNotices a d (CurrentHue ∷ only enhanced EnhancedCurrentHue))) ≡ not s && d
 hue-by (ofCurrentHue enhanced) = change-by CurrentHue (CurrentHue ∷ only enhanced EnhancedCurrentHue) refl refl
 hue-by ofEnhancedCurrentHue = change-by EnhancedCurrentHue (CurrentHue ∷ EnhancedCurrentHue ∷ []) refl refl
 
 saturation-by : (s a d : Bool) →
-    tells CurrentSaturation (cond s [] (changeNotices a d (CurrentSaturation ∷ []))) ≡ not s && d
+    reports CurrentSaturation (cond s [] (changeNotices a d (CurrentSaturation ∷ []))) ≡ not s && d
 saturation-by = change-by CurrentSaturation (CurrentSaturation ∷ []) refl refl
 
 mireds-by : (s a d : Bool) →
-    tells ColorTemperatureMireds (cond s [] (changeNotices a d (ColorTemperatureMireds ∷ []))) ≡ not s && d
+    reports ColorTemperatureMireds (cond s [] (changeNotices a d (ColorTemperatureMireds ∷ []))) ≡ not s && d
 mireds-by = change-by ColorTemperatureMireds (ColorTemperatureMireds ∷ []) refl refl
 
--- a notice of a number that becomes another is one that may be reported, and of a change each that may be is told
-pub record ReportedAs (notice : ℕ) (told : List ℕ) (old new stamp clock : ℕ) (end : Bool) : Type 0 where
-  pub whereItMay : tells notice told ≡ true → MayReport stamp clock end
-  pub ofEachChange : (old ≡ new → ⊥) → MayReport stamp clock end → tells notice told ≡ true
+-- a notice of a number that becomes another is one that may be reported, and of a change each that may be is reported
+pub record ReportedAs (notice : ℕ) (reported : List ℕ) (old new stamp clock : ℕ) (end : Bool) : Type 0 where
+  pub whereItMay : reports notice reported ≡ true → MayReport stamp clock end
+  pub ofEachChange : (old ≡ new → ⊥) → MayReport stamp clock end → reports notice reported ≡ true
 
--- it is told so
-abbrev ToldOf : ℕ → List ℕ → ℕ → ℕ → ℕ → ℕ → Bool → Type 0
-ToldOf n told old new stamp clock end = tells n told ≡ not (same old new end) && due end stamp clock
+-- it is reported so
+abbrev ReportedWhere : ℕ → List ℕ → ℕ → ℕ → ℕ → ℕ → Bool → Type 0
+ReportedWhere n reported old new stamp clock end = reports n reported ≡ not (same old new end) && due end stamp clock
 
-reported-as : (n : ℕ) (told : List ℕ) (old new stamp clock : ℕ) (end : Bool) → ToldOf n told old new stamp clock end →
-    ReportedAs n told old new stamp clock end
-reported-as n told old new stamp clock end e =
+reported-as : (n : ℕ) (reported : List ℕ) (old new stamp clock : ℕ) (end : Bool) → ReportedWhere n reported old new stamp clock end →
+    ReportedAs n reported old new stamp clock end
+reported-as n reported old new stamp clock end e =
     record {
       whereItMay = λ h. due-by end stamp clock (and-right (not (same old new end)) (due end stamp clock) (sym e ∙ h));
       ofEachChange = λ h m. e ∙ rw (ne-eqb old new h, by-due m);
     }
 
 module _ (c : Color) (new : ℕ) (end : Bool) (clock : ℕ) (active : Bool) where
-  hue-told : {n : ℕ} {enhanced : Bool} → HueNotice n enhanced →
-      ToldOf n (hueTold c new end enhanced clock active) (c .hue) new (c .stamps .hue) clock end
-  unfolding hueTold
-  hue-told h = hue-by h (same (c .hue) new end) active (due end (c .stamps .hue) clock)
+  hue-change-reported : {n : ℕ} {enhanced : Bool} → HueNotice n enhanced →
+      ReportedWhere n (hueReported c new end enhanced clock active) (c .hue) new (c .stamps .hue) clock end
+  unfolding hueReported
+  hue-change-reported h = hue-by h (same (c .hue) new end) active (due end (c .stamps .hue) clock)
 
-  saturation-told : ToldOf CurrentSaturation (saturationTold c new end clock active) (c .saturation) new
+  saturation-change-reported : ReportedWhere CurrentSaturation (saturationReported c new end clock active) (c .saturation) new
       (c .stamps .saturation) clock end
-  unfolding saturationTold
-  saturation-told = saturation-by (same (c .saturation) new end) active (due end (c .stamps .saturation) clock)
+  unfolding saturationReported
+  saturation-change-reported = saturation-by (same (c .saturation) new end) active (due end (c .stamps .saturation) clock)
 
-  mireds-told : ToldOf ColorTemperatureMireds (miredsTold c new end clock active) (c .mireds) new
+  mireds-change-reported : ReportedWhere ColorTemperatureMireds (miredsReported c new end clock active) (c .mireds) new
       (c .stamps .mireds) clock end
-  unfolding miredsTold
-  mireds-told = mireds-by (same (c .mireds) new end) active (due end (c .stamps .mireds) clock)
+  unfolding miredsReported
+  mireds-change-reported = mireds-by (same (c .mireds) new end) active (due end (c .stamps .mireds) clock)
 
   pub hue-reported : {n : ℕ} {enhanced : Bool} → HueNotice n enhanced →
-      ReportedAs n (hueTold c new end enhanced clock active) (c .hue) new (c .stamps .hue) clock end
-  hue-reported h = reported-as _ _ _ _ _ _ _ (hue-told h)
+      ReportedAs n (hueReported c new end enhanced clock active) (c .hue) new (c .stamps .hue) clock end
+  hue-reported h = reported-as _ _ _ _ _ _ _ (hue-change-reported h)
 
-  pub saturation-reported : ReportedAs CurrentSaturation (saturationTold c new end clock active) (c .saturation) new
+  pub saturation-reported : ReportedAs CurrentSaturation (saturationReported c new end clock active) (c .saturation) new
       (c .stamps .saturation) clock end
-  saturation-reported = reported-as _ _ _ _ _ _ _ saturation-told
+  saturation-reported = reported-as _ _ _ _ _ _ _ saturation-change-reported
 
-  pub mireds-reported : ReportedAs ColorTemperatureMireds (miredsTold c new end clock active) (c .mireds) new
+  pub mireds-reported : ReportedAs ColorTemperatureMireds (miredsReported c new end clock active) (c .mireds) new
       (c .stamps .mireds) clock end
-  mireds-reported = reported-as _ _ _ _ _ _ _ mireds-told
+  mireds-reported = reported-as _ _ _ _ _ _ _ mireds-change-reported
 
--- "at most once per second": what was told at one clock is not told again within the second, but at an end
+-- "at most once per second": what was reported at one clock is not reported again within the second, but at an end
 
--- a notice that was told sets its stamp to the clock, and then is not due
+-- a notice that was reported sets its stamp to the clock, and then is not due
 once : (t u : Bool) (old new stamp oldNext next stampNext clock later : ℕ) (end : Bool) → later < clock + 1000 →
     t ≡ not (same old new end) && due end stamp clock → u ≡ not (same oldNext next false) && due false stampNext later →
     (same old new end ≡ false → due end stamp clock ≡ true → stampNext ≡ clock) → t ≡ true → u ≡ false
@@ -225,61 +225,61 @@ once t u old new stamp oldNext next stampNext clock later end soon e f set h =
 
 module _ (c : Color) (clock later : ℕ) (soon : later < clock + 1000) (end : Bool) (new next : ℕ) (active : Bool) where
   pub hue-once : {n : ℕ} {enhanced enhancedNext : Bool} → HueNotice n enhanced → HueNotice n enhancedNext →
-      tells n (hueTold c new end enhanced clock active) ≡ true →
-      tells n (hueTold (hueSet c new end enhanced clock) next false enhancedNext later active) ≡ false
+      reports n (hueReported c new end enhanced clock active) ≡ true →
+      reports n (hueReported (hueSet c new end enhanced clock) next false enhancedNext later active) ≡ false
   unfolding hueSet
   hue-once {enhanced = enhanced} h k =
       let after : Color = hueSet c new end enhanced clock in
       once _ _ (c .hue) new (c .stamps .hue) (after .hue) next (after .stamps .hue) clock later end soon
-      (hue-told c new end clock active h) (hue-told after next false later active k) (λ e d. rw (e, d))
+      (hue-change-reported c new end clock active h) (hue-change-reported after next false later active k) (λ e d. rw (e, d))
 
-  pub saturation-once : tells CurrentSaturation (saturationTold c new end clock active) ≡ true →
-      tells CurrentSaturation (saturationTold (saturationSet c new end clock) next false later active) ≡ false
+  pub saturation-once : reports CurrentSaturation (saturationReported c new end clock active) ≡ true →
+      reports CurrentSaturation (saturationReported (saturationSet c new end clock) next false later active) ≡ false
   unfolding saturationSet
   saturation-once =
       let after : Color = saturationSet c new end clock in
       once _ _ (c .saturation) new (c .stamps .saturation) (after .saturation) next (after .stamps .saturation) clock
-      later end soon (saturation-told c new end clock active)
-      (saturation-told after next false later active) (λ e d. rw (e, d))
+      later end soon (saturation-change-reported c new end clock active)
+      (saturation-change-reported after next false later active) (λ e d. rw (e, d))
 
-  pub mireds-once : tells ColorTemperatureMireds (miredsTold c new end clock active) ≡ true →
-      tells ColorTemperatureMireds (miredsTold (miredsSet c new end clock) next false later active) ≡ false
+  pub mireds-once : reports ColorTemperatureMireds (miredsReported c new end clock active) ≡ true →
+      reports ColorTemperatureMireds (miredsReported (miredsSet c new end clock) next false later active) ≡ false
   unfolding miredsSet
   mireds-once =
       let after : Color = miredsSet c new end clock in
       once _ _ (c .mireds) new (c .stamps .mireds) (after .mireds) next (after .stamps .mireds) clock later end soon
-      (mireds-told c new end clock active) (mireds-told after next false later active) (λ e d. rw (e, d))
+      (mireds-change-reported c new end clock active) (mireds-change-reported after next false later active) (λ e d. rw (e, d))
 
--- ---- where the port tells more, or less
+-- ---- where the port reports more, or less
 
-mode-by : (s a d e : Bool) → tells ColorMode (cond s [] (changeNotices a d (CurrentHue ∷ only e EnhancedCurrentHue))) ≡ not s && d
+mode-by : (s a d e : Bool) → reports ColorMode (cond s [] (changeNotices a d (CurrentHue ∷ only e EnhancedCurrentHue))) ≡ not s && d
 mode-by s a d true = change-by ColorMode (CurrentHue ∷ EnhancedCurrentHue ∷ []) refl refl s a d
 mode-by s a d false = change-by ColorMode (CurrentHue ∷ []) refl refl s a d
 
-plain-by : (s a d : Bool) → tells EnhancedCurrentHue (cond s [] (changeNotices a d (CurrentHue ∷ []))) ≡ false
+plain-by : (s a d : Bool) → reports EnhancedCurrentHue (cond s [] (changeNotices a d (CurrentHue ∷ []))) ≡ false
 plain-by = no-change-by EnhancedCurrentHue (CurrentHue ∷ []) refl refl
 
 module _ (c : Color) (clock : ℕ) (active : Bool) where
-  -- more: at an end the number is told though it is the old one, where the text speaks of changes. Smallest: hue 0 to 0
-  pub unchanged-told : (enhanced : Bool) → tells CurrentHue (hueTold c (c .hue) true enhanced clock active) ≡ true
-  unfolding hueTold
-  unchanged-told enhanced =
+  -- more: at an end the number is reported though it is the old one, where the text speaks of changes. Smallest: hue 0 to 0
+  pub unchanged-is-reported : (enhanced : Bool) → reports CurrentHue (hueReported c (c .hue) true enhanced clock active) ≡ true
+  unfolding hueReported
+  unchanged-is-reported enhanced =
       hue-by (ofCurrentHue enhanced) (same (c .hue) (c .hue) true) active true ∙ rw (and-false (eqb (c .hue) (c .hue)))
 
   module _ (new : ℕ) (moved : c .hue ≡ new → ⊥) where
     -- less: the modes change with the number and are withheld with it, where the text limits no report of ColorMode or
     -- EnhancedColorMode. Smallest: in XY mode, from hue 0 to 1 at clock 999, the last notice being at 0
-    pub mode-untold : (enhanced : Bool) → clock < c .stamps .hue + 1000 → (hueSet c new false enhanced clock .mode ≡ ColorModeEnum.CurrentHueAndCurrentSaturation) × (tells ColorMode (hueTold c new false enhanced clock active) ≡ false)
-    unfolding hueSet hueTold
-    mode-untold enhanced h =
+    pub mode-unreported : (enhanced : Bool) → clock < c .stamps .hue + 1000 → (hueSet c new false enhanced clock .mode ≡ ColorModeEnum.CurrentHueAndCurrentSaturation) × (reports ColorMode (hueReported c new false enhanced clock active) ≡ false)
+    unfolding hueSet hueReported
+    mode-unreported enhanced h =
         (rw (ne-eqb (c .hue) new moved), mode-by (same (c .hue) new false) active (due false (c .stamps .hue) clock) enhanced ∙ rw (ne-eqb (c .hue) new moved, lt-leb (c .stamps .hue + 1000) clock h))
 
-  -- less: a plain move tells no EnhancedCurrentHue, which it changes
-  pub enhanced-untold : (new : ℕ) (end : Bool) → tells EnhancedCurrentHue (hueTold c new end false clock active) ≡ false
-  unfolding hueTold
-  enhanced-untold new end = plain-by (same (c .hue) new end) active (due end (c .stamps .hue) clock)
+  -- less: a plain move reports no EnhancedCurrentHue, which it changes
+  pub enhanced-unreported : (new : ℕ) (end : Bool) → reports EnhancedCurrentHue (hueReported c new end false clock active) ≡ false
+  unfolding hueReported
+  enhanced-unreported new end = plain-by (same (c .hue) new end) active (due end (c .stamps .hue) clock)
 
--- ---- over calls: an accepted step tells an attribute exactly where it may be reported, whatever moves it
+-- ---- over calls: an accepted step reports an attribute exactly where it may be reported, whatever moves it
 
 -- the last of a movement: nothing runs after it
 abbrev pub ended : Answer → Bool
@@ -290,16 +290,16 @@ Reported notice number stamp before clock a =
     ReportedAs notice (a .notices .places) (number (before .color)) (number (a .lamp .color))
     (stamp (before .color)) clock (ended a)
 
--- the zeros behind what a pass tells
-no-zeros : (n : ℕ) → eqb n 0 ≡ false → (k : ℕ) → tells n (replicate k 0) ≡ false
+-- the zeros behind what a pass reports
+no-zeros : (n : ℕ) → eqb n 0 ≡ false → (k : ℕ) → reports n (replicate k 0) ≡ false
 no-zeros n z zero = refl
 no-zeros n z (suc k) = rw z (no-zeros n z k)
 
-in-places : (n : ℕ) → eqb n 0 ≡ false → (xs : List ℕ) → tells n (filled xs) ≡ tells n xs
+in-places : (n : ℕ) → eqb n 0 ≡ false → (xs : List ℕ) → reports n (filled xs) ≡ reports n xs
 unfolding filled
 in-places n z xs = but-for n xs (replicate (16 - length xs) 0) (no-zeros n z (16 - length xs))
 
-no-time : (n : ℕ) → eqb n RemainingTime ≡ false → (t : Bool) → tells n (only t RemainingTime) ≡ false
+no-time : (n : ℕ) → eqb n RemainingTime ≡ false → (t : Bool) → reports n (only t RemainingTime) ≡ false
 no-time n z true = rw z
 no-time n z false = refl
 
@@ -307,19 +307,19 @@ ended-by : (end : Bool) (r : Running) → runs r ≡ true → not (runs (unless 
 ended-by true r e = refl
 ended-by false r e = rw e
 
--- they are not told of the rest of a pass
+-- they are not reported of the rest of a pass
 apart-from : {n : ℕ} {enhanced : Bool} → HueNotice n enhanced →
-    (eqb n 0 ≡ false) × (tells n (deviceHueSaturation ∷ []) ≡ false) × (eqb n RemainingTime ≡ false)
-    × (tells n (CurrentSaturation ∷ ColorMode ∷ EnhancedColorMode ∷ []) ≡ false)
-    × (tells n (markedDirty ∷ scenesTold ∷ []) ≡ false)
+    (eqb n 0 ≡ false) × (reports n (deviceHueSaturation ∷ []) ≡ false) × (eqb n RemainingTime ≡ false)
+    × (reports n (CurrentSaturation ∷ ColorMode ∷ EnhancedColorMode ∷ []) ≡ false)
+    × (reports n (markedDirty ∷ scenesNotified ∷ []) ≡ false)
 apart-from (ofCurrentHue enhanced) = (refl, refl, refl, refl, refl)
 apart-from ofEnhancedCurrentHue = (refl, refl, refl, refl, refl)
 
-no-saturation : (n : ℕ) → tells n (CurrentSaturation ∷ ColorMode ∷ EnhancedColorMode ∷ []) ≡ false →
-    tells n (markedDirty ∷ scenesTold ∷ []) ≡ false →
+no-saturation : (n : ℕ) → reports n (CurrentSaturation ∷ ColorMode ∷ EnhancedColorMode ∷ []) ≡ false →
+    reports n (markedDirty ∷ scenesNotified ∷ []) ≡ false →
     (c : Color) (t : TargetSaturation) (first p clock : ℕ) (active : Bool) →
-    tells n (saturationMovedTold c t first p clock active) ≡ false
-unfolding saturationTold
+    reports n (saturationMovedReported c t first p clock active) ≡ false
+unfolding saturationReported
 no-saturation n none other c TargetSaturation.Keep first p clock active = refl
 no-saturation n none other c (TargetSaturation.To target) first p clock active =
     no-change-by n (CurrentSaturation ∷ []) other none
@@ -327,14 +327,14 @@ no-saturation n none other c (TargetSaturation.To target) first p clock active =
 
 -- nor is CurrentSaturation of a hue, which leaves its number and stamp
 no-hue-by : (enhanced : Bool) →
-    tells CurrentSaturation ((CurrentHue ∷ only enhanced EnhancedCurrentHue) ++ (ColorMode ∷ EnhancedColorMode ∷ []))
+    reports CurrentSaturation ((CurrentHue ∷ only enhanced EnhancedCurrentHue) ++ (ColorMode ∷ EnhancedColorMode ∷ []))
     ≡ false
 no-hue-by true = refl
 no-hue-by false = refl
 
 no-hue : (c : Color) (d : HueDelta) (first p : ℕ) (enhanced : Bool) (clock : ℕ) (active : Bool) →
-    tells CurrentSaturation (hueMovedTold c d first p enhanced clock active) ≡ false
-unfolding hueTold
+    reports CurrentSaturation (hueMovedReported c d first p enhanced clock active) ≡ false
+unfolding hueReported
 no-hue c HueDelta.Keep first p enhanced clock active = refl
 no-hue c (HueDelta.By way) first p enhanced clock active =
     no-change-by CurrentSaturation (CurrentHue ∷ only enhanced EnhancedCurrentHue) refl (no-hue-by enhanced)
@@ -359,43 +359,43 @@ module _ (l : Lamp) (clock : ℕ) (accepted : cause l (Call.Step clock) ≡ 0) w
   answer-is : (r : Running) → l .running ≡ r → answer l (Call.Step clock) ≡ done (stepped on r)
   answer-is r e = granted-is l (Call.Step clock) accepted ∙ ap (λ (x : Running). done (stepped on x)) e
 
-  -- a pass that tells these of the number, and besides nothing of the notice
+  -- a pass that reports these of the number, and besides nothing of the notice
   reported-by : (n : ℕ) (number stamp : Color → ℕ) (new : ℕ) (end : Bool) (e : Effect) (its rest : List ℕ) →
       answer l (Call.Step clock) ≡ done e → number (e .lamp .color) ≡ new → not (runs (e .lamp .running)) ≡ end →
-      e .told ≡ its ++ rest → eqb n 0 ≡ false → tells n rest ≡ false →
-      ToldOf n its (number (l .color)) new (stamp (l .color)) clock end →
+      e .reported ≡ its ++ rest → eqb n 0 ≡ false → reports n rest ≡ false →
+      ReportedWhere n its (number (l .color)) new (stamp (l .color)) clock end →
       Reported n number stamp l clock (answer l (Call.Step clock))
-  reported-by n number stamp new end e its rest is set over list z none told =
+  reported-by n number stamp new end e its rest is set over list z none reported =
       subst (Reported n number stamp l clock) (sym is)
-      (rw (set, over) (reported-as n (filled (e .told)) _ new _ clock end
-      (ap (λ (x : List ℕ). tells n (filled x)) list ∙ in-places n z (its ++ rest) ∙ but-for n its rest none ∙ told)))
+      (rw (set, over) (reported-as n (filled (e .reported)) _ new _ clock end
+      (ap (λ (x : List ℕ). reports n (filled x)) list ∙ in-places n z (its ++ rest) ∙ but-for n its rest none ∙ reported)))
 
   -- a pass of the hue alone, which does not end
   hue-alone : (enhanced : Bool) (new : ℕ) (e : Effect) → answer l (Call.Step clock) ≡ done e → e .lamp .color .hue ≡ new →
       not (runs (e .lamp .running)) ≡ false →
-      e .told ≡ hueTold (l .color) new false enhanced clock (l .looping .active) ++ (deviceHueSaturation ∷ []) →
+      e .reported ≡ hueReported (l .color) new false enhanced clock (l .looping .active) ++ (deviceHueSaturation ∷ []) →
       (n : ℕ) → HueNotice n enhanced → Reported n (λ c. c .hue) (λ c. c .stamps .hue) l clock (answer l (Call.Step clock))
   hue-alone enhanced new e is set over list n h =
       let (z, device, time, others, dirty) = apart-from h in
       reported-by n (λ c. c .hue) (λ c. c .stamps .hue) new false e
-      (hueTold (l .color) new false enhanced clock (l .looping .active)) (deviceHueSaturation ∷ []) is set over
+      (hueReported (l .color) new false enhanced clock (l .looping .active)) (deviceHueSaturation ∷ []) is set over
       list z device
-      (hue-told (l .color) new false clock (l .looping .active) h)
+      (hue-change-reported (l .color) new false clock (l .looping .active) h)
 
   -- CurrentHue, and in an enhanced move EnhancedCurrentHue: of a move to a hue, of a move at a rate and of the loop
   pub hue-to-reported : (run : HueSaturationRun) (way : ℤ) → l .running ≡ Running.HueSaturationMoveTo run →
       run .task .delta ≡ HueDelta.By way →
       (n : ℕ) → HueNotice n (run .task .enhanced) →
       Reported n (λ c. c .hue) (λ c. c .stamps .hue) l clock (answer l (Call.Step clock))
-  unfolding stepped hueSaturationPass hueTold
+  unfolding stepped hueSaturationPass hueReported
   hue-to-reported run way e d n h =
       let p : ℕ = permilleOf (clock - run .start) (run .task .ms) in
       let is = answer-is (Running.HueSaturationMoveTo run) e in
       let active : Bool = l .looping .active in
       let hued : Color = hueMoved (l .color) (run .task .delta) (run .hue) p (run .task .enhanced) clock in
-      let its = hueMovedTold (l .color) (run .task .delta) (run .hue) p (run .task .enhanced) clock active in
-      let saturations = saturationMovedTold hued (run .task .saturation) (run .saturation) p clock active in
-      let left : Bool = leftWritten on (atEnd p) (clock - run .start) (run .task .ms) .told in
+      let its = hueMovedReported (l .color) (run .task .delta) (run .hue) p (run .task .enhanced) clock active in
+      let saturations = saturationMovedReported hued (run .task .saturation) (run .saturation) p clock active in
+      let left : Bool = leftWritten on (atEnd p) (clock - run .start) (run .task .ms) .reported in
       let (z, device, time, others, dirty) = apart-from h in
       reported-by n (λ c. c .hue) (λ c. c .stamps .hue) (hueNow (run .hue) way p) (atEnd p)
       (stepped on (Running.HueSaturationMoveTo run)) (its ++ saturations)
@@ -406,23 +406,23 @@ module _ (l : Lamp) (clock : ℕ) (accepted : cause l (Call.Step clock) ≡ 0) w
       (but-for n (deviceHueSaturation ∷ []) (only left RemainingTime) (no-time n time left) ∙ device)
       (but-for n its saturations
       (no-saturation n others dirty hued (run .task .saturation) (run .saturation) p clock active)
-      ∙ ap (λ (x : HueDelta). tells n (hueMovedTold (l .color) x (run .hue) p (run .task .enhanced) clock active)) d
-      ∙ hue-told (l .color) (hueNow (run .hue) way p) (atEnd p) clock active h)
+      ∙ ap (λ (x : HueDelta). reports n (hueMovedReported (l .color) x (run .hue) p (run .task .enhanced) clock active)) d
+      ∙ hue-change-reported (l .color) (hueNow (run .hue) way p) (atEnd p) clock active h)
 
   pub hue-move-reported : (run : HueRun) → l .running ≡ Running.HueMove run →
       (n : ℕ) → HueNotice n (run .task .enhanced) →
       Reported n (λ c. c .hue) (λ c. c .stamps .hue) l clock (answer l (Call.Step clock))
-  unfolding stepped huePass hueTold
+  unfolding stepped huePass hueReported
   hue-move-reported run e n h =
-      let now : ℕ = movedHue (run .hue) (wayAtRate (signed (run .task .direction) (run .task .rate)) (clock - run .start)) in
+      let now : ℕ = movedHue (run .hue) (deltaAtRate (signed (run .task .direction) (run .task .rate)) (clock - run .start)) in
       hue-alone (run .task .enhanced) now (stepped on (Running.HueMove run)) (answer-is (Running.HueMove run) e)
       (hue-is-set (l .color) now false (run .task .enhanced) clock) refl refl n h
 
   pub loop-reported : (run : ColorLoopRun) → l .running ≡ Running.ColorLoop run →
       (n : ℕ) → HueNotice n true → Reported n (λ c. c .hue) (λ c. c .stamps .hue) l clock (answer l (Call.Step clock))
-  unfolding stepped loopPass hueTold
+  unfolding stepped loopPass hueReported
   loop-reported run e n h =
-      let now : ℕ = movedHue (run .hue) (loopWay (run .task .direction) (clock - run .start) (run .task .seconds)) in
+      let now : ℕ = movedHue (run .hue) (loopDelta (run .task .direction) (clock - run .start) (run .task .seconds)) in
       hue-alone true now (stepped on (Running.ColorLoop run)) (answer-is (Running.ColorLoop run) e)
       (hue-is-set (l .color) now false true clock) refl refl n h
 
@@ -430,7 +430,7 @@ module _ (l : Lamp) (clock : ℕ) (accepted : cause l (Call.Step clock) ≡ 0) w
   pub saturation-to-reported : (run : HueSaturationRun) (target : ℕ) → l .running ≡ Running.HueSaturationMoveTo run →
       run .task .saturation ≡ TargetSaturation.To target →
       Reported CurrentSaturation (λ c. c .saturation) (λ c. c .stamps .saturation) l clock (answer l (Call.Step clock))
-  unfolding stepped hueSaturationPass saturationTold
+  unfolding stepped hueSaturationPass saturationReported
   saturation-to-reported run target e t =
       let p : ℕ = permilleOf (clock - run .start) (run .task .ms) in
       let n : ℕ = CurrentSaturation in
@@ -438,9 +438,9 @@ module _ (l : Lamp) (clock : ℕ) (accepted : cause l (Call.Step clock) ≡ 0) w
       let active : Bool = l .looping .active in
       let now : ℕ = saturationNow (run .saturation) target p in
       let hued : Color = hueMoved (l .color) (run .task .delta) (run .hue) p (run .task .enhanced) clock in
-      let its = hueMovedTold (l .color) (run .task .delta) (run .hue) p (run .task .enhanced) clock active in
-      let saturations = saturationMovedTold hued (run .task .saturation) (run .saturation) p clock active in
-      let left : Bool = leftWritten on (atEnd p) (clock - run .start) (run .task .ms) .told in
+      let its = hueMovedReported (l .color) (run .task .delta) (run .hue) p (run .task .enhanced) clock active in
+      let saturations = saturationMovedReported hued (run .task .saturation) (run .saturation) p clock active in
+      let left : Bool = leftWritten on (atEnd p) (clock - run .start) (run .task .ms) .reported in
       let (kept, stamp) = hue-leaves-stamp (l .color) (run .task .delta) (run .hue) p (run .task .enhanced) clock in
       reported-by n (λ c. c .saturation) (λ c. c .stamps .saturation) now (atEnd p)
       (stepped on (Running.HueSaturationMoveTo run)) (its ++ saturations)
@@ -450,49 +450,49 @@ module _ (l : Lamp) (clock : ℕ) (accepted : cause l (Call.Step clock) ≡ 0) w
       (ended-by (atEnd p) (Running.HueSaturationMoveTo run) refl)
       (append-assoc (its ++ saturations) (deviceHueSaturation ∷ []) (only left RemainingTime)) refl
       (no-time n refl left)
-      (tells-both n its saturations
+      (reports-both n its saturations
       ∙ rw (no-hue (l .color) (run .task .delta) (run .hue) p (run .task .enhanced) clock active)
-      (ap (λ (x : TargetSaturation). tells n (saturationMovedTold hued x (run .saturation) p clock active)) t
-      ∙ saturation-told hued now (atEnd p) clock active
+      (ap (λ (x : TargetSaturation). reports n (saturationMovedReported hued x (run .saturation) p clock active)) t
+      ∙ saturation-change-reported hued now (atEnd p) clock active
       ∙ ap (λ (x : ℕ). not (same x now (atEnd p)) && due (atEnd p) (hued .stamps .saturation) clock) kept
       ∙ ap (λ (x : ℕ). not (same (l .color .saturation) now (atEnd p)) && due (atEnd p) x clock) stamp))
 
   pub saturation-move-reported : (run : SaturationRun) → l .running ≡ Running.SaturationMove run →
       Reported CurrentSaturation (λ c. c .saturation) (λ c. c .stamps .saturation) l clock (answer l (Call.Step clock))
-  unfolding stepped saturationPass saturationTold
+  unfolding stepped saturationPass saturationReported
   saturation-move-reported run e =
-      let now : ℕ = broughtWithin 0 saturationLimit (run .saturation) (wayAtRate (signed (run .task .direction) (run .task .rate)) (clock - run .start)) in
+      let now : ℕ = clampedSum 0 saturationLimit (run .saturation) (deltaAtRate (signed (run .task .direction) (run .task .rate)) (clock - run .start)) in
       let end : Bool = saturationDone (run .task .direction) now in
       reported-by CurrentSaturation (λ c. c .saturation) (λ c. c .stamps .saturation) now end
-      (stepped on (Running.SaturationMove run)) (saturationTold (l .color) now end clock (l .looping .active))
+      (stepped on (Running.SaturationMove run)) (saturationReported (l .color) now end clock (l .looping .active))
       (deviceHueSaturation ∷ []) (answer-is (Running.SaturationMove run) e)
       (saturation-is-set (l .color) now end clock) (ended-by end (Running.SaturationMove run) refl) refl refl refl
-      (saturation-told (l .color) now end clock (l .looping .active))
+      (saturation-change-reported (l .color) now end clock (l .looping .active))
 
   -- ColorTemperatureMireds: of a move to mireds, and of a move at a rate
   pub mireds-to-reported : (run : ColorTemperatureToRun) → l .running ≡ Running.ColorTemperatureMoveTo run →
       Reported ColorTemperatureMireds (λ c. c .mireds) (λ c. c .stamps .mireds) l clock (answer l (Call.Step clock))
-  unfolding stepped temperatureToPass miredsTold
+  unfolding stepped temperatureToPass miredsReported
   mireds-to-reported run e =
       let p : ℕ = permilleOf (clock - run .start) (run .task .ms) in
       let now : ℕ = miredsNow (l .bounds) (run .mireds) (run .task .target) p in
-      let its = miredsTold (l .color) now (atEnd p) clock (l .looping .active) in
-      let left : Bool = leftWritten on (atEnd p) (clock - run .start) (run .task .ms) .told in
+      let its = miredsReported (l .color) now (atEnd p) clock (l .looping .active) in
+      let left : Bool = leftWritten on (atEnd p) (clock - run .start) (run .task .ms) .reported in
       reported-by ColorTemperatureMireds (λ c. c .mireds) (λ c. c .stamps .mireds) now (atEnd p)
       (stepped on (Running.ColorTemperatureMoveTo run)) its ((deviceMireds ∷ []) ++ only left RemainingTime)
       (answer-is (Running.ColorTemperatureMoveTo run) e) (mireds-is-set (l .color) now (atEnd p) clock)
       (ended-by (atEnd p) (Running.ColorTemperatureMoveTo run) refl)
       (append-assoc its (deviceMireds ∷ []) (only left RemainingTime)) refl
-      (no-time ColorTemperatureMireds refl left) (mireds-told (l .color) now (atEnd p) clock (l .looping .active))
+      (no-time ColorTemperatureMireds refl left) (mireds-change-reported (l .color) now (atEnd p) clock (l .looping .active))
 
   pub mireds-move-reported : (run : ColorTemperatureRun) → l .running ≡ Running.ColorTemperatureMove run →
       Reported ColorTemperatureMireds (λ c. c .mireds) (λ c. c .stamps .mireds) l clock (answer l (Call.Step clock))
-  unfolding stepped temperaturePass miredsTold
+  unfolding stepped temperaturePass miredsReported
   mireds-move-reported run e =
-      let now : ℕ = broughtWithin (run .lo) (run .hi) (run .mireds) (wayAtRate (run .rate) (clock - run .start)) in
+      let now : ℕ = clampedSum (run .lo) (run .hi) (run .mireds) (deltaAtRate (run .rate) (clock - run .start)) in
       let end : Bool = miredsDone (run .rate) (run .lo) (run .hi) now in
       reported-by ColorTemperatureMireds (λ c. c .mireds) (λ c. c .stamps .mireds) now end
-      (stepped on (Running.ColorTemperatureMove run)) (miredsTold (l .color) now end clock (l .looping .active))
+      (stepped on (Running.ColorTemperatureMove run)) (miredsReported (l .color) now end clock (l .looping .active))
       (deviceMireds ∷ []) (answer-is (Running.ColorTemperatureMove run) e)
       (mireds-is-set (l .color) now end clock) (ended-by end (Running.ColorTemperatureMove run) refl) refl refl refl
-      (mireds-told (l .color) now end clock (l .looping .active))
+      (mireds-change-reported (l .color) now end clock (l .looping .active))

@@ -18,7 +18,7 @@ use Rattle.progress.specs.Progress.{permilleOf, partOf, clamp}
 use Rattle.progress.proofs.Laws.{permille-is, permille-full, permille-short, permille-most, permille-grows, part-up, clamp-within}
 use Rattle.remaining_time.specs.RemainingTime.{newTenths}
 use Rattle.color.specs.declared.Color.{Color}
-use Rattle.color.proofs.Kept.{form-saturation, form-above, form-below}
+use Rattle.color.proofs.Kept.{valid-saturation, valid-above, valid-below}
 use Rattle.tasks.specs.declared.ColorTemperatureMoveTo.{ColorTemperatureMoveTo}
 use Rattle.tasks.specs.declared.ColorTemperatureToRun.{ColorTemperatureToRun}
 use Rattle.tasks.specs.declared.HueDelta.{HueDelta}
@@ -28,24 +28,24 @@ use Rattle.tasks.specs.declared.Running.{Running}
 use Rattle.tasks.specs.declared.TargetSaturation.{TargetSaturation}
 use Rattle.tasks.specs.declared.Task.{Task}
 use Rattle.tasks.specs.Runs.{runs}
-use Rattle.tasks.specs.Form.{moveToForm, runningForm, saturationForm, taskForm, timeForm, withinBounds}
+use Rattle.tasks.specs.Valid.{moveToValid, runningValid, saturationValid, taskValid, timeValid, withinBounds}
 use Rattle.lamp.specs.declared.Lamp.{Lamp}
 use Rattle.lamp.specs.Answers.{atClock}
-use Rattle.lamp.specs.Calls.{started, stepped, hueSaturationStart, temperatureToStart, startPermille, noHueWay, noSaturationWay, fullWritten}
-use Rattle.lamp.specs.Form.{lampForm}
-use Rattle.lamp.proofs.Kept.{form-color}
+use Rattle.lamp.specs.Calls.{started, stepped, hueSaturationStart, temperatureToStart, startPermille, noHueDelta, noSaturationDelta, fullWritten}
+use Rattle.lamp.specs.Valid.{lampValid}
+use Rattle.lamp.proofs.Kept.{valid-color}
 use Rattle.lamp.specs.Passes.{atEnd, unless, hueMoved, saturationMoved, saturationNow, miredsNow, hueNow, remainingSet, hueSaturationPass, temperatureToPass}
 use Rattle.lamp.specs.declared.Call.{Call}
 use Rattle.commands.specs.Answers.{cause, answer}
 use Rattle.conformance.specs.Limits.{Closest}
 use Rattle.conformance.proofs.LimitsAgree.{closest-agrees, closest-only}
 use Rattle.conformance.specs.Started.{Ran, Lasts, saved}
-use Rattle.conformance.proofs.Ran.{start-by, step-by, ran-runs, ran-by, ran-form, idle-done}
+use Rattle.conformance.proofs.Ran.{start-by, step-by, ran-runs, ran-by, ran-valid, idle-done}
 use Rattle.conformance.specs.Receipt.{Each, MiredsAlone}
 use Rattle.conformance.specs.Reports.{RemainingTimeIs}
 use Rattle.conformance.proofs.SettersSet.{hue-is-set, hue-leaves, saturation-is-set, saturation-leaves, mireds-is-set, mireds-leaves}
 use Rattle.conformance.specs.Transition.{onLine}
-use Rattle.conformance.proofs.TransitionAgrees.{gone, line-is, no-way}
+use Rattle.conformance.proofs.TransitionAgrees.{gone, line-is, no-delta}
 
 -- the hue so long after the start of a move-to, from the hue of the start, and from the hue before the call
 abbrev pub HueShows : HueDelta → ℕ → ℕ → ℕ → ℕ → ℕ → Type 0
@@ -71,16 +71,16 @@ ShowsMiredsTo mireds target elapsed time before after =
     MiredsAlone before after (λ a b. b ≡ onLine mireds target (gone (pos target -ℤ pos mireds) elapsed time))
 
 -- nowhere to go: neither the hue nor the saturation has a way
-abbrev pub NoHueWay : HueDelta → Type 0
-NoHueWay HueDelta.Keep = Unit
-NoHueWay (HueDelta.By way) = way ≡ pos 0
+abbrev pub NoHueDelta : HueDelta → Type 0
+NoHueDelta HueDelta.Keep = Unit
+NoHueDelta (HueDelta.By way) = way ≡ pos 0
 
-abbrev pub NoSaturationWay : TargetSaturation → ℕ → Type 0
-NoSaturationWay TargetSaturation.Keep saturation = Unit
-NoSaturationWay (TargetSaturation.To target) saturation = target ≡ saturation
+abbrev pub NoSaturationDelta : TargetSaturation → ℕ → Type 0
+NoSaturationDelta TargetSaturation.Keep saturation = Unit
+NoSaturationDelta (TargetSaturation.To target) saturation = target ≡ saturation
 
 abbrev pub Nowhere : HueSaturationMoveTo → ℕ → Type 0
-Nowhere task saturation = NoHueWay (task .delta) × NoSaturationWay (task .saturation) saturation
+Nowhere task saturation = NoHueDelta (task .delta) × NoSaturationDelta (task .saturation) saturation
 
 -- ---- a pass at so many thousandths: those of the time elapsed, unless there is no way
 
@@ -104,11 +104,11 @@ module _ (first p elapsed time : ℕ) where
   line-shows lo hi target few f t at =
       line-is lo hi first target p few (f .0) (f .1) (t .0) (t .1)
       ∙ ap (λ (z : ℤ). onLine first target (natAbs z))
-      (same-part (pos target -ℤ pos first) (⊎-elim inl (λ e. inr (no-way first target (sym e))) at))
+      (same-part (pos target -ℤ pos first) (⊎-elim inl (λ e. inr (no-delta first target (sym e))) at))
 
   module _ (c : Color) (clock : ℕ) where
     -- the hue's part of a pass, which leaves saturation and mireds
-    hue-part : (d : HueDelta) (enhanced : Bool) → Or (NoHueWay d) →
+    hue-part : (d : HueDelta) (enhanced : Bool) → Or (NoHueDelta d) →
         HueShows d first elapsed time (c .hue) (hueMoved c d first p enhanced clock .hue)
         × (hueMoved c d first p enhanced clock .saturation ≡ c .saturation)
         × (hueMoved c d first p enhanced clock .mireds ≡ c .mireds)
@@ -121,26 +121,26 @@ module _ (first p elapsed time : ℕ) where
         )
 
     -- and the saturation's, which leaves hue and mireds
-    saturation-part : (t : TargetSaturation) → p ≤ 1000 → first ≤ 254 → saturationForm t ≡ true →
-        Or (NoSaturationWay t first) →
+    saturation-part : (t : TargetSaturation) → p ≤ 1000 → first ≤ 254 → saturationValid t ≡ true →
+        Or (NoSaturationDelta t first) →
         SaturationShows t first elapsed time (c .saturation) (saturationMoved c t first p clock .saturation)
         × (saturationMoved c t first p clock .hue ≡ c .hue)
         × (saturationMoved c t first p clock .mireds ≡ c .mireds)
-    saturation-part TargetSaturation.Keep few high formed at = (refl, refl, refl)
-    saturation-part (TargetSaturation.To target) few high formed at =
+    saturation-part TargetSaturation.Keep few high validity at = (refl, refl, refl)
+    saturation-part (TargetSaturation.To target) few high validity at =
         let left = saturation-leaves c (saturationNow first target p) (atEnd p) clock in (
           saturation-is-set c (saturationNow first target p) (atEnd p) clock
-              ∙ line-shows 0 254 target few (omega arith, high) (omega arith, leb-true target 254 formed) at,
+              ∙ line-shows 0 254 target few (omega arith, high) (omega arith, leb-true target 254 validity) at,
           left .0,
           left .1,
         )
 
 module _ (x : Lamp) (p elapsed : ℕ) (few : p ≤ 1000) where
-  pass-shows : (run : HueSaturationRun) → run .saturation ≤ 254 → saturationForm (run .task .saturation) ≡ true →
+  pass-shows : (run : HueSaturationRun) → run .saturation ≤ 254 → saturationValid (run .task .saturation) ≡ true →
       (p ≡ permilleOf elapsed (run .task .ms)) ⊎ Nowhere (run .task) (run .saturation) →
       ShowsMoveTo (run .task) (run .hue) (run .saturation) elapsed (x .color) (hueSaturationPass x run p .lamp .color)
   unfolding hueSaturationPass
-  pass-shows run high formed at =
+  pass-shows run high validity at =
       let d : HueDelta = run .task .delta in
       let t : TargetSaturation = run .task .saturation in
       let time : ℕ = run .task .ms in
@@ -149,7 +149,7 @@ module _ (x : Lamp) (p elapsed : ℕ) (few : p ≤ 1000) where
       hue-part (run .hue) p elapsed time (x .color) (x .clock) d (run .task .enhanced) (⊎-elim inl (λ n. inr (n .0)) at)
       in
       let s =
-      saturation-part (run .saturation) p elapsed time hued (x .clock) t few high formed
+      saturation-part (run .saturation) p elapsed time hued (x .clock) t few high validity
       (⊎-elim inl (λ n. inr (n .1)) at)
       in
       record {
@@ -186,26 +186,26 @@ within b n e = (leb-true _ _ (and-left (leb (b .min) n) _ e), leb-true _ _ (and-
 -- a step's pass
 module _ (x : Lamp) (elapsed : ℕ) where
   stepped-shows : (run : HueSaturationRun) →
-      runningForm (Running.HueSaturationMoveTo run) (x .bounds) (x .clock) ≡ true →
+      runningValid (Running.HueSaturationMoveTo run) (x .bounds) (x .clock) ≡ true →
       permilleOf (x .clock - run .start) (run .task .ms) ≡ permilleOf elapsed (run .task .ms) →
       ShowsMoveTo (run .task) (run .hue) (run .saturation) elapsed (x .color)
       (stepped x (Running.HueSaturationMoveTo run) .lamp .color)
-  unfolding stepped runningForm moveToForm
-  stepped-shows run formed at =
-      let form = each _ formed in
+  unfolding stepped runningValid moveToValid
+  stepped-shows run validity at =
+      let valid = each _ validity in
       pass-shows x (permilleOf (x .clock - run .start) (run .task .ms)) elapsed (permille-most _ _) run
-      (leb-true _ _ (form .1 .1 .0)) (each _ (form .0) .1 .1 .0) (inl at)
+      (leb-true _ _ (valid .1 .1 .0)) (each _ (valid .0) .1 .1 .0) (inl at)
 
   stepped-shows-mireds : (run : ColorTemperatureToRun) →
-      runningForm (Running.ColorTemperatureMoveTo run) (x .bounds) (x .clock) ≡ true →
+      runningValid (Running.ColorTemperatureMoveTo run) (x .bounds) (x .clock) ≡ true →
       permilleOf (x .clock - run .start) (run .task .ms) ≡ permilleOf elapsed (run .task .ms) →
       ShowsMiredsTo (run .mireds) (run .task .target) elapsed (run .task .ms) (x .color)
       (stepped x (Running.ColorTemperatureMoveTo run) .lamp .color)
-  unfolding stepped runningForm
-  stepped-shows-mireds run formed at =
-      let form = each _ formed in
+  unfolding stepped runningValid
+  stepped-shows-mireds run validity at =
+      let valid = each _ validity in
       pass-shows-mireds x (permilleOf (x .clock - run .start) (run .task .ms)) elapsed (permille-most _ _) run
-      (within (x .bounds) (run .mireds) (form .1 .1 .0)) (within (x .bounds) (run .task .target) (form .1 .1 .1 .0))
+      (within (x .bounds) (run .mireds) (valid .1 .1 .0)) (within (x .bounds) (run .task .target) (valid .1 .1 .1 .0))
       (inl at)
 
 -- ---- an accepted step: the numbers of the record at the time elapsed, the remaining time, and what runs on
@@ -225,17 +225,17 @@ left-by e t true f h =
     let k : t ≤ e = over e t (leb t e) refl f in record { enough = omega arith; fewest = λ n m. omega arith }
 left-by e t false f h = record { enough = omega arith; fewest = λ n m. omega arith }
 
--- a time in form is at most 6,553,500
-time-form : (ms : ℕ) → timeForm ms ≡ true → ms ≤ 6553500
-time-form ms e = leb-true ms 6553500 (and-right (eqb (ms % 100) 0) (leb ms 6553500) e)
+-- a time valid is at most 6,553,500
+time-valid : (ms : ℕ) → timeValid ms ≡ true → ms ≤ 6553500
+time-valid ms e = leb-true ms 6553500 (and-right (eqb (ms % 100) 0) (leb ms 6553500) e)
 
-runs-on : (time elapsed : ℕ) (run : Running) (after : Lamp) → timeForm time ≡ true →
+runs-on : (time elapsed : ℕ) (run : Running) (after : Lamp) → timeValid time ≡ true →
     after .remaining .tenths ≡ newTenths (cond (atEnd (permilleOf elapsed time)) 0 (time - elapsed)) →
     after .running ≡ unless (atEnd (permilleOf elapsed time)) run → RunsOn time elapsed run after
-runs-on time elapsed run after formed left runs =
+runs-on time elapsed run after validity left runs =
     record {
       remaining =
-          rw left (left-by elapsed time (leb 1000 (permilleOf elapsed time)) refl (time-form time formed));
+          rw left (left-by elapsed time (leb 1000 (permilleOf elapsed time)) refl (time-valid time validity));
       ends = λ h. runs ∙ rw (permille-full elapsed time h);
       goesOn = λ h. runs ∙ rw (lt-leb 1000 (permilleOf elapsed time) (permille-short elapsed time h));
     }
@@ -252,7 +252,7 @@ module _ (l : Lamp) (clock : ℕ) (accepted : cause l (Call.Step clock) ≡ 0) w
 
     pub step-runs-on : RunsOn (run .task .ms) (clock - run .start) (Running.HueSaturationMoveTo run)
         (answer l (Call.Step clock) .lamp)
-    unfolding stepped hueSaturationPass runningForm moveToForm
+    unfolding stepped hueSaturationPass runningValid moveToValid
     step-runs-on =
         step-by l _ clock (RunsOn (run .task .ms) (clock - run .start) (Running.HueSaturationMoveTo run)) running
         accepted (λ f g. runs-on _ _ _ _ (each _ (each _ g .0) .0) refl refl)
@@ -268,7 +268,7 @@ module _ (l : Lamp) (clock : ℕ) (accepted : cause l (Call.Step clock) ≡ 0) w
 
     pub mireds-step-runs-on : RunsOn (run .task .ms) (clock - run .start) (Running.ColorTemperatureMoveTo run)
         (answer l (Call.Step clock) .lamp)
-    unfolding stepped temperatureToPass runningForm
+    unfolding stepped temperatureToPass runningValid
     mireds-step-runs-on =
         step-by l _ clock (RunsOn (run .task .ms) (clock - run .start) (Running.ColorTemperatureMoveTo run)) running
         accepted (λ f g. runs-on _ _ _ _ (each _ g .0) refl refl)
@@ -281,13 +281,13 @@ on-its-way ms h = rw (ne-eqb ms 0 (λ e. omega arith))
 start-over : (ms : ℕ) → atEnd (startPermille ms true) ≡ true
 start-over ms = rw (or-true (eqb ms 0))
 
-start-few : (ms : ℕ) (noWay : Bool) → startPermille ms noWay ≤ 1000
-start-few ms noWay = cond-both (λ (n : ℕ). n ≤ 1000) (eqb ms 0 || noWay) 1000 0 (λ e. omega arith) (λ e. omega arith)
+start-few : (ms : ℕ) (noDelta : Bool) → startPermille ms noDelta ≤ 1000
+start-few ms noDelta = cond-both (λ (n : ℕ). n ≤ 1000) (eqb ms 0 || noDelta) 1000 0 (λ e. omega arith) (λ e. omega arith)
 
 -- its thousandths are those of no time, unless there is no way
-start-at : (ms : ℕ) (noWay : Bool) → (startPermille ms noWay ≡ permilleOf 0 ms) ⊎ (noWay ≡ true)
+start-at : (ms : ℕ) (noDelta : Bool) → (startPermille ms noDelta ≡ permilleOf 0 ms) ⊎ (noDelta ≡ true)
 unfolding permilleOf
-start-at zero noWay = inl refl
+start-at zero noDelta = inl refl
 start-at (suc n) true = inr refl
 start-at (suc n) false =
     inl (on-its-way (suc n) (omega arith)
@@ -307,11 +307,11 @@ pub record Begins (time : ℕ) (run : Running) (Done : Type 0) (after : Lamp) : 
   pub noTime : time ≡ 0 → after .running ≡ Running.Idle
   pub nowhere : Done → after .running ≡ Running.Idle
 
-begins-by : (ms clock : ℕ) (r : Running) (Done : Type 0) (b : Bool) (m : Lamp) → timeForm ms ≡ true →
+begins-by : (ms clock : ℕ) (r : Running) (Done : Type 0) (b : Bool) (m : Lamp) → timeValid ms ≡ true →
     (Done → b ≡ true) → (b ≡ true → Done) →
     m .remaining .tenths ≡ newTenths (cond (atEnd (startPermille ms b)) 0 (ms - (clock - clock))) →
     m .running ≡ unless (atEnd (startPermille ms b)) r → Begins ms r Done m
-begins-by ms clock r Done true m formed to from left runs =
+begins-by ms clock r Done true m validity to from left runs =
     record {
       remaining = λ n. absurd (n (from refl));
       noneLeft = λ d. left ∙ rw (start-over ms);
@@ -319,9 +319,9 @@ begins-by ms clock r Done true m formed to from left runs =
       noTime = λ e. runs ∙ rw (start-over ms);
       nowhere = λ d. runs ∙ rw (start-over ms);
     }
-begins-by ms clock r Done false m formed to from left runs =
+begins-by ms clock r Done false m validity to from left runs =
     record {
-      remaining = λ n. rw left (start-left ms clock (time-form ms formed));
+      remaining = λ n. rw left (start-left ms clock (time-valid ms validity));
       noneLeft = λ d. absurd (true≢false (sym (to d)));
       runs = λ h n. runs ∙ rw (on-its-way ms h);
       noTime = λ e. runs ∙ ap (λ (n : ℕ). unless (atEnd (startPermille n false)) r) e;
@@ -329,46 +329,46 @@ begins-by ms clock r Done false m formed to from left runs =
     }
 
 -- whether there is a way
-no-hue : (d : HueDelta) → NoHueWay d → noHueWay d ≡ true
+no-hue : (d : HueDelta) → NoHueDelta d → noHueDelta d ≡ true
 no-hue HueDelta.Keep h = refl
 no-hue (HueDelta.By way) h = eq-eqb (natAbs way) 0 (ap natAbs h)
 
-no-hue-so : (d : HueDelta) → noHueWay d ≡ true → NoHueWay d
+no-hue-so : (d : HueDelta) → noHueDelta d ≡ true → NoHueDelta d
 no-hue-so HueDelta.Keep h = tt
 no-hue-so (HueDelta.By (pos n)) h = ap pos (eqb-true n 0 h)
 no-hue-so (HueDelta.By (negsuc n)) h = absurd (omega (arith, eqb-true (suc n) 0 h))
 
-no-saturation : (t : TargetSaturation) (first : ℕ) → NoSaturationWay t first → noSaturationWay t first ≡ true
+no-saturation : (t : TargetSaturation) (first : ℕ) → NoSaturationDelta t first → noSaturationDelta t first ≡ true
 no-saturation TargetSaturation.Keep first h = refl
 no-saturation (TargetSaturation.To target) first h = eq-eqb target first h
 
-no-saturation-so : (t : TargetSaturation) (first : ℕ) → noSaturationWay t first ≡ true → NoSaturationWay t first
+no-saturation-so : (t : TargetSaturation) (first : ℕ) → noSaturationDelta t first ≡ true → NoSaturationDelta t first
 no-saturation-so TargetSaturation.Keep first h = tt
 no-saturation-so (TargetSaturation.To target) first h = eqb-true target first h
 
 module _ (task : HueSaturationMoveTo) (first : ℕ) where
   abbrev still : Bool
-  still = noHueWay (task .delta) && noSaturationWay (task .saturation) first
+  still = noHueDelta (task .delta) && noSaturationDelta (task .saturation) first
 
   nowhere-still : Nowhere task first → still ≡ true
   nowhere-still n = rw (no-hue (task .delta) (n .0), no-saturation (task .saturation) first (n .1))
 
   still-nowhere : still ≡ true → Nowhere task first
   still-nowhere e = (
-    no-hue-so (task .delta) (and-left (noHueWay (task .delta)) _ e),
-    no-saturation-so (task .saturation) first (and-right (noHueWay (task .delta)) _ e),
+    no-hue-so (task .delta) (and-left (noHueDelta (task .delta)) _ e),
+    no-saturation-so (task .saturation) first (and-right (noHueDelta (task .delta)) _ e),
   )
 
 -- the mireds that a start goes to
 abbrev pub clamped : Lamp → ℕ → ℕ
 clamped l target = clamp (l .bounds .min) (l .bounds .max) (pos target)
 
--- mireds of a lamp in form, and the closest to a target that its bounds allow
-module _ (l : Lamp) (clock : ℕ) (formed : lampForm (atClock l clock) ≡ true) where
+-- mireds of a lamp valid, and the closest to a target that its bounds allow
+module _ (l : Lamp) (clock : ℕ) (validity : lampValid (atClock l clock) ≡ true) where
   bounded : (l .bounds .min ≤ l .color .mireds) × (l .color .mireds ≤ l .bounds .max)
   bounded =
-      let c = form-color (atClock l clock) formed in
-      (form-above (l .color) (l .bounds) clock c, form-below (l .color) (l .bounds) clock c)
+      let c = valid-color (atClock l clock) validity in
+      (valid-above (l .color) (l .bounds) clock c, valid-below (l .color) (l .bounds) clock c)
 
   closest-is : (target to : ℕ) → Closest (l .bounds .min) (l .bounds .max) target to →
       clamped l target ≡ to
@@ -380,7 +380,7 @@ module _ (l : Lamp) (clock : ℕ) where
   pub start-begins : (task : HueSaturationMoveTo) → cause l (Call.Start (Task.HueSaturationMoveTo task) clock) ≡ 0 →
       Begins (task .ms) (saved l (Task.HueSaturationMoveTo task) clock) (Nowhere task (l .color .saturation))
       (answer l (Call.Start (Task.HueSaturationMoveTo task) clock) .lamp)
-  unfolding started hueSaturationStart hueSaturationPass taskForm moveToForm
+  unfolding started hueSaturationStart hueSaturationPass taskValid moveToValid
   start-begins task accepted =
       let first : ℕ = l .color .saturation in
       start-by l (Task.HueSaturationMoveTo task) clock
@@ -394,7 +394,7 @@ module _ (l : Lamp) (clock : ℕ) where
       (to : ℕ) → Closest (l .bounds .min) (l .bounds .max) (task .target) to →
       Begins (task .ms) (saved l (Task.ColorTemperatureMoveTo task) clock) (to ≡ l .color .mireds)
       (answer l (Call.Start (Task.ColorTemperatureMoveTo task) clock) .lamp)
-  unfolding started temperatureToStart temperatureToPass taskForm
+  unfolding started temperatureToStart temperatureToPass taskValid
   mireds-start-begins task accepted to closest =
       start-by l (Task.ColorTemperatureMoveTo task) clock
       (Begins (task .ms) (saved l (Task.ColorTemperatureMoveTo task) clock) (to ≡ l .color .mireds)) accepted
@@ -420,13 +420,13 @@ same-thousandths p begun time clock run after r u h (inr (i, le)) =
     )
 
 -- of a start, unless there is no way
-start-thousandths : (ms begun clock : ℕ) (noWay : Bool) (None : Type 0) (run : Running) (after : Lamp) →
-    runs run ≡ true → after .running ≡ unless (atEnd (startPermille ms noWay)) run → after .clock ≡ begun → (noWay ≡ true → None) →
-    Lasts after clock → (startPermille ms noWay ≡ permilleOf (clock - begun) ms) ⊎ None
-start-thousandths ms begun clock noWay None run after r u c so lasts =
+start-thousandths : (ms begun clock : ℕ) (noDelta : Bool) (None : Type 0) (run : Running) (after : Lamp) →
+    runs run ≡ true → after .running ≡ unless (atEnd (startPermille ms noDelta)) run → after .clock ≡ begun → (noDelta ≡ true → None) →
+    Lasts after clock → (startPermille ms noDelta ≡ permilleOf (clock - begun) ms) ⊎ None
+start-thousandths ms begun clock noDelta None run after r u c so lasts =
     let z : after .clock - begun ≡ 0 = omega arith in
     ⊎-elim (λ e. inl (same-thousandths _ begun ms clock run after r u (rw z e) lasts)) (λ e. inr (so e))
-    (start-at ms noWay)
+    (start-at ms noDelta)
 
 hue-later : (d : HueDelta) (first e f time before mid now : ℕ) → HueShows d first e time before mid →
     HueShows d first f time mid now → HueShows d first f time before now
@@ -444,7 +444,7 @@ module _ (m : Lamp) (begun : ℕ) where
   module _ (task : HueSaturationMoveTo) where
     pub move-to-shows : (n : Lamp) → Ran m (Task.HueSaturationMoveTo task) begun n → (clock : ℕ) → Lasts n clock →
         ShowsMoveTo task (m .color .hue) (m .color .saturation) (clock - begun) (m .color) (n .color)
-    unfolding started stepped hueSaturationStart hueSaturationPass taskForm moveToForm
+    unfolding started stepped hueSaturationStart hueSaturationPass taskValid moveToValid
     move-to-shows n r =
         let first : ℕ = m .color .saturation in
         ran-by m (Task.HueSaturationMoveTo task) begun
@@ -454,7 +454,7 @@ module _ (m : Lamp) (begun : ℕ) where
         pass-shows (remainingSet (atClock m begun) (fullWritten m (task .ms)))
         (startPermille (task .ms) (still task first)) (clock - begun) (start-few (task .ms) (still task first))
         (record { start = begun; hue = m .color .hue; saturation = first; task = task })
-        (form-saturation (m .color) (m .bounds) begun (form-color (atClock m begun) f)) (each _ t .1 .1 .0)
+        (valid-saturation (m .color) (m .bounds) begun (valid-color (atClock m begun) f)) (each _ t .1 .1 .0)
         (start-thousandths (task .ms) begun clock (still task first) _ _
         (started (atClock m begun) (Task.HueSaturationMoveTo task) .lamp) refl refl refl (still-nowhere task first)
         lasts))
@@ -513,7 +513,7 @@ module _ (m : Lamp) (begun : ℕ) where
         ShowsMiredsTo (m .color .mireds) to (clock - begun) (task .ms) (m .color) (n .color)
     mireds-to-shows to closest n r clock lasts =
         subst (λ (t : ℕ). ShowsMiredsTo (m .color .mireds) t (clock - begun) (task .ms) (m .color) (n .color))
-        (closest-is m begun (ran-form r) (task .target) to closest) (clamped-shows n r clock lasts)
+        (closest-is m begun (ran-valid r) (task .target) to closest) (clamped-shows n r clock lasts)
 
     pub mireds-steps-run-on : (n : Lamp) (clock : ℕ) → Ran m (Task.ColorTemperatureMoveTo task) begun n →
         cause n (Call.Step clock) ≡ 0 →

@@ -12,12 +12,12 @@ use Rattle.integers.proofs.Signs.{neg-mul, neg-quot}
 use Rattle.matter.specs.declared.enums.MoveModeEnum.{MoveModeEnum}
 use Rattle.matter.specs.declared.enums.StepModeEnum.{StepModeEnum}
 use Rattle.matter.specs.Limits.{clockLimit}
-use Rattle.hue.specs.Hue.{movedHue, shownHue}
+use Rattle.hue.specs.Hue.{movedHue, currentHue}
 use Rattle.hue.proofs.Laws.{moved-up, moved-down}
-use Rattle.progress.specs.Progress.{wayAtRate, clamp, broughtWithin}
+use Rattle.progress.specs.Progress.{deltaAtRate, clamp, clampedSum}
 use Rattle.matter.specs.Rules.{signed}
 use Rattle.lamp.specs.Passes.{saturationDone, miredsDone}
-use Rattle.commands.specs.Commands.{stepWay, saturationStep, stored}
+use Rattle.commands.specs.Commands.{stepDelta, saturationStep, stored}
 use Rattle.conformance.specs.Steps.{enhancedHueMaximum, hueMaximum, saturationMaximum, times, unitUp, unitDown, hueUp, hueDown, stepsMade, stepTo, moveTo, hueStepTo, hueMoveTo}
 
 -- ---- what so many units come to
@@ -75,14 +75,14 @@ hue-units-down (suc k) n h =
     hue-down-by (times k (hueDown 65535) n) (eqb (times k (hueDown 65535) n) 0) refl (omega arith)
     ∙ ap (λ (x : ℕ). (x + 65535) % 65536) r ∙ in-sum (n + (65536 - k % 65536)) 65535 ∙ one-further n k
 
--- ---- the port's sums, brought within their bounds
+-- ---- the port's sums, clamped to their bounds
 
 within-up-by : (lo hi n : ℕ) (s t : Bool) → ltb n lo ≡ s → ltb hi n ≡ t → lo ≤ n → cond s lo (cond t hi n) ≡ min hi n
 within-up-by lo hi n true t e f h = absurd (omega (arith, ltb-true n lo e))
 within-up-by lo hi n false true e f h = omega (arith, ltb-true hi n f)
 within-up-by lo hi n false false e f h = omega (arith, ltb-false hi n f)
 
-pub within-up : (lo hi n k : ℕ) → lo ≤ n → broughtWithin lo hi n (pos k) ≡ min hi (n + k)
+pub within-up : (lo hi n k : ℕ) → lo ≤ n → clampedSum lo hi n (pos k) ≡ min hi (n + k)
 unfolding clamp
 within-up lo hi n k h = within-up-by lo hi (n + k) (ltb (n + k) lo) (ltb hi (n + k)) refl refl (omega arith)
 
@@ -97,7 +97,7 @@ less-by lo hi n k true e h g = omega (arith, ltb-true n (suc k) e)
 less-by lo hi n k false e h g =
     within-down-by lo hi (n - suc k) (ltb (n - suc k) lo) (ltb hi (n - suc k)) refl refl (omega arith)
 
-pub within-down : (lo hi n k : ℕ) → lo ≤ n → n ≤ hi → broughtWithin lo hi n (negℤ (pos k)) ≡ max lo (n - k)
+pub within-down : (lo hi n k : ℕ) → lo ≤ n → n ≤ hi → clampedSum lo hi n (negℤ (pos k)) ≡ max lo (n - k)
 within-down lo hi n zero h g = within-up lo hi n 0 h ∙ omega arith
 within-down lo hi n (suc k) h g = less-by lo hi n k (ltb n (suc k)) refl h g
 
@@ -105,7 +105,7 @@ within-down lo hi n (suc k) h g = less-by lo hi n k (ltb n (suc k)) refl h g
 
 module _ (lo hi n size : ℕ) (low : lo ≤ n) (high : n ≤ hi) where
   -- a step of mireds from within its bounds
-  pub mireds-step-agrees : (mode : StepModeEnum) → clamp lo hi (pos n +ℤ stepWay mode size) ≡ stepTo mode lo hi size n
+  pub mireds-step-agrees : (mode : StepModeEnum) → clamp lo hi (pos n +ℤ stepDelta mode size) ≡ stepTo mode lo hi size n
   mireds-step-agrees StepModeEnum.Up = within-up lo hi n size low ∙ sym (units-up hi size n high)
   mireds-step-agrees StepModeEnum.Down = within-down lo hi n size low high ∙ sym (units-down lo size n low)
 
@@ -115,16 +115,16 @@ saturation-step-agrees StepModeEnum.Up n size h = sym (units-up 254 size n h)
 saturation-step-agrees StepModeEnum.Down n size h = omega (arith, units-down 0 size n (omega arith))
 
 -- a step of the enhanced hue
-pub hue-step-agrees : (mode : StepModeEnum) (n size : ℕ) → n < 65536 → movedHue n (stepWay mode size) ≡ hueStepTo mode enhancedHueMaximum size n
+pub hue-step-agrees : (mode : StepModeEnum) (n size : ℕ) → n < 65536 → movedHue n (stepDelta mode size) ≡ hueStepTo mode enhancedHueMaximum size n
 hue-step-agrees StepModeEnum.Up n size h = moved-up n size ∙ sym (hue-units-up size n h)
 hue-step-agrees StepModeEnum.Down n size h = moved-down n size ∙ sym (hue-units-down size n h)
 
 -- ---- moves at a rate
 
-rate-up : (rate elapsed : ℕ) → elapsed ≤ clockLimit → wayAtRate (pos rate) elapsed ≡ pos (stepsMade rate elapsed)
+rate-up : (rate elapsed : ℕ) → elapsed ≤ clockLimit → deltaAtRate (pos rate) elapsed ≡ pos (stepsMade rate elapsed)
 rate-up rate elapsed h = let e : min elapsed clockLimit ≡ elapsed = omega arith in rw e
 
-rate-down : (rate elapsed : ℕ) → elapsed ≤ clockLimit → wayAtRate (negℤ (pos rate)) elapsed ≡ negℤ (pos (stepsMade rate elapsed))
+rate-down : (rate elapsed : ℕ) → elapsed ≤ clockLimit → deltaAtRate (negℤ (pos rate)) elapsed ≡ negℤ (pos (stepsMade rate elapsed))
 rate-down rate elapsed h = let e : min elapsed clockLimit ≡ elapsed = omega arith in rw (e, neg-mul, neg-quot)
 
 module _ (rate elapsed : ℕ) (timely : elapsed ≤ clockLimit) where
@@ -132,15 +132,15 @@ module _ (rate elapsed : ℕ) (timely : elapsed ≤ clockLimit) where
   nothing = omega arith
 
   -- of saturation and of mireds, from within their bounds
-  pub move-agrees : (mode : MoveModeEnum) (lo hi n : ℕ) → lo ≤ n → n ≤ hi → broughtWithin lo hi n (wayAtRate (signed mode rate) elapsed) ≡ moveTo mode lo hi (stepsMade rate elapsed) n
-  move-agrees MoveModeEnum.Stop lo hi n low high = ap (λ (k : ℕ). broughtWithin lo hi n (pos k)) nothing ∙ within-up lo hi n 0 low ∙ omega arith
+  pub move-agrees : (mode : MoveModeEnum) (lo hi n : ℕ) → lo ≤ n → n ≤ hi → clampedSum lo hi n (deltaAtRate (signed mode rate) elapsed) ≡ moveTo mode lo hi (stepsMade rate elapsed) n
+  move-agrees MoveModeEnum.Stop lo hi n low high = ap (λ (k : ℕ). clampedSum lo hi n (pos k)) nothing ∙ within-up lo hi n 0 low ∙ omega arith
   move-agrees MoveModeEnum.Up lo hi n low high =
-      ap (broughtWithin lo hi n) (rate-up rate elapsed timely) ∙ within-up lo hi n (stepsMade rate elapsed) low ∙ sym (units-up hi (stepsMade rate elapsed) n high)
+      ap (clampedSum lo hi n) (rate-up rate elapsed timely) ∙ within-up lo hi n (stepsMade rate elapsed) low ∙ sym (units-up hi (stepsMade rate elapsed) n high)
   move-agrees MoveModeEnum.Down lo hi n low high =
-      ap (broughtWithin lo hi n) (rate-down rate elapsed timely) ∙ within-down lo hi n (stepsMade rate elapsed) low high ∙ sym (units-down lo (stepsMade rate elapsed) n low)
+      ap (clampedSum lo hi n) (rate-down rate elapsed timely) ∙ within-down lo hi n (stepsMade rate elapsed) low high ∙ sym (units-down lo (stepsMade rate elapsed) n low)
 
   -- of the enhanced hue
-  pub hue-move-agrees : (mode : MoveModeEnum) (n : ℕ) → n < 65536 → movedHue n (wayAtRate (signed mode rate) elapsed) ≡ hueMoveTo mode enhancedHueMaximum (stepsMade rate elapsed) n
+  pub hue-move-agrees : (mode : MoveModeEnum) (n : ℕ) → n < 65536 → movedHue n (deltaAtRate (signed mode rate) elapsed) ≡ hueMoveTo mode enhancedHueMaximum (stepsMade rate elapsed) n
   hue-move-agrees MoveModeEnum.Stop n h = ap (λ (k : ℕ). movedHue n (pos k)) nothing ∙ moved-up n 0 ∙ omega arith
   hue-move-agrees MoveModeEnum.Up n h =
       ap (movedHue n) (rate-up rate elapsed timely) ∙ moved-up n (stepsMade rate elapsed) ∙ sym (hue-units-up (stepsMade rate elapsed) n h)
@@ -149,7 +149,7 @@ module _ (rate elapsed : ℕ) (timely : elapsed ≤ clockLimit) where
 
 -- from outside its bounds the port's mireds jump to the nearer bound at once, against the direction too; the text does not say
 -- what happens there, and unit by unit it would not: the smallest is from 0 up to 1, going down
-pub mireds-jump : (broughtWithin 1 2 0 (wayAtRate (signed MoveModeEnum.Down 1) 0) ≡ 1) × (moveTo MoveModeEnum.Down 1 2 (stepsMade 1 0) 0 ≡ 0)
+pub mireds-jump : (clampedSum 1 2 0 (deltaAtRate (signed MoveModeEnum.Down 1) 0) ≡ 1) × (moveTo MoveModeEnum.Down 1 2 (stepsMade 1 0) 0 ≡ 0)
 unfolding clamp
 mireds-jump = (refl, refl)
 
@@ -196,7 +196,7 @@ plain-by top (suc k) n h =
     let r : times k (hueUp top) n ≡ n + k = plain-by top k n (omega arith) in
     rw (ne-eqb (times k (hueUp top) n) top (λ e. omega arith)) (omega arith)
 
-pub plain-step-agrees : (n size : ℕ) → n + size ≤ 254 → shownHue (movedHue (stored n) (stepWay StepModeEnum.Up (stored size))) ≡ hueStepTo StepModeEnum.Up hueMaximum size n
+pub plain-step-agrees : (n size : ℕ) → n + size ≤ 254 → currentHue (movedHue (stored n) (stepDelta StepModeEnum.Up (stored size))) ≡ hueStepTo StepModeEnum.Up hueMaximum size n
 plain-step-agrees n size h = rw (moved-up (stored n) (stored size), plain-by 254 size n h) (omega arith)
 
 plain-down-by : (top k n : ℕ) → k ≤ n → times k (hueDown top) n ≡ n - k
@@ -206,15 +206,15 @@ plain-down-by top (suc k) n h =
     let r : times k (hueDown top) n ≡ n - k = plain-down-by top k n (omega arith) in
     rw (ne-eqb (times k (hueDown top) n) 0 (λ e. omega arith)) (omega arith)
 
-pub plain-step-down-agrees : (n size : ℕ) → size ≤ n → n ≤ 254 → shownHue (movedHue (stored n) (stepWay StepModeEnum.Down (stored size))) ≡ hueStepTo StepModeEnum.Down hueMaximum size n
+pub plain-step-down-agrees : (n size : ℕ) → size ≤ n → n ≤ 254 → currentHue (movedHue (stored n) (stepDelta StepModeEnum.Down (stored size))) ≡ hueStepTo StepModeEnum.Down hueMaximum size n
 plain-step-down-agrees n size h k = rw (moved-down (stored n) (stored size), plain-down-by 254 size n h) (omega arith)
 
-pub plain-step-down-differs : (shownHue (movedHue (stored 0) (stepWay StepModeEnum.Down (stored 1))) ≡ 255) × (hueStepTo StepModeEnum.Down hueMaximum 1 0 ≡ 254)
+pub plain-step-down-differs : (currentHue (movedHue (stored 0) (stepDelta StepModeEnum.Down (stored 1))) ≡ 255) × (hueStepTo StepModeEnum.Down hueMaximum 1 0 ≡ 254)
 unfolding movedHue hueDown
 plain-step-down-differs = (refl, refl)
 
 -- past 254 the text goes on from 0, and the port shows 255: the smallest step is of 1 from 254
-pub plain-step-differs : (shownHue (movedHue (stored 254) (stepWay StepModeEnum.Up (stored 1))) ≡ 255) × (hueStepTo StepModeEnum.Up hueMaximum 1 254 ≡ 0)
+pub plain-step-differs : (currentHue (movedHue (stored 254) (stepDelta StepModeEnum.Up (stored 1))) ≡ 255) × (hueStepTo StepModeEnum.Up hueMaximum 1 254 ≡ 0)
 unfolding movedHue hueUp
 plain-step-differs = (refl, refl)
 

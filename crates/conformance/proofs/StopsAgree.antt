@@ -16,7 +16,7 @@ use Rattle.tasks.specs.Runs.{runs}
 use Rattle.lamp.specs.declared.Answer.{Answer}
 use Rattle.lamp.specs.declared.Lamp.{Lamp}
 use Rattle.lamp.specs.Answers.{atClock}
-use Rattle.lamp.specs.Calls.{haltAnswer, started, hueSaturationStart, startPermille, noHueWay, noSaturationWay}
+use Rattle.lamp.specs.Calls.{haltAnswer, started, hueSaturationStart, startPermille, noHueDelta, noSaturationDelta}
 use Rattle.lamp.specs.Passes.{unless, atEnd, hueSaturationPass}
 use Rattle.lamp.specs.declared.Call.{Call}
 use Rattle.commands.specs.Answers.{allowed, cause, answer}
@@ -24,16 +24,16 @@ use Rattle.commands.specs.Commands.{commandEffect}
 use Rattle.commands.proofs.Kept.{answer-both}
 use Rattle.conformance.specs.Stops.{Terminated, NoTimeLeft, turnsAfterStop, loopTurns}
 
--- StopMoveStep with leave to run asks for a stop (every Stop mode does: `options-passed-by` in OptionsAgree)
+-- StopMoveStep with leave to execute asks for a stop (every Stop mode does: `options-passed-by` in OptionsAgree)
 pub stop-asked : (l : Lamp) (options : CommandOptions) (onOff : OnOff) (clock : ℕ) →
     allowed l (Command.StopMoveStep options) onOff ≡ true →
     cause l (Call.Command (Command.StopMoveStep options) onOff clock) ≡ 0 →
     answer l (Call.Command (Command.StopMoveStep options) onOff clock) .task ≡ GivenTask.Given Task.Stop
 unfolding commandEffect
-stop-asked l options onOff clock leave accepted =
+stop-asked l options onOff clock mayExecute accepted =
     answer-both l (λ (a : Answer). a .task ≡ GivenTask.Given Task.Stop)
     (Call.Command (Command.StopMoveStep options) onOff clock)
-    (λ z. rw leave) (λ n. absurd (n accepted))
+    (λ z. rw mayExecute) (λ n. absurd (n accepted))
 
 -- which is answered by a halt
 module _ (l : Lamp) (clock : ℕ) (accepted : cause l (Call.Halt clock) ≡ 0) where
@@ -80,7 +80,7 @@ afterStop l options onOff clock later =
     answer (answer l (Call.Command (Command.StopMoveStep options) onOff clock) .lamp) (Call.Halt later) .lamp
 
 module _ (l : Lamp) (options : CommandOptions) (onOff : OnOff) (clock later : ℕ)
-    (leave : allowed l (Command.StopMoveStep options) onOff ≡ true)
+    (mayExecute : allowed l (Command.StopMoveStep options) onOff ≡ true)
     (accepted : cause l (Call.Command (Command.StopMoveStep options) onOff clock) ≡ 0)
     (halted : cause (answer l (Call.Command (Command.StopMoveStep options) onOff clock) .lamp) (Call.Halt later) ≡ 0) where
   stopped : loopTurns (afterStop l options onOff clock later .running) ≡ false
@@ -100,7 +100,7 @@ module _ (l : Lamp) (options : CommandOptions) (onOff : OnOff) (clock later : �
       × (loopTurns (afterStop l options onOff clock later .running) ≡ false)
   stop-on-loop-differs e t = (
     ap (λ (active : Bool). turnsAfterStop active (loopTurns (l .running))) e ∙ t,
-    stop-asked l options onOff clock leave accepted,
+    stop-asked l options onOff clock mayExecute accepted,
     stopped,
   )
 
@@ -115,7 +115,7 @@ unfolding started hueSaturationStart hueSaturationPass
 loop-replaced l task run e = (
   rw e,
   idle-or
-      (atEnd (startPermille (task .ms) (noHueWay (task .delta) && noSaturationWay (task .saturation) (l .color .saturation))))
+      (atEnd (startPermille (task .ms) (noHueDelta (task .delta) && noSaturationDelta (task .saturation) (l .color .saturation))))
       (Running.HueSaturationMoveTo (record { start = l .clock; hue = l .color .hue; saturation = l .color .saturation; task = task }))
       refl,
   refl,

@@ -12,9 +12,9 @@ use Rattle.matter.specs.declared.enums.StepModeEnum.{StepModeEnum}
 use Rattle.matter.proofs.Laws.{cond-both}
 use Rattle.hue.specs.Hue.{movedHue}
 use Rattle.integers.proofs.Sizes.{abs-neg}
-use Rattle.progress.specs.Progress.{permilleOf, partOf, broughtWithin}
+use Rattle.progress.specs.Progress.{permilleOf, partOf, clampedSum}
 use Rattle.progress.proofs.Laws.{permille-is, permille-full, permille-short, part-down, part-size, part-within, part-whole}
-use Rattle.commands.specs.Commands.{stepWay}
+use Rattle.commands.specs.Commands.{stepDelta}
 use Rattle.conformance.specs.Limits.{away}
 use Rattle.conformance.specs.Steps.{enhancedHueMaximum, hueStepTo}
 use Rattle.conformance.proofs.StepsAgree.{within-up, within-down, hue-step-agrees}
@@ -141,8 +141,8 @@ transition-differs = (refl, refl)
 -- ---- the hue: so many places up or down on the circle, one by one
 
 pub circle-agrees : (mode : StepModeEnum) (size elapsed time hue : ℕ) → hue < 65536 →
-    movedHue hue (partOf (stepWay mode size) (permilleOf elapsed time))
-    ≡ hueStepTo mode enhancedHueMaximum (gone (stepWay mode size) elapsed time) hue
+    movedHue hue (partOf (stepDelta mode size) (permilleOf elapsed time))
+    ≡ hueStepTo mode enhancedHueMaximum (gone (stepDelta mode size) elapsed time) hue
 circle-agrees StepModeEnum.Up size elapsed time hue h =
     hue-step-agrees StepModeEnum.Up hue (gone (pos size) elapsed time) h
 circle-agrees StepModeEnum.Down size elapsed time hue h =
@@ -156,7 +156,7 @@ circle-agrees StepModeEnum.Down size elapsed time hue h =
 pub way-ends : (way : ℤ) (elapsed time : ℕ) → time ≤ elapsed → partOf way (permilleOf elapsed time) ≡ way
 way-ends way elapsed time h = ap (partOf way) (permille-full elapsed time h) ∙ part-whole way
 
--- ---- saturation and mireds: numbers on a line, brought within their bounds
+-- ---- saturation and mireds: numbers on a line, clamped to their bounds
 
 up-by : (s t : ℕ) (b : Bool) → ltb t (suc s) ≡ b → suc s ≤ t →
     cond b (negsuc (suc s - suc t)) (pos (t - suc s)) ≡ pos (t - suc s)
@@ -180,23 +180,23 @@ way-down (suc s) t h = down-by s t (ltb t (suc s)) refl h
 module _ (lo hi start target p : ℕ) (few : p ≤ 1000) where
   -- a number on its way to a target above it: the start and the part
   line-up : lo ≤ start → start ≤ target → target ≤ hi →
-      broughtWithin lo hi start (partOf (pos target -ℤ pos start) p)
+      clampedSum lo hi start (partOf (pos target -ℤ pos start) p)
       ≡ start + natAbs (partOf (pos target -ℤ pos start) p)
   line-up low h high =
       let w : pos target -ℤ pos start ≡ pos (target - start) = way-up start target h in
       let k : (target - start) * p / 1000 ≤ target - start = part-within (pos (target - start)) p few in
-      ap (λ (z : ℤ). broughtWithin lo hi start (partOf z p)) w
+      ap (λ (z : ℤ). clampedSum lo hi start (partOf z p)) w
       ∙ within-up lo hi start ((target - start) * p / 1000) low ∙ omega arith
       ∙ sym (ap (λ (z : ℤ). start + natAbs (partOf z p)) w)
 
   -- and to one below it: the start less the part
   line-down : lo ≤ target → target < start → start ≤ hi →
-      broughtWithin lo hi start (partOf (pos target -ℤ pos start) p)
+      clampedSum lo hi start (partOf (pos target -ℤ pos start) p)
       ≡ start - natAbs (partOf (pos target -ℤ pos start) p)
   line-down low h high =
       let w : partOf (pos target -ℤ pos start) p ≡ negℤ (pos ((start - target) * p / 1000)) = ap (λ (z : ℤ). partOf z p) (way-down start target h) ∙ part-down (start - target) p in
       let k : (start - target) * p / 1000 ≤ start - target = part-within (pos (start - target)) p few in
-      ap (broughtWithin lo hi start) w ∙ within-down lo hi start ((start - target) * p / 1000) (omega arith) high
+      ap (clampedSum lo hi start) w ∙ within-down lo hi start ((start - target) * p / 1000) (omega arith) high
       ∙ omega arith
       ∙ sym (ap (λ (z : ℤ). start - natAbs z) w
       ∙ ap (λ (n : ℕ). start - n) (abs-neg (pos ((start - target) * p / 1000))))
@@ -220,7 +220,7 @@ module _ (start target p : ℕ) (few : p ≤ 1000) where
 module _ (lo hi start target p : ℕ) (few : p ≤ 1000)
     (low : lo ≤ start) (high : start ≤ hi) (above : lo ≤ target) (below : target ≤ hi) where
   line-by : (b : Bool) → leb start target ≡ b →
-      cond (leb 1000 p) target (broughtWithin lo hi start (partOf (pos target -ℤ pos start) p))
+      cond (leb 1000 p) target (clampedSum lo hi start (partOf (pos target -ℤ pos start) p))
       ≡ cond b (start + natAbs (partOf (pos target -ℤ pos start) p))
       (start - natAbs (partOf (pos target -ℤ pos start) p))
   line-by true e =
@@ -234,7 +234,7 @@ module _ (lo hi start target p : ℕ) (few : p ≤ 1000)
       (whole-down start target p few h)
       (λ e. line-down lo hi start target p few above h high)
 
-  pub line-is : cond (leb 1000 p) target (broughtWithin lo hi start (partOf (pos target -ℤ pos start) p))
+  pub line-is : cond (leb 1000 p) target (clampedSum lo hi start (partOf (pos target -ℤ pos start) p))
       ≡ onLine start target (natAbs (partOf (pos target -ℤ pos start) p))
   line-is = line-by (leb start target) refl
 
@@ -250,8 +250,8 @@ module _ (from to : ℕ) where
   way-size = size-by (leb from to) refl
 
   -- no way from a number to itself
-  pub no-way : from ≡ to → pos to -ℤ pos from ≡ pos 0
-  no-way e = way-up from to (omega arith) ∙ ap pos (omega arith)
+  pub no-delta : from ≡ to → pos to -ℤ pos from ≡ pos 0
+  no-delta e = way-up from to (omega arith) ∙ ap pos (omega arith)
 
   there-by : (b : Bool) → leb from to ≡ b → cond b (from + away from to) (from - away from to) ≡ to
   there-by true e = omega (arith, leb-true from to e)

@@ -37,6 +37,6 @@ pub data MayReport : ℕ → ℕ → Bool → Type 0 where
   atTheEnd : (last now : ℕ) → MayReport last now true
 
 -- whether a list of notices has one
-abbrev pub tells : ℕ → List ℕ → Bool
-tells notice [] = false
-tells notice (x ∷ xs) = eqb notice x || tells notice xs
+abbrev pub reports : ℕ → List ℕ → Bool
+reports notice [] = false
+reports notice (x ∷ xs) = eqb notice x || reports notice xs

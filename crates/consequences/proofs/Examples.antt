@@ -13,28 +13,28 @@ use Rattle.matter.specs.declared.enums.MoveModeEnum.{MoveModeEnum}
 use Rattle.matter.specs.declared.enums.OnOff.{OnOff}
 use Rattle.matter.specs.All.{allTrue}
 use Rattle.matter.specs.Flags.{hasFlag}
-use Rattle.matter.specs.Typed.{TypedOptions}
+use Rattle.matter.specs.InRange.{InRangeOptions}
 use Rattle.hue.specs.Hue.{distance, pathDelta, movedHue}
 use Rattle.arc.specs.Arc.{meet, passesThrough}
 use Rattle.arc.proofs.Examples.{green}
 use Rattle.progress.specs.Progress.{permilleOf}
-use Rattle.color.specs.Form.{colorForm}
+use Rattle.color.specs.Valid.{colorValid}
 use Rattle.color.specs.Setters.{hueSet}
 use Rattle.tasks.specs.declared.HueDelta.{HueDelta}
 use Rattle.tasks.specs.declared.TargetSaturation.{TargetSaturation}
 use Rattle.tasks.specs.declared.Task.{Task}
-use Rattle.tasks.specs.Form.{moveToForm, taskForm, runningForm}
-use Rattle.lamp.specs.Answers.{formOrClock}
+use Rattle.tasks.specs.Valid.{moveToValid, taskValid, runningValid}
+use Rattle.lamp.specs.Answers.{firstCause}
 use Rattle.lamp.specs.Calls.{hueSaturationStart, started, stepped, startAnswer, stepAnswer, haltAnswer}
-use Rattle.lamp.specs.Form.{lampForm}
+use Rattle.lamp.specs.Valid.{lampValid}
 use Rattle.lamp.specs.Passes.{hueSaturationPass}
 use Rattle.lamp.specs.declared.Call.{Call}
 use Rattle.commands.specs.Commands.{commandEffect}
 use Rattle.commands.specs.Answers.{answer, commandCause, commandAnswer}
 use Rattle.schedule.specs.Calls.{after, quiet}
 use Rattle.schedule.specs.Schedule.{target}
-use Rattle.schedule.specs.Fades.{Fade, found, begun, PremisedButHue, Premised, seen, looks, shown}
-use Rattle.schedule.proofs.Examples.{lampAt, plain, at5000, meets, typed-lamp, typed-plain}
+use Rattle.schedule.specs.Fades.{Fade, found, begun, PremisedButHue, Premised, seen, observations, shown}
+use Rattle.schedule.proofs.Examples.{lampAt, plain, at5000, meets, in-range-lamp, in-range-plain}
 use Rattle.consequences.specs.Together.{stepClocks, Alike}
 use Rattle.consequences.specs.OffTarget.{movedBetween}
 
@@ -63,7 +63,7 @@ alone =
       calls = Call.Step 5200 ∷ Call.Step 5450 ∷ Call.Step 2_000_000 ∷ [];
     }
 
--- leave to run while off
+-- leave to execute while off
 abbrev pub whileOff : CommandOptions
 whileOff = record { mask = 1; over = 1 }
 
@@ -129,16 +129,16 @@ clocks e = stepClocks (begun e .lamp) (e .calls)
 
 -- 16,384 and 24,576 are green
 pub through-green : shown (redToCyan DirectionEnum.Shortest) ≡ seen 0 4 false ∷ seen 8192 3 false ∷ seen 16384 2 false ∷ seen 24576 1 false ∷ seen 32768 0 true ∷ []
-unfolding looks after answer commandCause commandAnswer formOrClock lampForm allTrue colorForm runningForm moveToForm taskForm commandEffect startAnswer stepAnswer haltAnswer started stepped hueSaturationStart hueSaturationPass hueSet permilleOf pathDelta distance movedHue hasFlag
+unfolding observations after answer commandCause commandAnswer firstCause lampValid allTrue colorValid runningValid moveToValid taskValid commandEffect startAnswer stepAnswer haltAnswer started stepped hueSaturationStart hueSaturationPass hueSet permilleOf pathDelta distance movedHue hasFlag
 through-green = refl
 
 pub never-green : shown (redToCyan DirectionEnum.Down) ≡ seen 0 4 false ∷ seen 57344 3 false ∷ seen 49152 2 false ∷ seen 40960 1 false ∷ seen 32768 0 true ∷ []
-unfolding looks after answer commandCause commandAnswer formOrClock lampForm allTrue colorForm runningForm moveToForm taskForm commandEffect startAnswer stepAnswer haltAnswer started stepped hueSaturationStart hueSaturationPass hueSet permilleOf pathDelta distance movedHue hasFlag
+unfolding observations after answer commandCause commandAnswer firstCause lampValid allTrue colorValid runningValid moveToValid taskValid commandEffect startAnswer stepAnswer haltAnswer started stepped hueSaturationStart hueSaturationPass hueSet permilleOf pathDelta distance movedHue hasFlag
 never-green = refl
 
 -- three steps of each lamp are accepted, at the same clocks, and after each they show the same
 pub same-clocks : (clocks alone ≡ 5200 ∷ 5450 ∷ 2_000_000 ∷ []) × (clocks among ≡ 5200 ∷ 5450 ∷ 2_000_000 ∷ [])
-unfolding stepClocks after answer commandCause commandAnswer formOrClock lampForm allTrue colorForm runningForm moveToForm taskForm commandEffect startAnswer stepAnswer haltAnswer started stepped hueSaturationStart hueSaturationPass hueSet permilleOf pathDelta distance movedHue hasFlag
+unfolding stepClocks after answer commandCause commandAnswer firstCause lampValid allTrue colorValid runningValid moveToValid taskValid commandEffect startAnswer stepAnswer haltAnswer started stepped hueSaturationStart hueSaturationPass hueSet permilleOf pathDelta distance movedHue hasFlag
 same-clocks = (refl, refl)
 
 pub same-shown : map shown (alone ∷ among ∷ []) ≡
@@ -146,41 +146,41 @@ pub same-shown : map shown (alone ∷ among ∷ []) ≡
     ∷ (seen 60000 10 false ∷ seen 60809 9 false ∷ seen 60809 9 false ∷ seen 60809 9 false ∷ seen 60809 9 false ∷ seen 62833 7 false
     ∷ seen 62833 7 false ∷ seen 2560 0 true ∷ seen 2560 0 true ∷ [])
     ∷ []
-unfolding looks after answer commandCause commandAnswer formOrClock lampForm allTrue colorForm runningForm moveToForm taskForm commandEffect startAnswer stepAnswer haltAnswer started stepped hueSaturationStart hueSaturationPass hueSet permilleOf pathDelta distance movedHue hasFlag
+unfolding observations after answer commandCause commandAnswer firstCause lampValid allTrue colorValid runningValid moveToValid taskValid commandEffect startAnswer stepAnswer haltAnswer started stepped hueSaturationStart hueSaturationPass hueSet permilleOf pathDelta distance movedHue hasFlag
 same-shown = refl
 
 -- 50 off the target, which is 1000
 pub off-by-50 : (movedBetween movedTo50 ≡ pos 50) × (shown movedTo50 ≡ seen 50 2 false ∷ seen 550 1 false ∷ seen 1050 0 true ∷ [])
-unfolding looks after answer commandCause commandAnswer formOrClock lampForm allTrue colorForm runningForm moveToForm taskForm commandEffect startAnswer stepAnswer haltAnswer started stepped hueSaturationStart hueSaturationPass hueSet permilleOf pathDelta distance movedHue hasFlag
+unfolding observations after answer commandCause commandAnswer firstCause lampValid allTrue colorValid runningValid moveToValid taskValid commandEffect startAnswer stepAnswer haltAnswer started stepped hueSaturationStart hueSaturationPass hueSet permilleOf pathDelta distance movedHue hasFlag
 off-by-50 = (refl, refl)
 
 -- ---- they meet the premises
 
 pub alike : Alike alone among
-unfolding after answer haltAnswer stepAnswer formOrClock lampForm allTrue colorForm runningForm
+unfolding after answer haltAnswer stepAnswer firstCause lampValid allTrue colorValid runningValid
 alike = record { found = refl; target = refl; direction = refl; tenths = refl; start = refl }
 
-typed-whileOff : TypedOptions whileOff
-typed-whileOff = record { mask = lit< tt; over = lit< tt }
+in-range-whileOff : InRangeOptions whileOff
+in-range-whileOff = record { mask = lit< tt; over = lit< tt }
 
 pub premised : Premised (redToCyan DirectionEnum.Down) × Premised alone × Premised among
-unfolding quiet after answer commandCause commandAnswer formOrClock lampForm allTrue colorForm runningForm moveToForm taskForm commandEffect startAnswer stepAnswer haltAnswer started stepped hueSaturationStart hueSaturationPass hueSet permilleOf pathDelta distance movedHue hasFlag
+unfolding quiet after answer commandCause commandAnswer firstCause lampValid allTrue colorValid runningValid moveToValid taskValid commandEffect startAnswer stepAnswer haltAnswer started stepped hueSaturationStart hueSaturationPass hueSet permilleOf pathDelta distance movedHue hasFlag
 premised = (
   record {
-    others = meets _ (typed-lamp 0 (lit< tt))
-        (((lit< tt, lit< tt, typed-plain), lit< tt), ((record { delta = lit< tt; saturation = tt; ms = lit< tt }, lit< tt), (lit< tt, (lit< tt, (lit< tt, (lit< tt, tt))))))
+    others = meets _ (in-range-lamp 0 (lit< tt))
+        (((lit< tt, lit< tt, in-range-plain), lit< tt), ((record { delta = lit< tt; saturation = tt; ms = lit< tt }, lit< tt), (lit< tt, (lit< tt, (lit< tt, (lit< tt, tt))))))
         refl refl refl refl refl;
     hue = refl;
   },
   record {
-    others = meets _ (typed-lamp 60000 (lit< tt))
-        (((lit< tt, lit< tt, typed-plain), lit< tt), ((record { delta = lit< tt; saturation = tt; ms = lit< tt }, lit< tt), (lit< tt, (lit< tt, (lit< tt, tt)))))
+    others = meets _ (in-range-lamp 60000 (lit< tt))
+        (((lit< tt, lit< tt, in-range-plain), lit< tt), ((record { delta = lit< tt; saturation = tt; ms = lit< tt }, lit< tt), (lit< tt, (lit< tt, (lit< tt, tt)))))
         refl refl refl refl refl;
     hue = refl;
   },
   record {
-    others = meets _ (typed-lamp 60000 (lit< tt))
-        (lit< tt, (lit< tt, (((lit< tt, lit< tt, typed-whileOff), lit< tt), (((lit< tt, lit< tt, typed-plain), lit< tt), ((record { delta = lit< tt; saturation = tt; ms = lit< tt }, lit< tt), (lit< tt, (lit< tt, (((lit< tt, lit< tt, typed-plain), lit< tt), (((lit< tt, typed-plain), lit< tt), (lit< tt, (lit< tt, (lit< tt, (lit< tt, tt)))))))))))))
+    others = meets _ (in-range-lamp 60000 (lit< tt))
+        (lit< tt, (lit< tt, (((lit< tt, lit< tt, in-range-whileOff), lit< tt), (((lit< tt, lit< tt, in-range-plain), lit< tt), ((record { delta = lit< tt; saturation = tt; ms = lit< tt }, lit< tt), (lit< tt, (lit< tt, (((lit< tt, lit< tt, in-range-plain), lit< tt), (((lit< tt, in-range-plain), lit< tt), (lit< tt, (lit< tt, (lit< tt, (lit< tt, tt)))))))))))))
         refl refl refl refl refl;
     hue = refl;
   },
@@ -188,8 +188,8 @@ premised = (
 
 -- all but the one of the hue
 pub premised-but-hue : PremisedButHue movedTo50
-unfolding quiet after answer commandCause commandAnswer formOrClock lampForm allTrue colorForm runningForm moveToForm taskForm commandEffect startAnswer stepAnswer haltAnswer started stepped hueSaturationStart hueSaturationPass hueSet permilleOf pathDelta distance movedHue hasFlag
+unfolding quiet after answer commandCause commandAnswer firstCause lampValid allTrue colorValid runningValid moveToValid taskValid commandEffect startAnswer stepAnswer haltAnswer started stepped hueSaturationStart hueSaturationPass hueSet permilleOf pathDelta distance movedHue hasFlag
 premised-but-hue =
-    meets _ (typed-lamp 0 (lit< tt))
-    (((lit< tt, lit< tt, typed-plain), lit< tt), ((record { delta = lit< tt; saturation = tt; ms = lit< tt }, lit< tt), ((record { delta = lit< tt; saturation = tt; ms = lit< tt }, lit< tt), (lit< tt, (lit< tt, tt)))))
+    meets _ (in-range-lamp 0 (lit< tt))
+    (((lit< tt, lit< tt, in-range-plain), lit< tt), ((record { delta = lit< tt; saturation = tt; ms = lit< tt }, lit< tt), ((record { delta = lit< tt; saturation = tt; ms = lit< tt }, lit< tt), (lit< tt, (lit< tt, tt)))))
     refl refl refl refl refl

@@ -7,7 +7,7 @@ use lib.Signed.{leZ}
 use Rattle.hue.specs.Hue.{distance}
 use Rattle.arc.specs.Arc.{OnArc}
 use Rattle.arc.proofs.Laws.{arc-up, arc-down, none-inside}
-use Rattle.schedule.specs.Schedule.{target, wayFrom}
+use Rattle.schedule.specs.Schedule.{target, deltaFrom}
 use Rattle.schedule.specs.Fades.{found, later}
 use Rattle.consequences.specs.NeverThrough.{StaysOnArc, NeverThrough, NeverThroughAsked}
 use Rattle.consequences.proofs.Kept.{kept, found-small, aim-small, shown-small}
@@ -19,7 +19,7 @@ on-arc (negsuc n) f hue hf h k = arc-down f n hue hf h k
 
 pub stays-on-arc : StaysOnArc
 stays-on-arc e p ys zs split =
-    on-arc (wayFrom (e .move) (found e)) (found e) (later e ys .color .hue) (found-small e (p .others)) (shown-small e (p .others) ys zs split)
+    on-arc (deltaFrom (e .move) (found e)) (found e) (later e ys .color .hue) (found-small e (p .others)) (shown-small e (p .others) ys zs split)
     (kept e p .everywhere ys zs split .arc)
 
 pub never-through : NeverThrough

@@ -24,7 +24,7 @@ use Rattle.lamp.specs.declared.Call.{Call}
 use Rattle.commands.specs.Answers.{isLoopSet}
 use Rattle.commands.proofs.Kept.{quiet-command}
 use Rattle.schedule.specs.Calls.{next, after, accepts, idle, interrupts, quiet}
-use Rattle.schedule.specs.Schedule.{Fed, target, time, wayFrom, taskOf}
+use Rattle.schedule.specs.Schedule.{Fed, target, time, deltaFrom, taskOf}
 use Rattle.schedule.specs.Claim.{fed}
 use Rattle.schedule.specs.Fades.{finds, found, ready, startCall, begun, later}
 use Rattle.schedule.proofs.Tests.{either, never}
@@ -54,7 +54,7 @@ leads-beside (negsuc n) t h h' s e =
 module _ (f : Fed) (hue saturation : ℕ) where
   -- the lamp runs it, or is idle where the whole way leads
   abbrev Underway : Lamp → Type 0
-  Underway l = (l .running ≡ Running.HueSaturationMoveTo (runFrom f hue saturation)) ⊎ ((l .running ≡ Running.Idle) × (l .color .hue ≡ movedHue hue (wayFrom (f .fade) (f .found))))
+  Underway l = (l .running ≡ Running.HueSaturationMoveTo (runFrom f hue saturation)) ⊎ ((l .running ≡ Running.Idle) × (l .color .hue ≡ movedHue hue (deltaFrom (f .fade) (f .found))))
 
   -- one pass
   passes : (l : Lamp) (p : ℕ) → p ≤ 1000 → Underway (hueSaturationPass l (runFrom f hue saturation) p .lamp)
@@ -63,7 +63,7 @@ module _ (f : Fed) (hue saturation : ℕ) where
       elim (either (leb 1000 p)) [
         | inl e ↦
             let k : p ≡ 1000 = let z = leb-true 1000 p e in omega arith in
-            rw e (inr (refl, set-is (l .color) _ true (f .fade .enhanced) (l .clock) ∙ ap (λ (q : ℕ). movedHue hue (partOf (wayFrom (f .fade) (f .found)) q)) k ∙ ap (movedHue hue) (part-whole (wayFrom (f .fade) (f .found)))))
+            rw e (inr (refl, set-is (l .color) _ true (f .fade .enhanced) (l .clock) ∙ ap (λ (q : ℕ). movedHue hue (partOf (deltaFrom (f .fade) (f .found)) q)) k ∙ ap (movedHue hue) (part-whole (deltaFrom (f .fade) (f .found)))))
         | inr e ↦ rw e (inl refl)
       ]
 
@@ -94,7 +94,7 @@ module _ (f : Fed) (hue saturation : ℕ) where
       (r .1)
 
   -- idle, it is where the whole way leads
-  ends : (l : Lamp) → Underway l → idle l ≡ true → l .color .hue ≡ movedHue hue (wayFrom (f .fade) (f .found))
+  ends : (l : Lamp) → Underway l → idle l ≡ true → l .color .hue ≡ movedHue hue (deltaFrom (f .fade) (f .found))
   ends l (inl r) i = never i (rw r)
   ends l (inr r) i = r .1
 
@@ -115,4 +115,4 @@ off-target e p ys zs split i =
     let u : Underway f hue saturation (begun e .lamp) = rw (accepted-is (ready e) (startCall e) (p .started)) (begins f (ready e)) in
     let q : quiet (begun e .lamp) ys ≡ true = quiet-front (begun e .lamp) ys zs (rw split at (p .undisturbed)) in
     ends f hue saturation (later e ys) (goes-on f hue saturation ys (begun e .lamp) u q) i
-    ∙ leads-beside (wayFrom (e .move) (found e)) (target (e .move)) (found e) hue (found-small e p) (arrives (found e) (target (e .move)) (e .move .direction) (found-small e p) (aim-small e p))
+    ∙ leads-beside (deltaFrom (e .move) (found e)) (target (e .move)) (found e) hue (found-small e p) (arrives (found e) (target (e .move)) (e .move .direction) (found-small e p) (aim-small e p))

@@ -5,9 +5,9 @@ use mathlib.Core.Bool.{false}
 use mathlib.Core.List.{List, _++_}
 use mathlib.Core.Path.{_≡_}
 use Rattle.arc.specs.declared.Band.{Band}
-use Rattle.arc.specs.Arc.{OnArc, inBand, TypedBand, passesThrough}
+use Rattle.arc.specs.Arc.{OnArc, inBand, InRangeBand, passesThrough}
 use Rattle.lamp.specs.declared.Call.{Call}
-use Rattle.schedule.specs.Schedule.{target, wayFrom}
+use Rattle.schedule.specs.Schedule.{target, deltaFrom}
 use Rattle.schedule.specs.Fades.{Fade, found, later, Premised}
 
 -- no hue that the lamp shows, at the start and after each call that follows, is in the band
@@ -16,12 +16,12 @@ Avoids e b = (ys zs : List Call) → e .calls ≡ ys ++ zs → inBand b (later e
 
 -- every hue shown is on the arc
 abbrev pub StaysOnArc : Type 0
-StaysOnArc = (e : Fade) → Premised e → (ys zs : List Call) → e .calls ≡ ys ++ zs → OnArc (found e) (wayFrom (e .move) (found e)) (later e ys .color .hue)
+StaysOnArc = (e : Fade) → Premised e → (ys zs : List Call) → e .calls ≡ ys ++ zs → OnArc (found e) (deltaFrom (e .move) (found e)) (later e ys .color .hue)
 
 -- the band has no hue on the chosen arc
 abbrev pub NeverThrough : Type 0
-NeverThrough = (e : Fade) → Premised e → (b : Band) → ((hue : ℕ) → OnArc (found e) (wayFrom (e .move) (found e)) hue → inBand b hue ≡ false) → Avoids e b
+NeverThrough = (e : Fade) → Premised e → (b : Band) → ((hue : ℕ) → OnArc (found e) (deltaFrom (e .move) (found e)) hue → inBand b hue ≡ false) → Avoids e b
 
 -- the test says so
 abbrev pub NeverThroughAsked : Type 0
-NeverThroughAsked = (e : Fade) → Premised e → (b : Band) → TypedBand b → passesThrough (found e) (target (e .move)) (e .move .direction) b ≡ false → Avoids e b
+NeverThroughAsked = (e : Fade) → Premised e → (b : Band) → InRangeBand b → passesThrough (found e) (target (e .move)) (e .move .direction) b ≡ false → Avoids e b

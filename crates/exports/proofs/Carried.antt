@@ -14,22 +14,22 @@ use borrow.Author.Tests.{ltb-false}
 use Rattle.matter.specs.declared.limits.Bounds.{Bounds}
 use Rattle.matter.proofs.Laws.{cond-both}
 use Rattle.matter.specs.Limits.{clockLimit}
-use Rattle.matter.specs.Typed.{Byte, Clock, TypedBounds, TypedOptions, TypedCommand}
+use Rattle.matter.specs.InRange.{Byte, Clock, InRangeBounds, InRangeOptions, InRangeCommand}
 use Rattle.tasks.specs.declared.HueDelta.{HueDelta}
 use Rattle.tasks.specs.declared.TargetSaturation.{TargetSaturation}
 use Rattle.tasks.specs.declared.Task.{Task}
-use Rattle.tasks.specs.Typed.{Signed64, TypedDelta, TypedTarget, TypedTask}
+use Rattle.tasks.specs.InRange.{Signed64, InRangeDelta, InRangeTarget, InRangeTask}
 use Rattle.lamp.specs.declared.Lamp.{Lamp}
 use Rattle.lamp.specs.declared.Answer.{Answer}
 use Rattle.lamp.specs.Answers.{refusal}
-use Rattle.lamp.specs.Form.{lampForm}
-use Rattle.lamp.proofs.Laws.{fresh-form}
+use Rattle.lamp.specs.Valid.{lampValid}
+use Rattle.lamp.proofs.Laws.{fresh-valid}
 use Rattle.lamp.specs.Making.{freshLamp, making}
 use Rattle.lamp.specs.declared.Call.{Call}
-use Rattle.lamp.specs.Typed.{TypedLamp, TypedCall}
-use Rattle.lamp.proofs.TypedKept.{typed-of}
+use Rattle.lamp.specs.InRange.{InRangeLamp, InRangeCall}
+use Rattle.lamp.proofs.InRangeKept.{in-range-of}
 use Rattle.commands.specs.Answers.{answer}
-use Rattle.commands.proofs.Kept.{number-is-cause, form-kept, typed-kept}
+use Rattle.commands.proofs.Kept.{number-is-cause, valid-kept, in-range-kept}
 use Rattle.commands.proofs.Table.{cause-small}
 use Rattle.exports.specs.declared.moves.TaskNumbers.{TaskNumbers}
 use Rattle.exports.specs.declared.calls.CommandNumbers.{CommandNumbers}
@@ -49,76 +49,76 @@ turned : (n : ℕ) → n < 2 ^ 63 → mag (negℤ (pos n)) < 2 ^ 63
 turned zero h = h
 turned (suc n) h = omega arith
 
-signed-typed : (sign size : ℕ) → Signed64 (signed sign size)
+signed-in-range : (sign size : ℕ) → Signed64 (signed sign size)
 unfolding signed
-signed-typed sign size =
+signed-in-range sign size =
     cond-both Signed64 (eqb sign 2) _ (pos (size % 2 ^ 63)) (λ e. turned (size % 2 ^ 63) (omega arith)) (λ e. omega arith)
 
-delta-typed : (sign size : ℕ) → TypedDelta (deltaOf sign size)
+delta-in-range : (sign size : ℕ) → InRangeDelta (deltaOf sign size)
 unfolding deltaOf
-delta-typed sign size = cond-both TypedDelta (eqb sign 0) HueDelta.Keep (HueDelta.By (signed sign size)) (λ e. tt) (λ e. signed-typed sign size)
+delta-in-range sign size = cond-both InRangeDelta (eqb sign 0) HueDelta.Keep (HueDelta.By (signed sign size)) (λ e. tt) (λ e. signed-in-range sign size)
 
-target-typed : (given saturation : ℕ) → TypedTarget (targetOf given saturation)
+target-in-range : (given saturation : ℕ) → InRangeTarget (targetOf given saturation)
 unfolding targetOf
-target-typed given saturation = cond-both TypedTarget (eqb given 0) TargetSaturation.Keep _ (λ e. tt) (λ e. omega arith)
+target-in-range given saturation = cond-both InRangeTarget (eqb given 0) TargetSaturation.Keep _ (λ e. tt) (λ e. omega arith)
 
-task-typed : (n : TaskNumbers) → TypedTask (taskOf n)
+task-in-range : (n : TaskNumbers) → InRangeTask (taskOf n)
 unfolding taskOf moveToOf hueMoveOf saturationMoveOf miredsToOf miredsMoveOf colorLoopOf
-task-typed n =
-    cond-both TypedTask (eqb (n .kind) 1) _ _
-    (λ e. record { delta = delta-typed (n .a) (n .b); saturation = target-typed (n .c) (n .d); ms = omega arith })
-    (λ e. cond-both TypedTask (eqb (n .kind) 2) _ _ (λ e. omega arith)
-    (λ e. cond-both TypedTask (eqb (n .kind) 3) _ _ (λ e. omega arith)
-    (λ e. cond-both TypedTask (eqb (n .kind) 4) _ _ (λ e. record { target = omega arith; ms = omega arith })
-    (λ e. cond-both TypedTask (eqb (n .kind) 5) _ _ (λ e. record { rate = signed-typed (n .a) (n .b); min = omega arith; max = omega arith })
-    (λ e. cond-both TypedTask (eqb (n .kind) 6) _ Task.Stop (λ e. omega arith) (λ e. tt))))))
+task-in-range n =
+    cond-both InRangeTask (eqb (n .kind) 1) _ _
+    (λ e. record { delta = delta-in-range (n .a) (n .b); saturation = target-in-range (n .c) (n .d); ms = omega arith })
+    (λ e. cond-both InRangeTask (eqb (n .kind) 2) _ _ (λ e. omega arith)
+    (λ e. cond-both InRangeTask (eqb (n .kind) 3) _ _ (λ e. omega arith)
+    (λ e. cond-both InRangeTask (eqb (n .kind) 4) _ _ (λ e. record { target = omega arith; ms = omega arith })
+    (λ e. cond-both InRangeTask (eqb (n .kind) 5) _ _ (λ e. record { rate = signed-in-range (n .a) (n .b); min = omega arith; max = omega arith })
+    (λ e. cond-both InRangeTask (eqb (n .kind) 6) _ Task.Stop (λ e. omega arith) (λ e. tt))))))
 
-options-typed : (n : CommandNumbers) → TypedOptions (optionsRead n)
+options-in-range : (n : CommandNumbers) → InRangeOptions (optionsRead n)
 unfolding optionsRead
-options-typed n = record { mask = omega arith; over = omega arith }
+options-in-range n = record { mask = omega arith; over = omega arith }
 
-hue-typed : (n : CommandNumbers) → TypedCommand (hueCommand n)
+hue-in-range : (n : CommandNumbers) → InRangeCommand (hueCommand n)
 unfolding hueCommand
-hue-typed n =
-    cond-both TypedCommand (eqb (n .kind) K.moveToHue) _ _ (λ e. (omega arith, omega arith, options-typed n))
-    (λ e. cond-both TypedCommand (eqb (n .kind) K.moveHue) _ _ (λ e. (omega arith, options-typed n)) (λ e. (omega arith, omega arith, options-typed n)))
+hue-in-range n =
+    cond-both InRangeCommand (eqb (n .kind) K.moveToHue) _ _ (λ e. (omega arith, omega arith, options-in-range n))
+    (λ e. cond-both InRangeCommand (eqb (n .kind) K.moveHue) _ _ (λ e. (omega arith, options-in-range n)) (λ e. (omega arith, omega arith, options-in-range n)))
 
-saturation-typed : (n : CommandNumbers) → TypedCommand (saturationCommand n)
+saturation-in-range : (n : CommandNumbers) → InRangeCommand (saturationCommand n)
 unfolding saturationCommand
-saturation-typed n =
-    cond-both TypedCommand (eqb (n .kind) K.moveToSaturation) _ _ (λ e. (omega arith, omega arith, options-typed n))
-    (λ e. cond-both TypedCommand (eqb (n .kind) K.moveSaturation) _ _ (λ e. (omega arith, options-typed n))
-    (λ e. cond-both TypedCommand (eqb (n .kind) K.stepSaturation) _ _ (λ e. (omega arith, omega arith, options-typed n))
-    (λ e. (omega arith, omega arith, omega arith, omega arith, options-typed n))))
+saturation-in-range n =
+    cond-both InRangeCommand (eqb (n .kind) K.moveToSaturation) _ _ (λ e. (omega arith, omega arith, options-in-range n))
+    (λ e. cond-both InRangeCommand (eqb (n .kind) K.moveSaturation) _ _ (λ e. (omega arith, options-in-range n))
+    (λ e. cond-both InRangeCommand (eqb (n .kind) K.stepSaturation) _ _ (λ e. (omega arith, omega arith, options-in-range n))
+    (λ e. (omega arith, omega arith, omega arith, omega arith, options-in-range n))))
 
-enhanced-typed : (n : CommandNumbers) → TypedCommand (enhancedCommand n)
+enhanced-in-range : (n : CommandNumbers) → InRangeCommand (enhancedCommand n)
 unfolding enhancedCommand
-enhanced-typed n =
-    cond-both TypedCommand (eqb (n .kind) K.enhancedMoveToHue) _ _ (λ e. (omega arith, omega arith, options-typed n))
-    (λ e. cond-both TypedCommand (eqb (n .kind) K.enhancedMoveHue) _ _ (λ e. (omega arith, options-typed n)) (λ e. (omega arith, omega arith, options-typed n)))
+enhanced-in-range n =
+    cond-both InRangeCommand (eqb (n .kind) K.enhancedMoveToHue) _ _ (λ e. (omega arith, omega arith, options-in-range n))
+    (λ e. cond-both InRangeCommand (eqb (n .kind) K.enhancedMoveHue) _ _ (λ e. (omega arith, options-in-range n)) (λ e. (omega arith, omega arith, options-in-range n)))
 
-mireds-typed : (n : CommandNumbers) → TypedCommand (miredsCommand n)
+mireds-in-range : (n : CommandNumbers) → InRangeCommand (miredsCommand n)
 unfolding miredsCommand
-mireds-typed n =
-    cond-both TypedCommand (eqb (n .kind) K.moveToColorTemperature) _ _ (λ e. (omega arith, omega arith, options-typed n))
-    (λ e. cond-both TypedCommand (eqb (n .kind) K.moveColorTemperature) _ _ (λ e. (omega arith, omega arith, omega arith, options-typed n))
-    (λ e. (omega arith, omega arith, omega arith, omega arith, options-typed n)))
+mireds-in-range n =
+    cond-both InRangeCommand (eqb (n .kind) K.moveToColorTemperature) _ _ (λ e. (omega arith, omega arith, options-in-range n))
+    (λ e. cond-both InRangeCommand (eqb (n .kind) K.moveColorTemperature) _ _ (λ e. (omega arith, omega arith, omega arith, options-in-range n))
+    (λ e. (omega arith, omega arith, omega arith, omega arith, options-in-range n)))
 
-command-typed : (n : CommandNumbers) → TypedCommand (commandOf n)
+command-in-range : (n : CommandNumbers) → InRangeCommand (commandOf n)
 unfolding commandOf loopCommand
-command-typed n =
-    cond-both TypedCommand (leb (n .kind) K.stepHue) _ _ (λ e. hue-typed n)
-    (λ e. cond-both TypedCommand (leb (n .kind) K.moveToHueAndSaturation) _ _ (λ e. saturation-typed n)
-    (λ e. cond-both TypedCommand (eqb (n .kind) K.colorLoopSet) _ _ (λ e. (omega arith, omega arith, omega arith, options-typed n))
-    (λ e. cond-both TypedCommand (eqb (n .kind) K.stopMoveStep) _ _ (λ e. options-typed n)
-    (λ e. cond-both TypedCommand (leb K.enhancedMoveToHue (n .kind) && leb (n .kind) K.enhancedStepHue) _ _ (λ e. enhanced-typed n) (λ e. mireds-typed n)))))
+command-in-range n =
+    cond-both InRangeCommand (leb (n .kind) K.stepHue) _ _ (λ e. hue-in-range n)
+    (λ e. cond-both InRangeCommand (leb (n .kind) K.moveToHueAndSaturation) _ _ (λ e. saturation-in-range n)
+    (λ e. cond-both InRangeCommand (eqb (n .kind) K.colorLoopSet) _ _ (λ e. (omega arith, omega arith, omega arith, options-in-range n))
+    (λ e. cond-both InRangeCommand (eqb (n .kind) K.stopMoveStep) _ _ (λ e. options-in-range n)
+    (λ e. cond-both InRangeCommand (leb K.enhancedMoveToHue (n .kind) && leb (n .kind) K.enhancedStepHue) _ _ (λ e. enhanced-in-range n) (λ e. mireds-in-range n)))))
 
-pub call-typed : (call : List ℕ) → Clock (at call 1) → TypedCall (callOf call)
+pub call-in-range : (call : List ℕ) → Clock (at call 1) → InRangeCall (callOf call)
 unfolding callOf
-call-typed call clock =
-    cond-both TypedCall (eqb (at call 0) K.step) _ _ (λ e. clock)
-    (λ e. cond-both TypedCall (eqb (at call 0) K.start) _ _ (λ e. (task-typed (startNumbers call), clock))
-    (λ e. cond-both TypedCall (eqb (at call 0) K.halt) _ _ (λ e. clock) (λ e. (command-typed (commandNumbers call), clock))))
+call-in-range call clock =
+    cond-both InRangeCall (eqb (at call 0) K.step) _ _ (λ e. clock)
+    (λ e. cond-both InRangeCall (eqb (at call 0) K.start) _ _ (λ e. (task-in-range (startNumbers call), clock))
+    (λ e. cond-both InRangeCall (eqb (at call 0) K.halt) _ _ (λ e. clock) (λ e. (command-in-range (commandNumbers call), clock))))
 
 -- ---- the number of an answer to a call that is read
 
@@ -131,10 +131,10 @@ sent-small l call =
 -- ---- one call
 
 module _ (l : Lamp) (good : Good l) (call answer : List ℕ) where
-  -- the words of a typed lamp in form are taken for that lamp
+  -- the words of a typed lamp valid are taken for that lamp
   pub answered-is : answered (lampWords l) call answer ≡ replied l call answer
   unfolding answered replied
-  answered-is = let b = lamp-back l (good .formed) (good .typed) in simp (b .taken, b .same)
+  answered-is = let b = lamp-back l (good .validity) (good .inRange) in simp (b .taken, b .same)
 
   -- and the call leaves the words of the lamp that it leaves
   pub words-left : answered (lampWords l) call answer .lamp ≡ lampWords (left l call answer)
@@ -146,13 +146,13 @@ module _ (l : Lamp) (good : Good l) (call answer : List ℕ) where
       by-tests true false e f = simp (e, f)
       by-tests false q e f = simp e
 
-  -- which is a typed lamp in form again
+  -- which is a typed lamp valid again
   pub good-left : Clock (at call 1) → Good (left l call answer)
   unfolding left sent
   good-left clock =
       cond-both Good (eqb (length answer) 25 && callKnown call) _ l
       (λ e. cond-both (λ (r : Answer). Good (r .lamp)) (ltb K.halt (at call 0)) _ _ (λ e. good)
-      (λ e. record { formed = form-kept l (callOf call) (good .formed); typed = typed-kept l (callOf call) (good .formed) (good .typed) (call-typed call clock) }))
+      (λ e. record { validity = valid-kept l (callOf call) (good .validity); inRange = in-range-kept l (callOf call) (good .validity) (good .inRange) (call-in-range call clock) }))
       (λ e. good)
 
   -- it is not answered as one to no lamp
@@ -168,15 +168,15 @@ module _ (l : Lamp) (good : Good l) (call answer : List ℕ) where
 -- ---- a lamp that is made
 
 module _ (w : List ℕ) (bounds : Bounds) (features options clock : ℕ) where
-  -- its words are those of a fresh lamp, which is a typed lamp in form
-  pub made-good : TypedBounds bounds → Byte options → made w bounds features options clock .number ≡ 0 → Good (freshLamp bounds features options clock) × (made w bounds features options clock .lamp ≡ lampWords (freshLamp bounds features options clock))
+  -- its words are those of a fresh lamp, which is a typed lamp valid
+  pub made-good : InRangeBounds bounds → Byte options → made w bounds features options clock .number ≡ 0 → Good (freshLamp bounds features options clock) × (made w bounds features options clock .lamp ≡ lampWords (freshLamp bounds features options clock))
   unfolding made making
   made-good b o z = by-tests (eqb (length w) 28) (ltb clockLimit clock) (ltb (bounds .max) (bounds .min)) refl refl refl z
     where
       by-tests : (p q r : Bool) → eqb (length w) 28 ≡ p → ltb clockLimit clock ≡ q → ltb (bounds .max) (bounds .min) ≡ r → made w bounds features options clock .number ≡ 0 → Good (freshLamp bounds features options clock) × (made w bounds features options clock .lamp ≡ lampWords (freshLamp bounds features options clock))
       by-tests true false false e f g z =
-          let formed = fresh-form bounds features options clock (ltb-false _ _ g) (ltb-false _ _ f) in
-          (record { formed = formed; typed = typed-of _ formed b (omega arith) (omega arith) (omega arith) (omega arith) (omega arith) o tt }, simp (e, f, g))
+          let validity = fresh-valid bounds features options clock (ltb-false _ _ g) (ltb-false _ _ f) in
+          (record { validity = validity; inRange = in-range-of _ validity b (omega arith) (omega arith) (omega arith) (omega arith) (omega arith) o tt }, simp (e, f, g))
       by-tests true false true e f g z = absurd (omega (arith, simp (e, f, g) at z))
       by-tests true true r e f g z = absurd (omega (arith, simp (e, f) at z))
       by-tests false q r e f g z = absurd (omega (arith, simp e at z))
@@ -190,7 +190,7 @@ carried l (x ∷ xs) good c =
     (r .0, ap (λ (w : List ℕ). wordsAfter w xs) (words-left l good (x .call) (x .answer)) ∙ r .1)
 
 -- a lamp that was made and went through these calls alone is a lamp to the next one
-pub never-unreadable : (w : List ℕ) (bounds : Bounds) (features options clock : ℕ) (xs : List Sending) (call answer : List ℕ) → TypedBounds bounds → Byte options → made w bounds features options clock .number ≡ 0 → Clocks xs → answered (wordsAfter (made w bounds features options clock .lamp) xs) call answer .number ≡ unreadableLamp → ⊥
+pub never-unreadable : (w : List ℕ) (bounds : Bounds) (features options clock : ℕ) (xs : List Sending) (call answer : List ℕ) → InRangeBounds bounds → Byte options → made w bounds features options clock .number ≡ 0 → Clocks xs → answered (wordsAfter (made w bounds features options clock .lamp) xs) call answer .number ≡ unreadableLamp → ⊥
 never-unreadable w bounds features options clock xs call answer b o z c e =
     let m = made-good w bounds features options clock b o z in
     let r = carried (freshLamp bounds features options clock) xs (m .0) c in

@@ -1,5 +1,5 @@
 -- Reading inverts writing: what is written of an enum, a task, a running record or a lamp is known, and is read as what it
--- was. Of a lamp this asks that its numbers are within their types and that it is in form, which bounds its ways: the
+-- was. Of a lamp this asks that its numbers are within their types and that it is valid, which bounds its ways: the
 -- smallest number of 64 bits with a sign has a size that no field takes.
 use Prim.Native.Nat.{ℕ, suc, _%_, _^_, _<_}
 use mathlib.Core.Bool.{Bool, true, false, not, _&&_}
@@ -26,12 +26,12 @@ use Rattle.tasks.specs.declared.HueDelta.{HueDelta}
 use Rattle.tasks.specs.declared.TargetSaturation.{TargetSaturation}
 use Rattle.tasks.specs.declared.Task.{Task}
 use Rattle.tasks.specs.declared.Running.{Running}
-use Rattle.tasks.specs.Form.{small, deltaForm, rateForm, moveToForm, runningForm}
-use Rattle.tasks.specs.Typed.{TypedTarget, TypedTask, TypedRunning}
+use Rattle.tasks.specs.Valid.{small, deltaValid, rateValid, moveToValid, runningValid}
+use Rattle.tasks.specs.InRange.{InRangeTarget, InRangeTask, InRangeRunning}
 use Rattle.lamp.specs.declared.Lamp.{Lamp}
-use Rattle.lamp.specs.Form.{lampForm}
-use Rattle.lamp.proofs.Kept.{form-running}
-use Rattle.lamp.specs.Typed.{TypedLamp}
+use Rattle.lamp.specs.Valid.{lampValid}
+use Rattle.lamp.proofs.Kept.{valid-running}
+use Rattle.lamp.specs.InRange.{InRangeLamp}
 use Rattle.exports.specs.Words.{flag, flagNumber, signed, signOf, sizeOf}
 use Rattle.exports.specs.Enums.{directionCase, moveModeCase, stepModeCase, loopActionCase, loopDirectionCase, colorModeCase, enhancedModeCase, onOffCase, directionHas, moveModeHas, stepModeHas, loopActionHas, loopDirectionHas, colorModeHas, enhancedModeHas, onOffHas, directionRead, moveModeRead, stepModeRead, loopActionRead, loopDirectionRead, colorModeRead, enhancedModeRead, onOffRead, directionKnown, moveModeKnown, stepModeKnown, loopActionKnown, loopDirectionKnown, colorModeKnown, enhancedModeKnown, onOffKnown}
 use Rattle.exports.specs.Moves.{deltaOf, targetOf, moveToOf, hueMoveOf, saturationMoveOf, miredsToOf, miredsMoveOf, colorLoopOf, taskOf, runningOf, taskFits, taskKnown, recordKnown, none, deltaSign, deltaSize, targetGiven, targetNumber, taskNumbers, recordNumbers}
@@ -119,13 +119,13 @@ delta-back (HueDelta.By way) h =
     let s = signed-back way h in
     (simp (s .2, s .0), s .1, size-known way h)
 
-target-back : (s : TargetSaturation) → TypedTarget s → (targetOf (targetGiven s) (targetNumber s) ≡ s) × (leb (targetGiven s) 1 ≡ true) × (leb (targetNumber s) 255 ≡ true)
+target-back : (s : TargetSaturation) → InRangeTarget s → (targetOf (targetGiven s) (targetNumber s) ≡ s) × (leb (targetGiven s) 1 ≡ true) × (leb (targetNumber s) 255 ≡ true)
 unfolding targetOf
 target-back TargetSaturation.Keep h = (refl, refl, refl)
 target-back (TargetSaturation.To saturation) h = (simp (within 255 h .same), refl, within 255 h .taken)
 
 -- a task, where its way is not the smallest number
-pub task-back : (t : Task) → TypedTask t → Sized (wayOf t) → Back taskOf taskKnown (taskNumbers t) t
+pub task-back : (t : Task) → InRangeTask t → Sized (wayOf t) → Back taskOf taskKnown (taskNumbers t) t
 unfolding taskNumbers taskOf taskKnown taskFits moveToOf hueMoveOf saturationMoveOf miredsToOf miredsMoveOf colorLoopOf
 task-back (Task.HueSaturationMoveTo t) h s =
     let d = delta-back (t .delta) s in
@@ -162,7 +162,7 @@ pub smallest-unknown : (min max : ℕ) → taskKnown (taskNumbers (Task.ColorTem
 unfolding taskNumbers taskKnown taskFits
 smallest-unknown min max = refl
 
--- a way or a rate in form is not that number
+-- a way or a rate valid is not that number
 bounded : (z : ℤ) → leZ (negℤ (pos 65535)) z ≡ true → leZ z (pos 65535) ≡ true → Sized z
 bounded (pos n) e f = omega (arith, leb-true n 65535 f)
 bounded (negsuc n) e f = omega (arith, leb-true n 65534 e)
@@ -170,11 +170,11 @@ bounded (negsuc n) e f = omega (arith, leb-true n 65534 e)
 small-sized : (z : ℤ) → small z ≡ true → Sized z
 small-sized z e = bounded z (and-left (leZ (negℤ (pos 65535)) z) _ e) (and-right (leZ (negℤ (pos 65535)) z) _ e)
 
-delta-sized : (d : HueDelta) → deltaForm d ≡ true → Sized (deltaWay d)
+delta-sized : (d : HueDelta) → deltaValid d ≡ true → Sized (deltaWay d)
 delta-sized HueDelta.Keep e = omega arith
 delta-sized (HueDelta.By way) e = small-sized way e
 
-rate-sized : (z : ℤ) → rateForm z ≡ true → Sized z
+rate-sized : (z : ℤ) → rateValid z ≡ true → Sized z
 rate-sized z e = small-sized z (and-right (not (eqb (natAbs z) 0)) (small z) e)
 
 -- ---- running records
@@ -185,8 +185,8 @@ unfolding taskOf
 no-task = refl
 
 -- a task, with what was found at its start in fields of its kind; an idle lamp has no task
-pub running-back : (r : Running) (bounds : Bounds) (clock : ℕ) → runningForm r bounds clock ≡ true → TypedRunning r → Back runningOf recordKnown (recordNumbers r) r
-unfolding recordNumbers recordKnown taskNumbers moveToForm runningForm
+pub running-back : (r : Running) (bounds : Bounds) (clock : ℕ) → runningValid r bounds clock ≡ true → InRangeRunning r → Back runningOf recordKnown (recordNumbers r) r
+unfolding recordNumbers recordKnown taskNumbers moveToValid runningValid
 running-back Running.Idle bounds clock e h = record { same = simp no-task; taken = refl }
 running-back (Running.HueSaturationMoveTo run) bounds clock e h =
     let t = task-back (Task.HueSaturationMoveTo (run .task)) (h .3) (delta-sized (run .task .delta) (each _ (each _ e .0) .1 .0)) in
@@ -217,10 +217,10 @@ running-back (Running.ColorLoop run) bounds clock e h =
 
 -- ---- lamps
 
--- a typed lamp in form
-pub lamp-back : (l : Lamp) → lampForm l ≡ true → TypedLamp l → Back lampOf lampKnown (lampWords l) l
+-- a typed lamp valid
+pub lamp-back : (l : Lamp) → lampValid l ≡ true → InRangeLamp l → Back lampOf lampKnown (lampWords l) l
 unfolding lampKnown lampFits
-lamp-back l formed h =
+lamp-back l validity h =
     let low = within 65535 (h .bounds .min) in
     let high = within 65535 (h .bounds .max) in
     let options = within 255 (h .options) in
@@ -235,7 +235,7 @@ lamp-back l formed h =
     let time = within 65535 (h .loopTime) in
     let first = within 65535 (h .loopStart) in
     let stored = within 65535 (h .loopStored) in
-    let run : Back runningOf recordKnown (recordOf (lampWords l)) (l .running) = running-back (l .running) (l .bounds) (l .clock) (form-running l formed) (h .running) in
+    let run : Back runningOf recordKnown (recordOf (lampWords l)) (l .running) = running-back (l .running) (l .bounds) (l .clock) (valid-running l validity) (h .running) in
     record {
       same = simp (low .same, high .same, options .same, tenths .same, hue .same, saturation .same, mireds .same, mode .same, emode .same, active .same, direction .same, time .same, first .same, stored .same, run .same);
       taken = simp (low .taken, high .taken, options .taken, tenths .taken, hue .taken, saturation .taken, mireds .taken, mode .taken, emode .taken, active .taken, direction .taken, time .taken, first .taken, stored .taken, run .taken);

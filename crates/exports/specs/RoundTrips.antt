@@ -6,10 +6,10 @@ use mathlib.Core.Path.{_≡_}
 use lib.Dec.{eqb}
 use lib.ListN.{length}
 use Rattle.matter.specs.declared.limits.Bounds.{Bounds}
-use Rattle.matter.specs.Typed.{Byte, Clock, TypedBounds}
+use Rattle.matter.specs.InRange.{Byte, Clock, InRangeBounds}
 use Rattle.lamp.specs.declared.Lamp.{Lamp}
-use Rattle.lamp.specs.Form.{lampForm}
-use Rattle.lamp.specs.Typed.{TypedLamp}
+use Rattle.lamp.specs.Valid.{lampValid}
+use Rattle.lamp.specs.InRange.{InRangeLamp}
 use Rattle.exports.specs.Words.{at}
 use Rattle.exports.specs.Lamps.{lampOf, lampKnown, lampWords}
 use Rattle.exports.specs.Calls.{unreadable, callKnown, sent}
@@ -20,10 +20,10 @@ pub record Back {A N : Type 0} (read : N → A) (known : N → Bool) (written : 
   pub same : read written ≡ thing
   pub taken : known written ≡ true
 
--- a typed lamp in form
+-- a typed lamp valid
 pub record Good (l : Lamp) : Type 0 where
-  pub formed : lampForm l ≡ true
-  pub typed : TypedLamp l
+  pub validity : lampValid l ≡ true
+  pub inRange : InRangeLamp l
 
 -- what a call of these words, with this room for its answer, leaves of a lamp; and what is left of the lamp
 unfoldable pub replied : Lamp → List ℕ → List ℕ → Answered
@@ -53,7 +53,7 @@ Clocks [] = Unit
 Clocks (x ∷ xs) = Clock (at (x .call) 1) × Clocks xs
 
 pub record RoundTrips : Type 0 where
-  pub lamp-back : (l : Lamp) → lampForm l ≡ true → TypedLamp l → Back lampOf lampKnown (lampWords l) l
+  pub lamp-back : (l : Lamp) → lampValid l ≡ true → InRangeLamp l → Back lampOf lampKnown (lampWords l) l
   -- a call on the words of a lamp is the call on the lamp
   pub answered-is : (l : Lamp) → Good l → (call answer : List ℕ) →
       answered (lampWords l) call answer ≡ replied l call answer
@@ -62,6 +62,6 @@ pub record RoundTrips : Type 0 where
       Good (lampAfter l xs) × (wordsAfter (lampWords l) xs ≡ lampWords (lampAfter l xs))
   -- a lamp that was made and went through these calls alone is a lamp to the next one
   pub never-unreadable : (w : List ℕ) (bounds : Bounds) (features options clock : ℕ) (xs : List Sending)
-      (call answer : List ℕ) → TypedBounds bounds → Byte options → made w bounds features options clock .number ≡ 0 →
+      (call answer : List ℕ) → InRangeBounds bounds → Byte options → made w bounds features options clock .number ≡ 0 →
       Clocks xs →
       answered (wordsAfter (made w bounds features options clock .lamp) xs) call answer .number ≡ unreadableLamp → ⊥

@@ -95,7 +95,7 @@ pub extern "C" fn yemkruos_call(words: &mut [u64], call: &[u64], answer: &mut [u
     let lamp = sent.lamp;
     let after = lamps::lamp_words(lamp);
     copy(&after, words);
-    let told = answers::answer_words(sent);
-    copy(&told, answer);
+    let reported = answers::answer_words(sent);
+    copy(&reported, answer);
     sent.number as u64
 }

@@ -1,4 +1,4 @@
-// Runs a fade: the line on standard input says which, and each line on standard output tells of its start or of a step.
+// Runs a fade: the line on standard input says which, and each line on standard output reports of its start or of a step.
 use fade_line::reader::Reader;
 use fade_run::Fade;
 use libc::STDIN_FILENO;

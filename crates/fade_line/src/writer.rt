@@ -10,7 +10,7 @@ ghost use Rattle.fade_line.specs.Text.{decimal, spaced, spacedAll, numbe
 // More than any line takes.
 pub const LONGEST: usize = 512;
 
-// What a line of a fade tells.
+// What a line of a fade reports.
 pub struct Line {
     pub clock: u64,
     pub hue: u16,

@@ -30,7 +30,7 @@ use Rattle.lamp.specs.declared.Answer.{Answer}
 use Rattle.lamp.specs.Answers.{atClock, refusal}
 use Rattle.lamp.specs.Making.{freshLamp, makingCause, making}
 use Rattle.lamp.specs.Passes.{atEnd, unless, waiting, hueSaturationPass}
-use Rattle.lamp.specs.Calls.{done, started, stepped, startCause, stepCause, startAnswer, stepAnswer, startPermille, noHueWay, noSaturationWay, hueSaturationStart}
+use Rattle.lamp.specs.Calls.{done, started, stepped, startCause, stepCause, startAnswer, stepAnswer, startPermille, noHueDelta, noSaturationDelta, hueSaturationStart}
 use Rattle.lamp.proofs.Kept.{choose-both}
 use Rattle.commands.specs.Commands.{stored, ms, commandEffect}
 use Rattle.commands.specs.Answers.{allowed, commandCause, commandAnswer}
@@ -111,17 +111,17 @@ enough (suc n) j a clock w = ap (λ (m : ℕ). further m a clock) (add-suc j n) 
 
 -- a start of a move-to leaves all its tenths
 module _ (l : Lamp) (task : HueSaturationMoveTo) (clock n : ℕ) (time : task .ms ≡ n * 100) where
-  abbrev noWay : Bool
-  noWay = noHueWay (task .delta) && noSaturationWay (task .saturation) (l .color .saturation)
+  abbrev noDelta : Bool
+  noDelta = noHueDelta (task .delta) && noSaturationDelta (task .saturation) (l .color .saturation)
 
   pass-begins : Within n (done (hueSaturationStart (atClock l clock) task)) clock
   unfolding hueSaturationStart hueSaturationPass
-  pass-begins g = by (eqb (task .ms) 0 || noWay) refl
+  pass-begins g = by (eqb (task .ms) 0 || noDelta) refl
     where
       run : HueSaturationRun
       run = record { start = clock; hue = l .color .hue; saturation = l .color .saturation; task = task }
 
-      by : (t : Bool) → (eqb (task .ms) 0 || noWay) ≡ t → Left n (done (hueSaturationStart (atClock l clock) task)) clock
+      by : (t : Bool) → (eqb (task .ms) 0 || noDelta) ≡ t → Left n (done (hueSaturationStart (atClock l clock) task)) clock
       by true e = absurd (false≢true (sym (ap (λ (t : Bool). runs (unless (atEnd (cond t 1000 0)) (Running.HueSaturationMoveTo run))) e) ∙ g))
       by false e =
           record {
@@ -129,7 +129,7 @@ module _ (l : Lamp) (task : HueSaturationMoveTo) (clock n : ℕ) (time : task .m
             running = ap (λ (t : Bool). unless (atEnd (cond t 1000 0)) (Running.HueSaturationMoveTo run)) e;
             begun = omega arith;
             wait = ap (λ (t : Bool). waiting (atEnd (cond t 1000 0)) (endWait (clock - clock) (task .ms))) e;
-            some = omega (arith, eqb-false (task .ms) 0 (or-left (eqb (task .ms) 0) noWay e));
+            some = omega (arith, eqb-false (task .ms) 0 (or-left (eqb (task .ms) 0) noDelta e));
             most = omega (arith, time);
           }
 

@@ -8,12 +8,12 @@ use Rattle.matter.specs.Rules.{defaultColorMode}
 use Rattle.notices.specs.Notices.{filled}
 use Rattle.hue.specs.Hue.{distance, pathDelta, movedHue}
 use Rattle.progress.specs.Progress.{permilleOf, clamp}
-use Rattle.remaining_time.specs.RemainingTime.{told}
-use Rattle.color.specs.Setters.{hueSet, hueTold}
-use Rattle.color.specs.Form.{colorForm}
-use Rattle.tasks.specs.Form.{moveToForm, taskForm, runningForm}
-use Rattle.lamp.specs.Answers.{formOrClock}
-use Rattle.lamp.specs.Form.{lampForm}
+use Rattle.remaining_time.specs.RemainingTime.{reported}
+use Rattle.color.specs.Setters.{hueSet, hueReported}
+use Rattle.color.specs.Valid.{colorValid}
+use Rattle.tasks.specs.Valid.{moveToValid, taskValid, runningValid}
+use Rattle.lamp.specs.Answers.{firstCause}
+use Rattle.lamp.specs.Valid.{lampValid}
 use Rattle.lamp.specs.Making.{making}
 use Rattle.lamp.specs.Passes.{hueSaturationPass}
 use Rattle.lamp.specs.Calls.{hueSaturationStart, started, stepped, startAnswer, stepAnswer}
@@ -29,12 +29,12 @@ three-lines :
     (53 ∷ 48 ∷ 48 ∷ 48 ∷ 32 ∷ 48 ∷ 32 ∷ 50 ∷ 32 ∷ 49 ∷ 48 ∷ 48 ∷ 58 ∷ 32 ∷ 49 ∷ 53 ∷ 10 ∷ [])
     ++ (53 ∷ 49 ∷ 48 ∷ 48 ∷ 32 ∷ 49 ∷ 54 ∷ 51 ∷ 56 ∷ 52 ∷ 32 ∷ 49 ∷ 32 ∷ 49 ∷ 48 ∷ 48 ∷ 58 ∷ 32 ∷ 49 ∷ 51 ∷ 32 ∷ 50 ∷ 32 ∷ 54 ∷ 32 ∷ 55 ∷ 32 ∷ 49 ∷ 52 ∷ 32 ∷ 49 ∷ 53 ∷ 10 ∷ [])
     ++ (53 ∷ 50 ∷ 48 ∷ 48 ∷ 32 ∷ 51 ∷ 50 ∷ 55 ∷ 54 ∷ 56 ∷ 32 ∷ 48 ∷ 32 ∷ 48 ∷ 58 ∷ 32 ∷ 49 ∷ 51 ∷ 32 ∷ 50 ∷ 32 ∷ 54 ∷ 32 ∷ 55 ∷ 32 ∷ 49 ∷ 52 ∷ 32 ∷ 49 ∷ 53 ∷ 32 ∷ 49 ∷ 10 ∷ [])
-unfolding hasFlag defaultColorMode allTrue colorForm moveToForm taskForm runningForm lampForm formOrClock clamp distance pathDelta movedHue permilleOf told filled hueSet hueTold making commandEffect commandCause commandAnswer hueSaturationPass hueSaturationStart started stepped startAnswer stepAnswer line words isNumber wanted askedByWords decimal decimalIn spaced spacedAll stateText lineText refusedText lineOf further fadeOf
+unfolding hasFlag defaultColorMode allTrue colorValid moveToValid taskValid runningValid lampValid firstCause clamp distance pathDelta movedHue permilleOf reported filled hueSet hueReported making commandEffect commandCause commandAnswer hueSaturationPass hueSaturationStart started stepped startAnswer stepAnswer line words isNumber wanted askedByWords decimal decimalIn spaced spacedAll stateText lineText refusedText lineOf further fadeOf
 three-lines = refl
 
 -- hue 255: `refused 1`
 hue-255 : fadeText (50 ∷ 53 ∷ 53 ∷ 32 ∷ 48 ∷ 32 ∷ 49 ∷ 32 ∷ 53 ∷ 10 ∷ []) ≡ 114 ∷ 101 ∷ 102 ∷ 117 ∷ 115 ∷ 101 ∷ 100 ∷ 32 ∷ 49 ∷ 10 ∷ []
-unfolding hasFlag defaultColorMode allTrue colorForm runningForm lampForm formOrClock clamp making commandEffect commandCause commandAnswer line words isNumber wanted askedByWords decimal decimalIn spaced refusedText fadeOf
+unfolding hasFlag defaultColorMode allTrue colorValid runningValid lampValid firstCause clamp making commandEffect commandCause commandAnswer line words isNumber wanted askedByWords decimal decimalIn spaced refusedText fadeOf
 hue-255 = refl
 
 -- two blanks: `bad line`

@@ -11,7 +11,7 @@ use borrow.Author.Tests.{lt-ltb, le-ltb, ltb-true}
 use Rattle.matter.specs.Causes.{accepted}
 use Rattle.matter.proofs.Laws.{cond-both}
 use Rattle.matter.specs.Limits.{clockLimit, saturationLimit}
-use Rattle.progress.specs.Progress.{broughtWithin, wayAtRate}
+use Rattle.progress.specs.Progress.{clampedSum, deltaAtRate}
 use Rattle.tasks.specs.declared.Task.{Task}
 use Rattle.tasks.specs.declared.Running.{Running}
 use Rattle.tasks.specs.declared.HueSaturationRun.{HueSaturationRun}
@@ -26,7 +26,7 @@ use Rattle.matter.specs.Rules.{signed}
 use Rattle.lamp.specs.Passes.{Effect, waiting, atEnd, saturationDone, miredsDone, hueSaturationPass, huePass, saturationPass, temperatureToPass, temperaturePass, loopPass}
 use Rattle.matter.specs.Bounds.{lower, upper}
 use Rattle.lamp.specs.Calls.{done, started, stepped, startCause, stepCause, startAnswer, stepAnswer, hueSaturationStart, temperatureToStart, temperatureStart}
-use Rattle.lamp.proofs.Kept.{form-clock, start-ready, step-ready, choose-both, started-few, stepped-few}
+use Rattle.lamp.proofs.Kept.{valid-clock, start-ready, step-ready, choose-both, started-few, stepped-few}
 use Rattle.fade_run.specs.declared.Fade.{Fade}
 use Rattle.fade_line.specs.declared.writer.Line.{Line}
 use Rattle.fade_line.specs.Text.{numbers, lineText, refusedText, pasted, roomFor, fitting, Wrote}
@@ -82,13 +82,13 @@ unfolding saturationPass
 saturation-wait l run =
     waits-tick
     (saturationDone (run .task .direction)
-    (broughtWithin 0 saturationLimit (run .saturation) (wayAtRate (signed (run .task .direction) (run .task .rate)) (l .clock - run .start))))
+    (clampedSum 0 saturationLimit (run .saturation) (deltaAtRate (signed (run .task .direction) (run .task .rate)) (l .clock - run .start))))
 
 temperature-wait : (l : Lamp) (run : ColorTemperatureRun) → temperaturePass l run .wait ≤ 100
 unfolding temperaturePass
 temperature-wait l run =
     waits-tick
-    (miredsDone (run .rate) (run .lo) (run .hi) (broughtWithin (run .lo) (run .hi) (run .mireds) (wayAtRate (run .rate) (l .clock - run .start))))
+    (miredsDone (run .rate) (run .lo) (run .hi) (clampedSum (run .lo) (run .hi) (run .mireds) (deltaAtRate (run .rate) (l .clock - run .start))))
 
 loop-wait : (l : Lamp) (run : ColorLoopRun) → loopPass l run .wait ≤ 100
 unfolding loopPass
@@ -121,14 +121,14 @@ module _ (l : Lamp) (clock : ℕ) (fits : clock < 2 ^ 64) where
   unfolding startAnswer
   start-clock task =
       choose-both (λ a. clock + a .wait < 2 ^ 64) (startCause l task clock) l _
-      (λ e. omega (arith, form-clock (atClock l clock) (start-ready l clock task e .0), started-wait (atClock l clock) task))
+      (λ e. omega (arith, valid-clock (atClock l clock) (start-ready l clock task e .0), started-wait (atClock l clock) task))
       (λ e. omega (arith, fits))
 
   pub step-clock : clock + stepAnswer l clock .wait < 2 ^ 64
   unfolding stepAnswer
   step-clock =
       choose-both (λ a. clock + a .wait < 2 ^ 64) (stepCause l clock) l _
-      (λ e. omega (arith, form-clock (atClock l clock) (step-ready l clock e), stepped-wait (atClock l clock) (l .running)))
+      (λ e. omega (arith, valid-clock (atClock l clock) (step-ready l clock e), stepped-wait (atClock l clock) (l .running)))
       (λ e. omega (arith, fits))
 
 -- ---- a line: never empty, and no longer than the room that is asked for
@@ -158,8 +158,8 @@ one-short a clock h =
     cond-both (λ (t : List ℕ). length t ≤ 512) (eqb (a .number) accepted) _ _ (λ e. line-short (lineOf a clock) h) (λ e. refused-short (a .number))
 
 -- the notices of an effect, and of a refusal, are few
-effect-few : (e : Effect) → length (e .told) ≤ 14 → length (numbers (done e .notices)) ≤ 16
-effect-few e h = simp (numbers-noted (e .told)) (omega (arith, h))
+effect-few : (e : Effect) → length (e .reported) ≤ 14 → length (numbers (done e .notices)) ≤ 16
+effect-few e h = simp (numbers-noted (e .reported)) (omega (arith, h))
 
 refusal-few : (l : Lamp) (number : ℕ) → length (numbers (refusal l number .notices)) ≤ 16
 refusal-few l number = omega arith

@@ -152,7 +152,7 @@ fn write_answer(answer: Answer, clock: u64, out: &mut [u8], at: usize) -> usize
 }
 
 // An answer to a call at this clock is written.
-fn told(answer: Answer, clock: u64, left: u16, out: &mut [u8], at: usize) -> Written
+fn reported(answer: Answer, clock: u64, left: u16, out: &mut [u8], at: usize) -> Written
     requires { ⌜ clock + answer .wait < 2 ^ 64 ⌝ }
     ensures { λ r. ⌜ (r .fade ≡ stepOf answer clock left) × Wrote (now (out .entry)) at (fitting (now (out .entry)) at (oneText answer clock)) (now (out .exit)) (r .len) ⌝ }
 {
@@ -178,7 +178,7 @@ fn start(starting: Starting, out: &mut [u8], at: usize) -> Written
 {
     let lamp = starting.lamp;
     let task = starting.task;
-    told(
+    reported(
         lamp.start(task, starting.clock),
         starting.clock,
         starting.left,
@@ -191,7 +191,7 @@ fn step(stepping: Stepping, out: &mut [u8], at: usize) -> Written
     ensures { λ r. ⌜ (r .fade ≡ rest (Fade.Step stepping)) × Wrote (now (out .entry)) at (fitting (now (out .entry)) at (nextText (Fade.Step stepping))) (now (out .exit)) (r .len) ⌝ }
 {
     let lamp = stepping.lamp;
-    told(
+    reported(
         lamp.step(stepping.clock),
         stepping.clock,
         stepping.left,

@@ -32,5 +32,5 @@ unfoldable pub movedHue : ℕ → ℤ → ℕ
 movedHue start part = modulo (pos start +ℤ part)
 
 -- "the one-byte shown hue, the stored one divided by 256, rounded down"
-abbrev pub shownHue : ℕ → ℕ
-shownHue hue = hue / 256
+abbrev pub currentHue : ℕ → ℕ
+currentHue hue = hue / 256

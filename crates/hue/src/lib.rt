@@ -4,7 +4,7 @@
 use matter::DirectionEnum;
 ghost use mathlib.Core.Path.{_≡_};
 ghost use lib.IntN.{pos, negℤ, _+ℤ_};
-ghost use Rattle.hue.specs.Hue.{distance, pathDelta, movedHue, shownHue};
+ghost use Rattle.hue.specs.Hue.{distance, pathDelta, movedHue, currentHue};
 
 // The distance up from one hue to another. The distance down is the distance up the other way round.
 fn distance_up(from: u16, to: u16) -> u16
@@ -64,8 +64,8 @@ pub fn moved_hue(start: u16, part: i64) -> u16
 }
 
 // CurrentHue: the one byte that is shown of the stored hue.
-pub fn shown_hue(hue: u16) -> u8
-    ensures { λ r. ⌜ r ≡ shownHue hue ⌝ }
+pub fn current_hue(hue: u16) -> u8
+    ensures { λ r. ⌜ r ≡ currentHue hue ⌝ }
 {
     (hue / 256) as u8
 }

@@ -1,5 +1,5 @@
 -- Integers by their signs: products and quotients of `pos n` and of `negℤ (pos n)`, a product divided in two parts, what a test
--- of an integer tells of its sign, and a summand taken across a test.
+-- of an integer reports of its sign, and a summand taken across a test.
 use mathlib.Core.Path.{_≡_, refl, sym, ap, subst, subst⁻¹, _∙_}
 use mathlib.Core.Bool.{true, false, not, _&&_, _||_}
 use Prim.Native.Nat.{ℕ, zero, suc, _+_, _*_, _/_, _%_, _<_, _≤_, zero-le}
@@ -44,7 +44,7 @@ split-quot (negsuc n) e d h =
     rw neg-quot
     (sym (negℤ-+ℤ (pos (suc n * (e / d))) (pos (suc n * (e % d) / d))) ∙ ap (λ (m : ℕ). negℤ (pos m)) (split (suc n) e d h) ∙ sym (neg-quot (suc n * e) d))
 
--- ---- the sign that a test tells
+-- ---- the sign that a test reports
 
 -- not negative: it is its size
 pub is-size : (z : ℤ) → leZ (pos 0) z ≡ true → z ≡ pos (natAbs z)

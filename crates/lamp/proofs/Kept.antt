@@ -1,5 +1,5 @@
 -- Form is kept: by the clock that goes on, by every pass, start and step, and by the answers of starts, steps and halts.
--- A start or step tells few notices.
+-- A start or step reports few notices.
 use Prim.Native.Nat.{ℕ, zero, suc, _-_, _≤_, _<_, zero-le}
 use mathlib.Core.Bool.{Bool, true, false, cond, not, _||_, true≢false}
 use mathlib.Core.List.{List, _++_}
@@ -17,10 +17,10 @@ use Rattle.notices.proofs.Laws.{only-one}
 use Rattle.notices.specs.Notices.{only}
 use Rattle.notices.specs.Names.{RemainingTime}
 use Rattle.progress.proofs.Laws.{clamp-within}
-use Rattle.progress.specs.Progress.{wayAtRate, clamp, broughtWithin}
+use Rattle.progress.specs.Progress.{deltaAtRate, clamp, clampedSum}
 use Rattle.color.specs.declared.Color.{Color}
-use Rattle.color.specs.Form.{colorForm}
-use Rattle.color.proofs.Kept.{color-later, form-saturation, form-above, form-below, hue-kept, saturation-kept, mireds-kept, hue-few, saturation-few, mireds-few}
+use Rattle.color.specs.Valid.{colorValid}
+use Rattle.color.proofs.Kept.{color-later, valid-saturation, valid-above, valid-below, hue-kept, saturation-kept, mireds-kept, hue-few, saturation-few, mireds-few}
 use Rattle.tasks.specs.declared.HueDelta.{HueDelta}
 use Rattle.tasks.specs.declared.TargetSaturation.{TargetSaturation}
 use Rattle.tasks.specs.declared.HueSaturationMoveTo.{HueSaturationMoveTo}
@@ -35,44 +35,44 @@ use Rattle.tasks.specs.declared.ColorLoopRun.{ColorLoopRun}
 use Rattle.tasks.specs.declared.Running.{Running}
 use Rattle.tasks.specs.declared.Task.{Task}
 use Rattle.tasks.specs.Runs.{runs}
-use Rattle.tasks.specs.Form.{timeForm, rateForm, saturationForm, moveToForm, withinBounds, taskForm, runningForm}
+use Rattle.tasks.specs.Valid.{timeValid, rateValid, saturationValid, moveToValid, withinBounds, taskValid, runningValid}
 use Rattle.lamp.specs.declared.Lamp.{Lamp}
 use Rattle.lamp.specs.declared.Answer.{Answer}
-use Rattle.lamp.specs.Answers.{atClock, badClock, formOrClock, refusal}
+use Rattle.lamp.specs.Answers.{atClock, badClock, firstCause, refusal}
 use Rattle.matter.specs.Bounds.{lower, upper}
 use Rattle.lamp.specs.Calls.{fullWritten, startPermille, hueSaturationStart, temperatureToStart, temperatureStart, started, stepped, choose, startCause, stepCause, startAnswer, stepAnswer, haltAnswer}
-use Rattle.lamp.specs.Form.{lampForm}
+use Rattle.lamp.specs.Valid.{lampValid}
 use Rattle.matter.specs.Rules.{signed}
-use Rattle.lamp.specs.Passes.{Effect, unless, atEnd, saturationDone, miredsDone, hueMoved, hueMovedTold, saturationMoved, saturationMovedTold, leftWritten, miredsNow, hueSaturationPass, temperatureToPass, huePass, saturationPass, temperaturePass, loopPass}
+use Rattle.lamp.specs.Passes.{Effect, unless, atEnd, saturationDone, miredsDone, hueMoved, hueMovedReported, saturationMoved, saturationMovedReported, leftWritten, miredsNow, hueSaturationPass, temperatureToPass, huePass, saturationPass, temperaturePass, loopPass}
 
 -- ---- the parts of form
 
-module _ (l : Lamp) (formed : lampForm l ≡ true) where
+module _ (l : Lamp) (validity : lampValid l ≡ true) where
   -- the clock is at most the limit
-  pub form-clock : l .clock ≤ clockLimit
-  unfolding lampForm
-  form-clock = leb-true _ _ (each _ formed .0)
+  pub valid-clock : l .clock ≤ clockLimit
+  unfolding lampValid
+  valid-clock = leb-true _ _ (each _ validity .0)
 
-  -- the colour is in form
-  pub form-color : colorForm (l .color) (l .bounds) (l .clock) ≡ true
-  unfolding lampForm
-  form-color = each _ formed .1 .0
+  -- the colour is valid
+  pub valid-color : colorValid (l .color) (l .bounds) (l .clock) ≡ true
+  unfolding lampValid
+  valid-color = each _ validity .1 .0
 
-  -- the running record is in form
-  pub form-running : runningForm (l .running) (l .bounds) (l .clock) ≡ true
-  unfolding lampForm
-  form-running = each _ formed .1 .1 .0
+  -- the running record is valid
+  pub valid-running : runningValid (l .running) (l .bounds) (l .clock) ≡ true
+  unfolding lampValid
+  valid-running = each _ validity .1 .1 .0
 
--- a lamp with all three is in form
-pub form-of : (l : Lamp) → l .clock ≤ clockLimit → colorForm (l .color) (l .bounds) (l .clock) ≡ true → runningForm (l .running) (l .bounds) (l .clock) ≡ true → lampForm l ≡ true
-unfolding lampForm
-form-of l h c r = all-of _ (le-leb _ _ h, (c, (r, tt)))
+-- a lamp with all three is valid
+pub valid-of : (l : Lamp) → l .clock ≤ clockLimit → colorValid (l .color) (l .bounds) (l .clock) ≡ true → runningValid (l .running) (l .bounds) (l .clock) ≡ true → lampValid l ≡ true
+unfolding lampValid
+valid-of l h c r = all-of _ (le-leb _ _ h, (c, (r, tt)))
 
 -- ---- form lasts
 
--- a running record in form is in form at a later clock
-pub running-later : (r : Running) (b : Bounds) (c d : ℕ) → runningForm r b c ≡ true → c ≤ d → runningForm r b d ≡ true
-unfolding runningForm
+-- a running record valid is valid at a later clock
+pub running-later : (r : Running) (b : Bounds) (c d : ℕ) → runningValid r b c ≡ true → c ≤ d → runningValid r b d ≡ true
+unfolding runningValid
 running-later Running.Idle b c d e h = refl
 running-later (Running.HueSaturationMoveTo run) b c d e h =
     let (t, (m, (s, (z, tt)))) = each _ e in
@@ -89,11 +89,11 @@ running-later (Running.ColorTemperatureMove run) b c d e h =
     all-of _ (t, (m, (o, (p, (q, (leb-later _ c d z h, tt))))))
 running-later (Running.ColorLoop run) b c d e h = leb-later _ c d e h
 
--- a lamp in form is in form at a later clock, up to the limit
-pub later-form : (l : Lamp) (clock : ℕ) → lampForm l ≡ true → l .clock ≤ clock → clock ≤ clockLimit → lampForm (atClock l clock) ≡ true
-later-form l clock e h k =
-    form-of (atClock l clock) k (color-later (l .color) (l .bounds) (l .clock) clock (form-color l e) h)
-    (running-later (l .running) (l .bounds) (l .clock) clock (form-running l e) h)
+-- a lamp valid is valid at a later clock, up to the limit
+pub later-valid : (l : Lamp) (clock : ℕ) → lampValid l ≡ true → l .clock ≤ clock → clock ≤ clockLimit → lampValid (atClock l clock) ≡ true
+later-valid l clock e h k =
+    valid-of (atClock l clock) k (color-later (l .color) (l .bounds) (l .clock) clock (valid-color l e) h)
+    (running-later (l .running) (l .bounds) (l .clock) clock (valid-running l e) h)
 
 -- ---- a pass keeps form
 
@@ -105,142 +105,142 @@ within b n e = (leb-true _ _ (and-left (leb (b .min) n) _ e), leb-true _ _ (and-
 is-within : (b : Bounds) (n : ℕ) → b .min ≤ n → n ≤ b .max → withinBounds b n ≡ true
 is-within b n h k = rw (le-leb _ _ h, le-leb _ _ k)
 
-module _ (l : Lamp) (timely : l .clock ≤ clockLimit) (formed : colorForm (l .color) (l .bounds) (l .clock) ≡ true) where
+module _ (l : Lamp) (timely : l .clock ≤ clockLimit) (validity : colorValid (l .color) (l .bounds) (l .clock) ≡ true) where
   -- what runs on, or nothing at an end
-  unless-form : (end : Bool) (r : Running) → (end ≡ false → runningForm r (l .bounds) (l .clock) ≡ true) → runningForm (unless end r) (l .bounds) (l .clock) ≡ true
-  unfolding runningForm
-  unless-form end r h = cond-both (λ s. runningForm s (l .bounds) (l .clock) ≡ true) end _ r (λ e. refl) h
+  unless-valid : (end : Bool) (r : Running) → (end ≡ false → runningValid r (l .bounds) (l .clock) ≡ true) → runningValid (unless end r) (l .bounds) (l .clock) ≡ true
+  unfolding runningValid
+  unless-valid end r h = cond-both (λ s. runningValid s (l .bounds) (l .clock) ≡ true) end _ r (λ e. refl) h
 
   -- the hue's part of a move-to
-  hue-part : (d : HueDelta) (start permille : ℕ) (enhanced : Bool) → colorForm (hueMoved (l .color) d start permille enhanced (l .clock)) (l .bounds) (l .clock) ≡ true
-  hue-part HueDelta.Keep start permille enhanced = formed
-  hue-part (HueDelta.By way) start permille enhanced = hue-kept (l .color) (l .bounds) (l .clock) formed _ (atEnd permille) enhanced
+  hue-part : (d : HueDelta) (start permille : ℕ) (enhanced : Bool) → colorValid (hueMoved (l .color) d start permille enhanced (l .clock)) (l .bounds) (l .clock) ≡ true
+  hue-part HueDelta.Keep start permille enhanced = validity
+  hue-part (HueDelta.By way) start permille enhanced = hue-kept (l .color) (l .bounds) (l .clock) validity _ (atEnd permille) enhanced
 
-  -- the saturation's, on a colour in form
-  saturation-part : (c : Color) (t : TargetSaturation) (start permille : ℕ) → colorForm c (l .bounds) (l .clock) ≡ true → saturationForm t ≡ true → colorForm (saturationMoved c t start permille (l .clock)) (l .bounds) (l .clock) ≡ true
+  -- the saturation's, on a colour valid
+  saturation-part : (c : Color) (t : TargetSaturation) (start permille : ℕ) → colorValid c (l .bounds) (l .clock) ≡ true → saturationValid t ≡ true → colorValid (saturationMoved c t start permille (l .clock)) (l .bounds) (l .clock) ≡ true
   saturation-part c TargetSaturation.Keep start permille e h = e
   saturation-part c (TargetSaturation.To target) start permille e h =
       saturation-kept c (l .bounds) (l .clock) e _ (atEnd permille)
       (cond-both (λ n. n ≤ saturationLimit) (atEnd permille) target _ (λ t. leb-true _ _ h) (λ t. clamp-within 0 saturationLimit _ (omega arith) .1))
 
-  -- a pass of a move-to, whose record is in form unless it ends
-  pub hue-saturation-pass : (run : HueSaturationRun) (permille : ℕ) → saturationForm (run .task .saturation) ≡ true → (atEnd permille ≡ false → runningForm (Running.HueSaturationMoveTo run) (l .bounds) (l .clock) ≡ true) → lampForm (hueSaturationPass l run permille .lamp) ≡ true
+  -- a pass of a move-to, whose record is valid unless it ends
+  pub hue-saturation-pass : (run : HueSaturationRun) (permille : ℕ) → saturationValid (run .task .saturation) ≡ true → (atEnd permille ≡ false → runningValid (Running.HueSaturationMoveTo run) (l .bounds) (l .clock) ≡ true) → lampValid (hueSaturationPass l run permille .lamp) ≡ true
   unfolding hueSaturationPass
   hue-saturation-pass run permille h r =
-      form-of _ timely (saturation-part _ (run .task .saturation) (run .saturation) permille (hue-part (run .task .delta) (run .hue) permille (run .task .enhanced)) h)
-      (unless-form (atEnd permille) _ r)
+      valid-of _ timely (saturation-part _ (run .task .saturation) (run .saturation) permille (hue-part (run .task .delta) (run .hue) permille (run .task .enhanced)) h)
+      (unless-valid (atEnd permille) _ r)
 
   -- a pass of a move-to in mireds, likewise
-  pub temperature-to-pass : (run : ColorTemperatureToRun) (permille : ℕ) → withinBounds (l .bounds) (run .task .target) ≡ true → (atEnd permille ≡ false → runningForm (Running.ColorTemperatureMoveTo run) (l .bounds) (l .clock) ≡ true) → lampForm (temperatureToPass l run permille .lamp) ≡ true
+  pub temperature-to-pass : (run : ColorTemperatureToRun) (permille : ℕ) → withinBounds (l .bounds) (run .task .target) ≡ true → (atEnd permille ≡ false → runningValid (Running.ColorTemperatureMoveTo run) (l .bounds) (l .clock) ≡ true) → lampValid (temperatureToPass l run permille .lamp) ≡ true
   unfolding temperatureToPass
   temperature-to-pass run permille h r =
       let target : (l .bounds .min ≤ run .task .target) × (run .task .target ≤ l .bounds .max) = within (l .bounds) (run .task .target) h in
       let now : (l .bounds .min ≤ miredsNow (l .bounds) (run .mireds) (run .task .target) permille) × (miredsNow (l .bounds) (run .mireds) (run .task .target) permille ≤ l .bounds .max) =
       cond-both (λ n. (l .bounds .min ≤ n) × (n ≤ l .bounds .max)) (atEnd permille) _ _ (λ t. target) (λ t. clamp-within _ _ _ (omega arith))
       in
-      form-of _ timely (mireds-kept _ _ _ formed _ (atEnd permille) (now .0) (now .1)) (unless-form (atEnd permille) _ r)
+      valid-of _ timely (mireds-kept _ _ _ validity _ (atEnd permille) (now .0) (now .1)) (unless-valid (atEnd permille) _ r)
 
   -- a pass of a hue move
-  pub hue-pass : (run : HueRun) → runningForm (Running.HueMove run) (l .bounds) (l .clock) ≡ true → lampForm (huePass l run .lamp) ≡ true
+  pub hue-pass : (run : HueRun) → runningValid (Running.HueMove run) (l .bounds) (l .clock) ≡ true → lampValid (huePass l run .lamp) ≡ true
   unfolding huePass
-  hue-pass run r = form-of _ timely (hue-kept _ _ _ formed _ false (run .task .enhanced)) r
+  hue-pass run r = valid-of _ timely (hue-kept _ _ _ validity _ false (run .task .enhanced)) r
 
   -- a pass of a saturation move
-  pub saturation-pass : (run : SaturationRun) → runningForm (Running.SaturationMove run) (l .bounds) (l .clock) ≡ true → lampForm (saturationPass l run .lamp) ≡ true
+  pub saturation-pass : (run : SaturationRun) → runningValid (Running.SaturationMove run) (l .bounds) (l .clock) ≡ true → lampValid (saturationPass l run .lamp) ≡ true
   unfolding saturationPass
   saturation-pass run r =
-      let now : ℕ = broughtWithin 0 saturationLimit (run .saturation) (wayAtRate (signed (run .task .direction) (run .task .rate)) (l .clock - run .start)) in
+      let now : ℕ = clampedSum 0 saturationLimit (run .saturation) (deltaAtRate (signed (run .task .direction) (run .task .rate)) (l .clock - run .start)) in
       let end : Bool = saturationDone (run .task .direction) now in
-      form-of _ timely (saturation-kept _ _ _ formed now end (clamp-within 0 saturationLimit _ (omega arith) .1)) (unless-form end _ (λ e. r))
+      valid-of _ timely (saturation-kept _ _ _ validity now end (clamp-within 0 saturationLimit _ (omega arith) .1)) (unless-valid end _ (λ e. r))
 
   -- a pass of a temperature move
-  pub temperature-pass : (run : ColorTemperatureRun) → runningForm (Running.ColorTemperatureMove run) (l .bounds) (l .clock) ≡ true → lampForm (temperaturePass l run .lamp) ≡ true
-  unfolding temperaturePass runningForm
+  pub temperature-pass : (run : ColorTemperatureRun) → runningValid (Running.ColorTemperatureMove run) (l .bounds) (l .clock) ≡ true → lampValid (temperaturePass l run .lamp) ≡ true
+  unfolding temperaturePass runningValid
   temperature-pass run r =
       let (t, (m, (o, (p, (q, (z, tt)))))) = each _ r in
-      let now : ℕ = broughtWithin (run .lo) (run .hi) (run .mireds) (wayAtRate (run .rate) (l .clock - run .start)) in
+      let now : ℕ = clampedSum (run .lo) (run .hi) (run .mireds) (deltaAtRate (run .rate) (l .clock - run .start)) in
       let end : Bool = miredsDone (run .rate) (run .lo) (run .hi) now in
       let between : (run .lo ≤ now) × (now ≤ run .hi) = clamp-within (run .lo) (run .hi) _ (omega (arith, ltb-true (run .lo) (run .hi) o)) in
-      form-of _ timely (mireds-kept _ _ _ formed now end (omega (arith, within (l .bounds) (run .lo) p)) (omega (arith, within (l .bounds) (run .hi) q))) (unless-form end _ (λ e. r))
+      valid-of _ timely (mireds-kept _ _ _ validity now end (omega (arith, within (l .bounds) (run .lo) p)) (omega (arith, within (l .bounds) (run .hi) q))) (unless-valid end _ (λ e. r))
 
   -- a pass of the colour loop
-  pub loop-pass : (run : ColorLoopRun) → runningForm (Running.ColorLoop run) (l .bounds) (l .clock) ≡ true → lampForm (loopPass l run .lamp) ≡ true
+  pub loop-pass : (run : ColorLoopRun) → runningValid (Running.ColorLoop run) (l .bounds) (l .clock) ≡ true → lampValid (loopPass l run .lamp) ≡ true
   unfolding loopPass
-  loop-pass run r = form-of _ timely (hue-kept _ _ _ formed _ false true) r
+  loop-pass run r = valid-of _ timely (hue-kept _ _ _ validity _ false true) r
 
 -- ---- a start keeps form
 
 -- a move-to that does not end at once takes time
-takes-time : (ms : ℕ) (noWay : Bool) → atEnd (startPermille ms noWay) ≡ false → ltb 0 ms ≡ true
-takes-time zero noWay e = sym e
-takes-time (suc n) noWay e = lt-ltb 0 (suc n) (omega arith)
+takes-time : (ms : ℕ) (noDelta : Bool) → atEnd (startPermille ms noDelta) ≡ false → ltb 0 ms ≡ true
+takes-time zero noDelta e = sym e
+takes-time (suc n) noDelta e = lt-ltb 0 (suc n) (omega arith)
 
-module _ (l : Lamp) (formed : lampForm l ≡ true) where
+module _ (l : Lamp) (validity : lampValid l ≡ true) where
   -- a start of a move-to
-  move-to-start : (task : HueSaturationMoveTo) → moveToForm task ≡ true → lampForm (hueSaturationStart l task .lamp) ≡ true
-  unfolding hueSaturationStart moveToForm runningForm
+  move-to-start : (task : HueSaturationMoveTo) → moveToValid task ≡ true → lampValid (hueSaturationStart l task .lamp) ≡ true
+  unfolding hueSaturationStart moveToValid runningValid
   move-to-start task e =
-      hue-saturation-pass _ (form-clock l formed) (form-color l formed) _ _ (each _ e .1 .1 .0)
-      (λ t. all-of _ (e, (takes-time (task .ms) _ t, (le-leb _ _ (form-saturation _ _ _ (form-color l formed)), (le-leb (l .clock) _ (omega arith), tt)))))
+      hue-saturation-pass _ (valid-clock l validity) (valid-color l validity) _ _ (each _ e .1 .1 .0)
+      (λ t. all-of _ (e, (takes-time (task .ms) _ t, (le-leb _ _ (valid-saturation _ _ _ (valid-color l validity)), (le-leb (l .clock) _ (omega arith), tt)))))
 
   -- of one in mireds
-  temperature-to-start : (task : ColorTemperatureMoveTo) → timeForm (task .ms) ≡ true → lampForm (temperatureToStart l task .lamp) ≡ true
-  unfolding temperatureToStart runningForm
+  temperature-to-start : (task : ColorTemperatureMoveTo) → timeValid (task .ms) ≡ true → lampValid (temperatureToStart l task .lamp) ≡ true
+  unfolding temperatureToStart runningValid
   temperature-to-start task e =
-      let c : colorForm (l .color) (l .bounds) (l .clock) ≡ true = form-color l formed in
-      let found : (l .bounds .min ≤ l .color .mireds) × (l .color .mireds ≤ l .bounds .max) = (form-above _ _ _ c, form-below _ _ _ c) in
+      let c : colorValid (l .color) (l .bounds) (l .clock) ≡ true = valid-color l validity in
+      let found : (l .bounds .min ≤ l .color .mireds) × (l .color .mireds ≤ l .bounds .max) = (valid-above _ _ _ c, valid-below _ _ _ c) in
       let target : _ = clamp-within (l .bounds .min) (l .bounds .max) (pos (task .target)) (omega arith) in
       let to : withinBounds (l .bounds) (clamp (l .bounds .min) (l .bounds .max) (pos (task .target))) ≡ true = is-within _ _ (target .0) (target .1) in
-      temperature-to-pass _ (form-clock l formed) c _ _ to
+      temperature-to-pass _ (valid-clock l validity) c _ _ to
       (λ t. all-of _ (e, (takes-time (task .ms) _ t, (is-within _ _ (found .0) (found .1), (to, (le-leb (l .clock) _ (omega arith), tt))))))
 
   -- of a temperature move
-  temperature-start : (task : ColorTemperatureMove) → rateForm (task .rate) ≡ true → lampForm (temperatureStart l task .lamp) ≡ true
-  unfolding temperatureStart runningForm
+  temperature-start : (task : ColorTemperatureMove) → rateValid (task .rate) ≡ true → lampValid (temperatureStart l task .lamp) ≡ true
+  unfolding temperatureStart runningValid
   temperature-start task e =
-      let c : colorForm (l .color) (l .bounds) (l .clock) ≡ true = form-color l formed in
+      let c : colorValid (l .color) (l .bounds) (l .clock) ≡ true = valid-color l validity in
       let low : ℕ = lower (l .bounds) (task .min) in
       let high : ℕ = upper (l .bounds) (task .max) in
-      cond-both (λ (f : Effect). lampForm (f .lamp) ≡ true) (leb high low) _ _
-      (λ t. form-of _ (form-clock l formed) c refl)
+      cond-both (λ (f : Effect). lampValid (f .lamp) ≡ true) (leb high low) _ _
+      (λ t. valid-of _ (valid-clock l validity) c refl)
       (λ t.
       let apart : low < high = leb-false high low t in
-      temperature-pass l (form-clock l formed) c _
+      temperature-pass l (valid-clock l validity) c _
       (all-of _
-      (e, (is-within _ _ (form-above _ _ _ c) (form-below _ _ _ c), (lt-ltb _ _ apart, (is-within _ low (omega arith) (omega arith), (is-within _ high (omega arith) (omega arith), (le-leb (l .clock) _ (omega arith), tt))))))))
+      (e, (is-within _ _ (valid-above _ _ _ c) (valid-below _ _ _ c), (lt-ltb _ _ apart, (is-within _ low (omega arith) (omega arith), (is-within _ high (omega arith) (omega arith), (le-leb (l .clock) _ (omega arith), tt))))))))
 
-  -- a start of a task in form
-  pub started-form : (task : Task) → taskForm task ≡ true → lampForm (started l task .lamp) ≡ true
-  unfolding started taskForm runningForm
-  started-form (Task.HueSaturationMoveTo task) e = move-to-start task e
-  started-form (Task.HueMove task) e =
-      hue-pass l (form-clock l formed) (form-color l formed) _ (all-of _ (e, (le-leb (l .clock) _ (omega arith), tt)))
-  started-form (Task.SaturationMove task) e =
-      saturation-pass l (form-clock l formed) (form-color l formed) _
-      (all-of _ (e, (le-leb _ _ (form-saturation _ _ _ (form-color l formed)), (le-leb (l .clock) _ (omega arith), tt))))
-  started-form (Task.ColorTemperatureMoveTo task) e = temperature-to-start task e
-  started-form (Task.ColorTemperatureMove task) e = temperature-start task e
-  started-form (Task.ColorLoop task) e = loop-pass l (form-clock l formed) (form-color l formed) _ (le-leb (l .clock) _ (omega arith))
-  started-form Task.Stop e = formed
+  -- a start of a task valid
+  pub started-valid : (task : Task) → taskValid task ≡ true → lampValid (started l task .lamp) ≡ true
+  unfolding started taskValid runningValid
+  started-valid (Task.HueSaturationMoveTo task) e = move-to-start task e
+  started-valid (Task.HueMove task) e =
+      hue-pass l (valid-clock l validity) (valid-color l validity) _ (all-of _ (e, (le-leb (l .clock) _ (omega arith), tt)))
+  started-valid (Task.SaturationMove task) e =
+      saturation-pass l (valid-clock l validity) (valid-color l validity) _
+      (all-of _ (e, (le-leb _ _ (valid-saturation _ _ _ (valid-color l validity)), (le-leb (l .clock) _ (omega arith), tt))))
+  started-valid (Task.ColorTemperatureMoveTo task) e = temperature-to-start task e
+  started-valid (Task.ColorTemperatureMove task) e = temperature-start task e
+  started-valid (Task.ColorLoop task) e = loop-pass l (valid-clock l validity) (valid-color l validity) _ (le-leb (l .clock) _ (omega arith))
+  started-valid Task.Stop e = validity
 
 -- ---- a step keeps form
 
--- whatever record it is given, if that is in form
-step-of : (l : Lamp) (r : Running) → lampForm l ≡ true → runningForm r (l .bounds) (l .clock) ≡ true → lampForm (stepped l r .lamp) ≡ true
-unfolding stepped runningForm moveToForm
+-- whatever record it is given, if that is valid
+step-of : (l : Lamp) (r : Running) → lampValid l ≡ true → runningValid r (l .bounds) (l .clock) ≡ true → lampValid (stepped l r .lamp) ≡ true
+unfolding stepped runningValid moveToValid
 step-of l Running.Idle h e = h
 step-of l (Running.HueSaturationMoveTo run) h e =
-    hue-saturation-pass l (form-clock l h) (form-color l h) run _ (each _ (each _ e .0) .1 .1 .0) (λ t. e)
-step-of l (Running.HueMove run) h e = hue-pass l (form-clock l h) (form-color l h) run e
-step-of l (Running.SaturationMove run) h e = saturation-pass l (form-clock l h) (form-color l h) run e
+    hue-saturation-pass l (valid-clock l h) (valid-color l h) run _ (each _ (each _ e .0) .1 .1 .0) (λ t. e)
+step-of l (Running.HueMove run) h e = hue-pass l (valid-clock l h) (valid-color l h) run e
+step-of l (Running.SaturationMove run) h e = saturation-pass l (valid-clock l h) (valid-color l h) run e
 step-of l (Running.ColorTemperatureMoveTo run) h e =
-    temperature-to-pass l (form-clock l h) (form-color l h) run _ (each _ e .1 .1 .1 .0) (λ t. e)
-step-of l (Running.ColorTemperatureMove run) h e = temperature-pass l (form-clock l h) (form-color l h) run e
-step-of l (Running.ColorLoop run) h e = loop-pass l (form-clock l h) (form-color l h) run e
+    temperature-to-pass l (valid-clock l h) (valid-color l h) run _ (each _ e .1 .1 .1 .0) (λ t. e)
+step-of l (Running.ColorTemperatureMove run) h e = temperature-pass l (valid-clock l h) (valid-color l h) run e
+step-of l (Running.ColorLoop run) h e = loop-pass l (valid-clock l h) (valid-color l h) run e
 
 -- a step of what runs
-pub stepped-form : (l : Lamp) → lampForm l ≡ true → lampForm (stepped l (l .running) .lamp) ≡ true
-stepped-form l h = step-of l (l .running) h (form-running l h)
+pub stepped-valid : (l : Lamp) → lampValid l ≡ true → lampValid (stepped l (l .running) .lamp) ≡ true
+stepped-valid l h = step-of l (l .running) h (valid-running l h)
 
 -- ---- what an accepted call says
 
@@ -269,26 +269,26 @@ module _ (l : Lamp) (clock : ℕ) where
       both true b p q h = absurd (true≢false h)
       both false true p q h = absurd (true≢false h)
 
-  -- neither 8 nor 4: the lamp at the call's clock is in form
-  pub ready : formOrClock l clock ≡ 0 → lampForm (atClock l clock) ≡ true
-  unfolding formOrClock
+  -- neither 8 nor 4: the lamp at the call's clock is valid
+  pub ready : firstCause l clock ≡ 0 → lampValid (atClock l clock) ≡ true
+  unfolding firstCause
   ready e =
-      let (f, c) = no-first (not (lampForm l)) 7 _ e in
+      let (f, c) = no-first (not (lampValid l)) 7 _ e in
       let (h, k) = good-clock (no-first (badClock l clock) 3 0 c .0) in
-      later-form l clock (not-false _ f) h k
+      later-valid l clock (not-false _ f) h k
 
-  -- an accepted start: ready, and its task is in form
-  pub start-ready : (task : Task) → startCause l task clock ≡ 0 → (lampForm (atClock l clock) ≡ true) × (taskForm task ≡ true)
+  -- an accepted start: ready, and its task is valid
+  pub start-ready : (task : Task) → startCause l task clock ≡ 0 → (lampValid (atClock l clock) ≡ true) × (taskValid task ≡ true)
   start-ready task e =
-      let (f, t) = no-cause (formOrClock l clock) _ e in
-      (ready f, no-second (taskForm task) 5 t)
+      let (f, t) = no-cause (firstCause l clock) _ e in
+      (ready f, no-second (taskValid task) 5 t)
 
   -- an accepted step: ready
-  pub step-ready : stepCause l clock ≡ 0 → lampForm (atClock l clock) ≡ true
+  pub step-ready : stepCause l clock ≡ 0 → lampValid (atClock l clock) ≡ true
   step-ready e =
-      let (f, r) = no-first (not (lampForm l)) 7 _ e in
+      let (f, r) = no-first (not (lampValid l)) 7 _ e in
       let (h, k) = good-clock (no-first (badClock l clock) 3 0 (no-first (not (runs (l .running))) 6 _ r .1) .0) in
-      later-form l clock (not-false _ f) h k
+      later-valid l clock (not-false _ f) h k
 
 -- ---- answers keep form
 
@@ -296,98 +296,98 @@ module _ (l : Lamp) (clock : ℕ) where
 pub choose-both : (P : Answer → Type 0) (cause : ℕ) (l : Lamp) (a : Answer) → (cause ≡ 0 → P a) → ((cause ≡ 0 → ⊥) → P (refusal l cause)) → P (choose cause l a)
 choose-both P cause l a h k = cond-both P (eqb cause 0) a (refusal l cause) (λ e. h (eqb-true cause 0 e)) (λ e. k (eqb-false cause 0 e))
 
-module _ (l : Lamp) (clock : ℕ) (formed : lampForm l ≡ true) where
+module _ (l : Lamp) (clock : ℕ) (validity : lampValid l ≡ true) where
   -- a start's answer
-  pub start-form : (task : Task) → lampForm (startAnswer l task clock .lamp) ≡ true
+  pub start-valid : (task : Task) → lampValid (startAnswer l task clock .lamp) ≡ true
   unfolding startAnswer
-  start-form task =
-      choose-both (λ a. lampForm (a .lamp) ≡ true) (startCause l task clock) l _
-      (λ e. let (h, t) = start-ready l clock task e in started-form (atClock l clock) h task t)
-      (λ e. formed)
+  start-valid task =
+      choose-both (λ a. lampValid (a .lamp) ≡ true) (startCause l task clock) l _
+      (λ e. let (h, t) = start-ready l clock task e in started-valid (atClock l clock) h task t)
+      (λ e. validity)
 
   -- a step's
-  pub step-form : lampForm (stepAnswer l clock .lamp) ≡ true
+  pub step-valid : lampValid (stepAnswer l clock .lamp) ≡ true
   unfolding stepAnswer
-  step-form =
-      choose-both (λ a. lampForm (a .lamp) ≡ true) (stepCause l clock) l _ (λ e. stepped-form (atClock l clock) (step-ready l clock e)) (λ e. formed)
+  step-valid =
+      choose-both (λ a. lampValid (a .lamp) ≡ true) (stepCause l clock) l _ (λ e. stepped-valid (atClock l clock) (step-ready l clock e)) (λ e. validity)
 
   -- a halt's
-  pub halt-form : lampForm (haltAnswer l clock .lamp) ≡ true
-  unfolding haltAnswer runningForm
-  halt-form =
-      choose-both (λ a. lampForm (a .lamp) ≡ true) (formOrClock l clock) l _
-      (λ e. let h : lampForm (atClock l clock) ≡ true = ready l clock e in form-of _ (form-clock _ h) (form-color _ h) refl)
-      (λ e. formed)
+  pub halt-valid : lampValid (haltAnswer l clock .lamp) ≡ true
+  unfolding haltAnswer runningValid
+  halt-valid =
+      choose-both (λ a. lampValid (a .lamp) ≡ true) (firstCause l clock) l _
+      (λ e. let h : lampValid (atClock l clock) ≡ true = ready l clock e in valid-of _ (valid-clock _ h) (valid-color _ h) refl)
+      (λ e. validity)
 
--- ---- a start or step tells few
+-- ---- a start or step reports few
 
--- the hue's part of a move-to tells at most six
-hue-part-few : (c : Color) (d : HueDelta) (start permille : ℕ) (enhanced : Bool) (clock : ℕ) (active : Bool) → length (hueMovedTold c d start permille enhanced clock active) ≤ 6
+-- the hue's part of a move-to reports at most six
+hue-part-few : (c : Color) (d : HueDelta) (start permille : ℕ) (enhanced : Bool) (clock : ℕ) (active : Bool) → length (hueMovedReported c d start permille enhanced clock active) ≤ 6
 hue-part-few c HueDelta.Keep start permille enhanced clock active = omega arith
 hue-part-few c (HueDelta.By way) start permille enhanced clock active = hue-few c _ (atEnd permille) clock active enhanced
 
 -- the saturation's at most five
-saturation-part-few : (c : Color) (t : TargetSaturation) (start permille clock : ℕ) (active : Bool) → length (saturationMovedTold c t start permille clock active) ≤ 5
+saturation-part-few : (c : Color) (t : TargetSaturation) (start permille clock : ℕ) (active : Bool) → length (saturationMovedReported c t start permille clock active) ≤ 5
 saturation-part-few c TargetSaturation.Keep start permille clock active = omega arith
 saturation-part-few c (TargetSaturation.To target) start permille clock active = saturation-few c _ (atEnd permille) clock active
 
 module _ (l : Lamp) where
-  -- a pass of a move-to tells at most 13
-  hue-saturation-few : (run : HueSaturationRun) (permille : ℕ) → length (hueSaturationPass l run permille .told) ≤ 13
+  -- a pass of a move-to reports at most 13
+  hue-saturation-few : (run : HueSaturationRun) (permille : ℕ) → length (hueSaturationPass l run permille .reported) ≤ 13
   unfolding hueSaturationPass
   hue-saturation-few run permille =
       let hued : Color = hueMoved (l .color) (run .task .delta) (run .hue) permille (run .task .enhanced) (l .clock) in
       simp length-append
       (omega
-      (arith, hue-part-few (l .color) (run .task .delta) (run .hue) permille (run .task .enhanced) (l .clock) (l .looping .active), saturation-part-few hued (run .task .saturation) (run .saturation) permille (l .clock) (l .looping .active), only-one (leftWritten l (atEnd permille) (l .clock - run .start) (run .task .ms) .told) RemainingTime))
+      (arith, hue-part-few (l .color) (run .task .delta) (run .hue) permille (run .task .enhanced) (l .clock) (l .looping .active), saturation-part-few hued (run .task .saturation) (run .saturation) permille (l .clock) (l .looping .active), only-one (leftWritten l (atEnd permille) (l .clock - run .start) (run .task .ms) .reported) RemainingTime))
 
   -- so does one in mireds
-  temperature-to-few : (run : ColorTemperatureToRun) (permille : ℕ) → length (temperatureToPass l run permille .told) ≤ 13
+  temperature-to-few : (run : ColorTemperatureToRun) (permille : ℕ) → length (temperatureToPass l run permille .reported) ≤ 13
   unfolding temperatureToPass
   temperature-to-few run permille =
       simp length-append
       (omega
-      (arith, mireds-few (l .color) (miredsNow (l .bounds) (run .mireds) (run .task .target) permille) (atEnd permille) (l .clock) (l .looping .active), only-one (leftWritten l (atEnd permille) (l .clock - run .start) (run .task .ms) .told) RemainingTime))
+      (arith, mireds-few (l .color) (miredsNow (l .bounds) (run .mireds) (run .task .target) permille) (atEnd permille) (l .clock) (l .looping .active), only-one (leftWritten l (atEnd permille) (l .clock - run .start) (run .task .ms) .reported) RemainingTime))
 
   -- of a hue move
-  hue-pass-few : (run : HueRun) → length (huePass l run .told) ≤ 13
+  hue-pass-few : (run : HueRun) → length (huePass l run .reported) ≤ 13
   unfolding huePass
   hue-pass-few run = rw length-append (le-trans (add-le-add (hue-few _ _ _ _ _ _) (le-refl 1)) (omega arith))
 
   -- of a saturation move
-  saturation-pass-few : (run : SaturationRun) → length (saturationPass l run .told) ≤ 13
+  saturation-pass-few : (run : SaturationRun) → length (saturationPass l run .reported) ≤ 13
   unfolding saturationPass
   saturation-pass-few run = rw length-append (le-trans (add-le-add (saturation-few _ _ _ _ _) (le-refl 1)) (omega arith))
 
   -- of a temperature move
-  temperature-pass-few : (run : ColorTemperatureRun) → length (temperaturePass l run .told) ≤ 13
+  temperature-pass-few : (run : ColorTemperatureRun) → length (temperaturePass l run .reported) ≤ 13
   unfolding temperaturePass
   temperature-pass-few run = rw length-append (le-trans (add-le-add (mireds-few _ _ _ _ _) (le-refl 1)) (omega arith))
 
   -- of the colour loop
-  loop-pass-few : (run : ColorLoopRun) → length (loopPass l run .told) ≤ 13
+  loop-pass-few : (run : ColorLoopRun) → length (loopPass l run .reported) ≤ 13
   unfolding loopPass
   loop-pass-few run = rw length-append (le-trans (add-le-add (hue-few _ _ _ _ _ _) (le-refl 1)) (omega arith))
 
 -- a notice of the remaining time comes before a move-to's first pass
-with-time : (l : Lamp) (ms : ℕ) (told : List ℕ) → length told ≤ 13 → length (only (fullWritten l ms .told) RemainingTime ++ told) ≤ 14
-with-time l ms told h = simp length-append (omega (arith, only-one (fullWritten l ms .told) RemainingTime))
+with-time : (l : Lamp) (ms : ℕ) (reported : List ℕ) → length reported ≤ 13 → length (only (fullWritten l ms .reported) RemainingTime ++ reported) ≤ 14
+with-time l ms reported h = simp length-append (omega (arith, only-one (fullWritten l ms .reported) RemainingTime))
 
 module _ (l : Lamp) where
-  -- a start tells at most 14
-  pub started-few : (task : Task) → length (started l task .told) ≤ 14
+  -- a start reports at most 14
+  pub started-few : (task : Task) → length (started l task .reported) ≤ 14
   unfolding started hueSaturationStart temperatureToStart temperatureStart
   started-few (Task.HueSaturationMoveTo task) = with-time l (task .ms) _ (hue-saturation-few _ _ _)
   started-few (Task.HueMove task) = le-trans (hue-pass-few l _) (omega arith)
   started-few (Task.SaturationMove task) = le-trans (saturation-pass-few l _) (omega arith)
   started-few (Task.ColorTemperatureMoveTo task) = with-time l (task .ms) _ (temperature-to-few _ _ _)
   started-few (Task.ColorTemperatureMove task) =
-      cond-both (λ (e : Effect). length (e .told) ≤ 14) (leb (upper (l .bounds) (task .max)) (lower (l .bounds) (task .min))) _ _ (λ t. zero-le) (λ t. le-trans (temperature-pass-few l _) (omega arith))
+      cond-both (λ (e : Effect). length (e .reported) ≤ 14) (leb (upper (l .bounds) (task .max)) (lower (l .bounds) (task .min))) _ _ (λ t. zero-le) (λ t. le-trans (temperature-pass-few l _) (omega arith))
   started-few (Task.ColorLoop task) = le-trans (loop-pass-few l _) (omega arith)
   started-few Task.Stop = omega arith
 
   -- and so does a step
-  pub stepped-few : (r : Running) → length (stepped l r .told) ≤ 14
+  pub stepped-few : (r : Running) → length (stepped l r .reported) ≤ 14
   unfolding stepped
   stepped-few Running.Idle = omega arith
   stepped-few (Running.HueSaturationMoveTo run) = le-trans (hue-saturation-few l run _) (omega arith)

@@ -1,4 +1,4 @@
--- Making and refusals: each number in its cause and in no other, and a lamp that is made is in form.
+-- Making and refusals: each number in its cause and in no other, and a lamp that is made is valid.
 use Prim.Native.Nat.{ℕ, _≤_, _<_}
 use mathlib.Core.Option.{some, none}
 use mathlib.Core.Bool.{Bool, true, false, cond}
@@ -14,13 +14,13 @@ use Rattle.matter.specs.Limits.{clockLimit}
 use Rattle.matter.specs.Rules.{colorModeOf, defaultColorMode}
 use Rattle.progress.specs.Progress.{clamp}
 use Rattle.progress.proofs.Laws.{clamp-within}
-use Rattle.color.specs.Form.{modesAgree, colorForm}
+use Rattle.color.specs.Valid.{modesAgree, colorValid}
 use Rattle.color.specs.Making.{newColor}
-use Rattle.tasks.specs.Form.{runningForm}
+use Rattle.tasks.specs.Valid.{runningValid}
 use Rattle.lamp.specs.declared.Lamp.{Lamp}
 use Rattle.lamp.specs.declared.Made.{Made}
-use Rattle.lamp.specs.Answers.{badClock, formOrClock}
-use Rattle.lamp.specs.Form.{lampForm}
+use Rattle.lamp.specs.Answers.{badClock, firstCause}
+use Rattle.lamp.specs.Valid.{lampValid}
 use Rattle.lamp.specs.Making.{freshLamp, makingCause, making, madeValues, makingValues}
 
 -- ---- making: 4 exactly above the limit, whatever the bounds; 5 exactly at a good clock with crossed bounds
@@ -47,7 +47,7 @@ unfolding making makingValues
 made-values bounds features options clock =
     values-by (makingCause bounds clock) (freshLamp bounds features options clock) (eqb (makingCause bounds clock) 0) refl
 
--- ---- a lamp that is made is in form
+-- ---- a lamp that is made is valid
 
 own-mode : (e : EnhancedColorModeEnum) → modesAgree (colorModeOf e) e ≡ true
 own-mode EnhancedColorModeEnum.CurrentHueAndCurrentSaturation = refl
@@ -56,16 +56,16 @@ own-mode EnhancedColorModeEnum.ColorTemperatureMireds = refl
 own-mode EnhancedColorModeEnum.EnhancedCurrentHueAndCurrentSaturation = refl
 
 module _ (bounds : Bounds) (features options clock : ℕ) (ordered : bounds .min ≤ bounds .max) (timely : clock ≤ clockLimit) where
-  new-color-form : colorForm (newColor features bounds) bounds clock ≡ true
-  unfolding colorForm
-  new-color-form =
+  new-color-valid : colorValid (newColor features bounds) bounds clock ≡ true
+  unfolding colorValid
+  new-color-valid =
       let within : (bounds .min ≤ clamp (bounds .min) (bounds .max) (pos 250)) × (clamp (bounds .min) (bounds .max) (pos 250) ≤ bounds .max) = clamp-within (bounds .min) (bounds .max) (pos 250) ordered in
       all-of _
       (refl, (le-leb _ _ (within .0), (le-leb _ _ (within .1), (le-leb _ _ ordered, (own-mode (defaultColorMode features), (le-leb 0 clock (omega arith), (le-leb 0 clock (omega arith), (le-leb 0 clock (omega arith), tt))))))))
 
-  pub fresh-form : lampForm (freshLamp bounds features options clock) ≡ true
-  unfolding lampForm runningForm
-  fresh-form = all-of _ (le-leb clock clockLimit timely, (new-color-form, (refl, tt)))
+  pub fresh-valid : lampValid (freshLamp bounds features options clock) ≡ true
+  unfolding lampValid runningValid
+  fresh-valid = all-of _ (le-leb clock clockLimit timely, (new-color-valid, (refl, tt)))
 
 -- ---- "clock earlier than the lamp's, or above 1,099,511,627,776": the limit itself is good, the number above it is not
 
@@ -78,17 +78,17 @@ pub clock-own : (l : Lamp) (before : ℕ) → l .clock ≤ 1099511627776 → bef
 clock-own l before h k =
     (simp (le-ltb (l .clock) (l .clock) (omega arith), le-ltb 1099511627776 (l .clock) h), simp (lt-ltb before (l .clock) k))
 
--- ---- 8 exactly out of form, whatever the clock; 4 exactly in form at a bad clock
+-- ---- 8 exactly invalid, whatever the clock; 4 exactly valid at a bad clock
 
 module _ (l : Lamp) (clock : ℕ) where
-  pub form-first : lampForm l ≡ false → formOrClock l clock ≡ 8
-  unfolding formOrClock
-  form-first h = simp h
+  pub valid-first : lampValid l ≡ false → firstCause l clock ≡ 8
+  unfolding firstCause
+  valid-first h = simp h
 
-  pub clock-second : lampForm l ≡ true → badClock l clock ≡ true → formOrClock l clock ≡ 4
-  unfolding formOrClock
+  pub clock-second : lampValid l ≡ true → badClock l clock ≡ true → firstCause l clock ≡ 4
+  unfolding firstCause
   clock-second h k = simp (h, k)
 
-  pub neither : lampForm l ≡ true → badClock l clock ≡ false → formOrClock l clock ≡ 0
-  unfolding formOrClock
+  pub neither : lampValid l ≡ true → badClock l clock ≡ false → firstCause l clock ≡ 0
+  unfolding firstCause
   neither h k = simp (h, k)

@@ -1,4 +1,4 @@
 pub mod Shared
 pub mod Kept
 pub mod Laws
-pub mod TypedKept
+pub mod InRangeKept

@@ -17,7 +17,7 @@ use Rattle.notices.specs.Notices.{pushed, pushedAll}
 use Rattle.notices.proofs.Laws.{pushed-append, pushed-behind}
 use Rattle.progress.specs.Progress.{limited}
 use Rattle.progress.proofs.Laws.{limited-same}
-use Rattle.tasks.specs.Form.{small, rateForm}
+use Rattle.tasks.specs.Valid.{small, rateValid}
 use Rattle.matter.specs.Rules.{signed}
 
 -- ---- integers within ±65,535
@@ -26,14 +26,14 @@ small-size : (z : ℤ) → leZ (negℤ (pos 65535)) z ≡ true → leZ z (pos 65
 small-size (pos n) h k = leb-true n 65535 k
 small-size (negsuc n) h k = omega (arith, leb-true n 65534 h)
 
--- ways and rates in form are read as they are
+-- ways and rates valid are read as they are
 pub small-same : (z : ℤ) → small z ≡ true → limited z ≡ z
 small-same z h =
     let low : leZ (negℤ (pos 65535)) z ≡ true = and-left (leZ (negℤ (pos 65535)) z) (leZ z (pos 65535)) h in
     let high : leZ z (pos 65535) ≡ true = and-right (leZ (negℤ (pos 65535)) z) (leZ z (pos 65535)) h in
     limited-same z (small-size z low high)
 
-pub rate-same : (z : ℤ) → rateForm z ≡ true → limited z ≡ z
+pub rate-same : (z : ℤ) → rateValid z ≡ true → limited z ≡ z
 rate-same z h = small-same z (and-right (not (eqb (natAbs z) 0)) (small z) h)
 
 signed-size : (mode : MoveModeEnum) (rate : ℕ) → natAbs (signed mode rate) ≤ rate

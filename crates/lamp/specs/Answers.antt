@@ -3,13 +3,13 @@ use Prim.Native.Nat.{ℕ}
 use mathlib.Core.Bool.{Bool, not, cond, _||_}
 use mathlib.Core.List.{[]}
 use lib.Dec.{ltb}
-use Rattle.matter.specs.Causes.{accepted, clockRefused, lampOutOfForm}
+use Rattle.matter.specs.Causes.{accepted, clockRefused, invalidLamp}
 use Rattle.matter.specs.Limits.{clockLimit}
 use Rattle.notices.specs.Notices.{noted}
 use Rattle.tasks.specs.declared.GivenTask.{GivenTask}
 use Rattle.lamp.specs.declared.Lamp.{Lamp}
 use Rattle.lamp.specs.declared.Answer.{Answer}
-use Rattle.lamp.specs.Form.{lampForm}
+use Rattle.lamp.specs.Valid.{lampValid}
 
 -- the lamp at another clock
 abbrev pub atClock : Lamp → ℕ → Lamp
@@ -21,8 +21,8 @@ abbrev pub badClock : Lamp → ℕ → Bool
 badClock l clock = ltb clock (l .clock) || ltb clockLimit clock
 
 -- 8, then 4: what a halt looks at, and a command and a start before all else
-unfoldable pub formOrClock : Lamp → ℕ → ℕ
-formOrClock l clock = cond (not (lampForm l)) lampOutOfForm (cond (badClock l clock) clockRefused accepted)
+unfoldable pub firstCause : Lamp → ℕ → ℕ
+firstCause l clock = cond (not (lampValid l)) invalidLamp (cond (badClock l clock) clockRefused accepted)
 
 -- "the number", the lamp as it was, "list empty"; "A refusal has no task and wait 0"
 abbrev pub refusal : Lamp → ℕ → Answer

@@ -6,7 +6,7 @@ use lib.Dec.{leb, eqb}
 use lib.IntN.{pos, natAbs}
 use lib.Signed.{leZ}
 use Rattle.matter.specs.declared.limits.Bounds.{Bounds}
-use Rattle.matter.specs.Causes.{accepted, clockRefused, taskOutOfForm, stepWhileIdle, lampOutOfForm}
+use Rattle.matter.specs.Causes.{accepted, clockRefused, invalidTask, stepWhileIdle, invalidLamp}
 use Rattle.matter.specs.Bounds.{lower, upper}
 use Rattle.notices.specs.Notices.{only, noted}
 use Rattle.notices.specs.Names.{RemainingTime}
@@ -21,12 +21,12 @@ use Rattle.tasks.specs.declared.ColorTemperatureMoveTo.{ColorTemperatureMoveTo}
 use Rattle.tasks.specs.declared.ColorTemperatureMove.{ColorTemperatureMove}
 use Rattle.tasks.specs.declared.Task.{Task}
 use Rattle.tasks.specs.declared.Running.{Running}
-use Rattle.tasks.specs.Form.{taskForm}
+use Rattle.tasks.specs.Valid.{taskValid}
 use Rattle.tasks.specs.Runs.{runs}
 use Rattle.lamp.specs.declared.Lamp.{Lamp}
 use Rattle.lamp.specs.declared.Answer.{Answer}
-use Rattle.lamp.specs.Answers.{atClock, badClock, formOrClock, refusal}
-use Rattle.lamp.specs.Form.{lampForm}
+use Rattle.lamp.specs.Answers.{atClock, badClock, firstCause, refusal}
+use Rattle.lamp.specs.Valid.{lampValid}
 use Rattle.lamp.specs.Passes.{Effect, moved, remainingSet, hueSaturationPass, temperatureToPass, huePass, saturationPass, temperaturePass, loopPass}
 
 -- ---- starts: the lamp is at the call's clock already
@@ -37,35 +37,35 @@ fullWritten l ms = writtenQuietly (l .remaining) ms true
 
 -- what stands before a pass comes first
 abbrev pub after : List ℕ → Effect → Effect
-after told e = record { lamp = e .lamp; told = told ++ e .told; wait = e .wait }
+after reported e = record { lamp = e .lamp; reported = reported ++ e .reported; wait = e .wait }
 
 -- no way at all: that of the hue is 0 or none is moved, and the saturation is there or none is moved
-abbrev pub noHueWay : HueDelta → Bool
-noHueWay HueDelta.Keep = true
-noHueWay (HueDelta.By way) = eqb (natAbs way) 0
+abbrev pub noHueDelta : HueDelta → Bool
+noHueDelta HueDelta.Keep = true
+noHueDelta (HueDelta.By way) = eqb (natAbs way) 0
 
-abbrev pub noSaturationWay : TargetSaturation → ℕ → Bool
-noSaturationWay TargetSaturation.Keep start = true
-noSaturationWay (TargetSaturation.To target) start = eqb target start
+abbrev pub noSaturationDelta : TargetSaturation → ℕ → Bool
+noSaturationDelta TargetSaturation.Keep start = true
+noSaturationDelta (TargetSaturation.To target) start = eqb target start
 
 -- "Time 0, no way in hue and saturation together, or no way in mireds: the end at once", which is permille 1000
 abbrev pub startPermille : ℕ → Bool → ℕ
-startPermille ms noWay = cond (eqb ms 0 || noWay) 1000 0
+startPermille ms noDelta = cond (eqb ms 0 || noDelta) 1000 0
 
 unfoldable pub hueSaturationStart : Lamp → HueSaturationMoveTo → Effect
 hueSaturationStart l task =
     let w : Written = fullWritten l (task .ms) in
-    after (only (w .told) RemainingTime)
+    after (only (w .reported) RemainingTime)
     (hueSaturationPass (remainingSet l w)
     (record { start = l .clock; hue = l .color .hue; saturation = l .color .saturation; task = task })
-    (startPermille (task .ms) (noHueWay (task .delta) && noSaturationWay (task .saturation) (l .color .saturation))))
+    (startPermille (task .ms) (noHueDelta (task .delta) && noSaturationDelta (task .saturation) (l .color .saturation))))
 
--- the target is brought within the bounds
+-- the target is clamped to the bounds
 unfoldable pub temperatureToStart : Lamp → ColorTemperatureMoveTo → Effect
 temperatureToStart l task =
     let w : Written = fullWritten l (task .ms) in
     let target : ℕ = clamp (l .bounds .min) (l .bounds .max) (pos (task .target)) in
-    after (only (w .told) RemainingTime)
+    after (only (w .reported) RemainingTime)
     (temperatureToPass (remainingSet l w)
     (record { start = l .clock; mireds = l .color .mireds; task = record { target = target; ms = task .ms } })
     (startPermille (task .ms) (eqb target (l .color .mireds))))
@@ -75,7 +75,7 @@ unfoldable pub temperatureStart : Lamp → ColorTemperatureMove → Effect
 temperatureStart l task =
     let lo : ℕ = lower (l .bounds) (task .min) in
     let hi : ℕ = upper (l .bounds) (task .max) in
-    cond (leb hi lo) (record { lamp = moved l (l .color) Running.Idle; told = []; wait = 0 })
+    cond (leb hi lo) (record { lamp = moved l (l .color) Running.Idle; reported = []; wait = 0 })
     (temperaturePass l (record { start = l .clock; mireds = l .color .mireds; rate = task .rate; lo = lo; hi = hi }))
 
 -- "A start includes its first pass, at elapsed 0"
@@ -86,12 +86,12 @@ started l (Task.SaturationMove task) = saturationPass l (record { start = l .clo
 started l (Task.ColorTemperatureMoveTo task) = temperatureToStart l task
 started l (Task.ColorTemperatureMove task) = temperatureStart l task
 started l (Task.ColorLoop task) = loopPass l (record { start = l .clock; hue = l .color .hue; task = task })
-started l Task.Stop = record { lamp = l; told = []; wait = 0 }
+started l Task.Stop = record { lamp = l; reported = []; wait = 0 }
 
 -- ---- steps: a pass of what runs
 
 unfoldable pub stepped : Lamp → Running → Effect
-stepped l Running.Idle = record { lamp = l; told = []; wait = 0 }
+stepped l Running.Idle = record { lamp = l; reported = []; wait = 0 }
 stepped l (Running.HueSaturationMoveTo run) = hueSaturationPass l run (permilleOf (l .clock - run .start) (run .task .ms))
 stepped l (Running.HueMove run) = huePass l run
 stepped l (Running.SaturationMove run) = saturationPass l run
@@ -103,7 +103,7 @@ stepped l (Running.ColorLoop run) = loopPass l run
 
 -- an accepted start's or step's answer
 abbrev pub done : Effect → Answer
-done e = record { number = accepted; lamp = e .lamp; notices = noted (e .told); task = GivenTask.Nothing; wait = e .wait }
+done e = record { number = accepted; lamp = e .lamp; notices = noted (e .reported); task = GivenTask.Nothing; wait = e .wait }
 
 -- the choice between a refusal and an effect
 abbrev pub choose : ℕ → Lamp → Answer → Answer
@@ -111,7 +111,7 @@ choose cause l answer = cond (eqb cause accepted) answer (refusal l cause)
 
 -- "starts 8, 4, 6"
 abbrev pub startCause : Lamp → Task → ℕ → ℕ
-startCause l task clock = cond (eqb (formOrClock l clock) accepted) (cond (taskForm task) accepted taskOutOfForm) (formOrClock l clock)
+startCause l task clock = cond (eqb (firstCause l clock) accepted) (cond (taskValid task) accepted invalidTask) (firstCause l clock)
 
 unfoldable pub startAnswer : Lamp → Task → ℕ → Answer
 startAnswer l task clock = choose (startCause l task clock) l (done (started (atClock l clock) task))
@@ -119,7 +119,7 @@ startAnswer l task clock = choose (startCause l task clock) l (done (started (at
 -- "steps 8, 7, 4"
 abbrev pub stepCause : Lamp → ℕ → ℕ
 stepCause l clock =
-    cond (not (lampForm l)) lampOutOfForm
+    cond (not (lampValid l)) invalidLamp
     (cond (not (runs (l .running))) stepWhileIdle
     (cond (badClock l clock) clockRefused accepted))
 
@@ -129,5 +129,5 @@ stepAnswer l clock = choose (stepCause l clock) l (done (stepped (atClock l cloc
 -- "halt, which only makes the lamp idle"; "halt 8, 4"
 unfoldable pub haltAnswer : Lamp → ℕ → Answer
 haltAnswer l clock =
-    choose (formOrClock l clock) l
-    (done (record { lamp = moved (atClock l clock) (l .color) Running.Idle; told = []; wait = 0 }))
+    choose (firstCause l clock) l
+    (done (record { lamp = moved (atClock l clock) (l .color) Running.Idle; reported = []; wait = 0 }))

@@ -1,7 +1,7 @@
-pub mod Form
+pub mod Valid
 pub mod Making
 pub mod Answers
-pub mod Typed
+pub mod InRange
 pub mod Passes
 pub mod Calls
 pub mod Passed

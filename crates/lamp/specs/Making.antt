@@ -26,7 +26,7 @@ freshLamp bounds features options clock =
       running = Running.Idle;
     }
 
--- why a making is turned away: "making 4, 5, both with no lamp"
+-- why a making is refused: "making 4, 5, both with no lamp"
 abbrev pub makingCause : Bounds → ℕ → ℕ
 makingCause bounds clock = cond (ltb clockLimit clock) clockRefused (cond (ltb (bounds .max) (bounds .min)) crossedBounds accepted)
 

@@ -8,7 +8,7 @@ use Rattle.matter.specs.Causes.{accepted}
 use Rattle.tasks.specs.declared.GivenTask.{GivenTask}
 
 abbrev pub passedOf : Notices → Effect → Passed
-passedOf list e = record { lamp = e .lamp; notices = pushedAll list (e .told); wait = e .wait }
+passedOf list e = record { lamp = e .lamp; notices = pushedAll list (e .reported); wait = e .wait }
 
 -- the answer of an accepted start or step
 abbrev pub answerOf : Passed → Answer

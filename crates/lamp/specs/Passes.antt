@@ -1,5 +1,5 @@
 -- One pass of each transition: document 01, leaf 6 and "The arithmetic of a step". A pass is given the lamp at the call's
--- clock and the running record, and says what it leaves, what it tells in its order, and the wait.
+-- clock and the running record, and says what it leaves, what it reports in its order, and the wait.
 use Prim.Native.Nat.{ℕ, _-_}
 use mathlib.Core.Bool.{Bool, true, false, cond, _&&_, _||_}
 use mathlib.Core.List.{List, [], _∷_, _++_}
@@ -13,11 +13,11 @@ use Rattle.matter.specs.Limits.{saturationLimit}
 use Rattle.notices.specs.Notices.{only}
 use Rattle.notices.specs.Names.{RemainingTime, deviceHueSaturation, deviceMireds}
 use Rattle.hue.specs.Hue.{movedHue}
-use Rattle.progress.specs.Progress.{partOf, wayAtRate, loopWay, broughtWithin, tick, endWait, turnWait}
+use Rattle.progress.specs.Progress.{partOf, deltaAtRate, loopDelta, clampedSum, tick, endWait, turnWait}
 use Rattle.remaining_time.specs.declared.Written.{Written}
 use Rattle.remaining_time.specs.RemainingTime.{writtenQuietly}
 use Rattle.color.specs.declared.Color.{Color}
-use Rattle.color.specs.Setters.{hueSet, hueTold, saturationSet, saturationTold, miredsSet, miredsTold}
+use Rattle.color.specs.Setters.{hueSet, hueReported, saturationSet, saturationReported, miredsSet, miredsReported}
 use Rattle.tasks.specs.declared.HueDelta.{HueDelta}
 use Rattle.tasks.specs.declared.TargetSaturation.{TargetSaturation}
 use Rattle.tasks.specs.declared.HueSaturationRun.{HueSaturationRun}
@@ -29,10 +29,10 @@ use Rattle.tasks.specs.declared.ColorLoopRun.{ColorLoopRun}
 use Rattle.tasks.specs.declared.Running.{Running}
 use Rattle.lamp.specs.declared.Lamp.{Lamp}
 
--- what an accepted start or step does: the lamp after it, what it tells, and the wait
+-- what an accepted start or step does: the lamp after it, what it reports, and the wait
 pub record Effect : Type 0 where
   pub lamp : Lamp
-  pub told : List ℕ
+  pub reported : List ℕ
   pub wait : ℕ
 
 -- the lamp with another colour and running record
@@ -66,25 +66,25 @@ abbrev pub hueMoved : Color → HueDelta → ℕ → ℕ → Bool → ℕ → Co
 hueMoved c HueDelta.Keep start permille enhanced clock = c
 hueMoved c (HueDelta.By way) start permille enhanced clock = hueSet c (hueNow start way permille) (atEnd permille) enhanced clock
 
-abbrev pub hueMovedTold : Color → HueDelta → ℕ → ℕ → Bool → ℕ → Bool → List ℕ
-hueMovedTold c HueDelta.Keep start permille enhanced clock active = []
-hueMovedTold c (HueDelta.By way) start permille enhanced clock active =
-    hueTold c (hueNow start way permille) (atEnd permille) enhanced clock active
+abbrev pub hueMovedReported : Color → HueDelta → ℕ → ℕ → Bool → ℕ → Bool → List ℕ
+hueMovedReported c HueDelta.Keep start permille enhanced clock active = []
+hueMovedReported c (HueDelta.By way) start permille enhanced clock active =
+    hueReported c (hueNow start way permille) (atEnd permille) enhanced clock active
 
 -- the saturation's part, where the task moves it: its way is from the start to the target
 abbrev pub saturationNow : ℕ → ℕ → ℕ → ℕ
 saturationNow start target permille =
-    cond (atEnd permille) target (broughtWithin 0 saturationLimit start (partOf (pos target -ℤ pos start) permille))
+    cond (atEnd permille) target (clampedSum 0 saturationLimit start (partOf (pos target -ℤ pos start) permille))
 
 abbrev pub saturationMoved : Color → TargetSaturation → ℕ → ℕ → ℕ → Color
 saturationMoved c TargetSaturation.Keep start permille clock = c
 saturationMoved c (TargetSaturation.To target) start permille clock =
     saturationSet c (saturationNow start target permille) (atEnd permille) clock
 
-abbrev pub saturationMovedTold : Color → TargetSaturation → ℕ → ℕ → ℕ → Bool → List ℕ
-saturationMovedTold c TargetSaturation.Keep start permille clock active = []
-saturationMovedTold c (TargetSaturation.To target) start permille clock active =
-    saturationTold c (saturationNow start target permille) (atEnd permille) clock active
+abbrev pub saturationMovedReported : Color → TargetSaturation → ℕ → ℕ → ℕ → Bool → List ℕ
+saturationMovedReported c TargetSaturation.Keep start permille clock active = []
+saturationMovedReported c (TargetSaturation.To target) start permille clock active =
+    saturationReported c (saturationNow start target permille) (atEnd permille) clock active
 
 -- "Each pass writes the device after the setters, then, in a move-to, the remaining time": what is left of the time, and 0
 -- at the end
@@ -103,11 +103,11 @@ hueSaturationPass l run permille =
           remainingSet
           (moved l (saturationMoved hued (run .task .saturation) (run .saturation) permille (l .clock)) (unless end (Running.HueSaturationMoveTo run)))
           w;
-      told =
-          hueMovedTold (l .color) (run .task .delta) (run .hue) permille (run .task .enhanced) (l .clock) (l .looping .active)
-          ++ saturationMovedTold hued (run .task .saturation) (run .saturation) permille (l .clock) (l .looping .active)
+      reported =
+          hueMovedReported (l .color) (run .task .delta) (run .hue) permille (run .task .enhanced) (l .clock) (l .looping .active)
+          ++ saturationMovedReported hued (run .task .saturation) (run .saturation) permille (l .clock) (l .looping .active)
           ++ (deviceHueSaturation ∷ [])
-          ++ only (w .told) RemainingTime;
+          ++ only (w .reported) RemainingTime;
       wait = waiting end (endWait elapsed (run .task .ms));
     }
 
@@ -115,7 +115,7 @@ hueSaturationPass l run permille =
 
 abbrev pub miredsNow : Bounds → ℕ → ℕ → ℕ → ℕ
 miredsNow bounds start target permille =
-    cond (atEnd permille) target (broughtWithin (bounds .min) (bounds .max) start (partOf (pos target -ℤ pos start) permille))
+    cond (atEnd permille) target (clampedSum (bounds .min) (bounds .max) start (partOf (pos target -ℤ pos start) permille))
 
 -- one pass of move_to_color_temperature_transition at so many thousandths
 unfoldable pub temperatureToPass : Lamp → ColorTemperatureToRun → ℕ → Effect
@@ -126,7 +126,7 @@ temperatureToPass l run permille =
     let w : Written = leftWritten l end elapsed (run .task .ms) in
     record {
       lamp = remainingSet (moved l (miredsSet (l .color) now end (l .clock)) (unless end (Running.ColorTemperatureMoveTo run))) w;
-      told = miredsTold (l .color) now end (l .clock) (l .looping .active) ++ (deviceMireds ∷ []) ++ only (w .told) RemainingTime;
+      reported = miredsReported (l .color) now end (l .clock) (l .looping .active) ++ (deviceMireds ∷ []) ++ only (w .reported) RemainingTime;
       wait = waiting end (endWait elapsed (run .task .ms));
     }
 
@@ -135,10 +135,10 @@ temperatureToPass l run permille =
 -- one pass of hue_move_transition: "A hue move never ends"
 unfoldable pub huePass : Lamp → HueRun → Effect
 huePass l run =
-    let now : ℕ = movedHue (run .hue) (wayAtRate (signed (run .task .direction) (run .task .rate)) (l .clock - run .start)) in
+    let now : ℕ = movedHue (run .hue) (deltaAtRate (signed (run .task .direction) (run .task .rate)) (l .clock - run .start)) in
     record {
       lamp = moved l (hueSet (l .color) now false (run .task .enhanced) (l .clock)) (Running.HueMove run);
-      told = hueTold (l .color) now false (run .task .enhanced) (l .clock) (l .looping .active) ++ (deviceHueSaturation ∷ []);
+      reported = hueReported (l .color) now false (run .task .enhanced) (l .clock) (l .looping .active) ++ (deviceHueSaturation ∷ []);
       wait = tick;
     }
 
@@ -151,11 +151,11 @@ saturationDone MoveModeEnum.Down now = eqb now 0
 -- one pass of saturation_move_transition
 unfoldable pub saturationPass : Lamp → SaturationRun → Effect
 saturationPass l run =
-    let now : ℕ = broughtWithin 0 saturationLimit (run .saturation) (wayAtRate (signed (run .task .direction) (run .task .rate)) (l .clock - run .start)) in
+    let now : ℕ = clampedSum 0 saturationLimit (run .saturation) (deltaAtRate (signed (run .task .direction) (run .task .rate)) (l .clock - run .start)) in
     let end : Bool = saturationDone (run .task .direction) now in
     record {
       lamp = moved l (saturationSet (l .color) now end (l .clock)) (unless end (Running.SaturationMove run));
-      told = saturationTold (l .color) now end (l .clock) (l .looping .active) ++ (deviceHueSaturation ∷ []);
+      reported = saturationReported (l .color) now end (l .clock) (l .looping .active) ++ (deviceHueSaturation ∷ []);
       wait = waiting end tick;
     }
 
@@ -166,11 +166,11 @@ miredsDone rate lo hi now = (ltZ (pos 0) rate && eqb now hi) || (ltZ rate (pos 0
 -- one pass of color_temperature_move_transition
 unfoldable pub temperaturePass : Lamp → ColorTemperatureRun → Effect
 temperaturePass l run =
-    let now : ℕ = broughtWithin (run .lo) (run .hi) (run .mireds) (wayAtRate (run .rate) (l .clock - run .start)) in
+    let now : ℕ = clampedSum (run .lo) (run .hi) (run .mireds) (deltaAtRate (run .rate) (l .clock - run .start)) in
     let end : Bool = miredsDone (run .rate) (run .lo) (run .hi) now in
     record {
       lamp = moved l (miredsSet (l .color) now end (l .clock)) (unless end (Running.ColorTemperatureMove run));
-      told = miredsTold (l .color) now end (l .clock) (l .looping .active) ++ (deviceMireds ∷ []);
+      reported = miredsReported (l .color) now end (l .clock) (l .looping .active) ++ (deviceMireds ∷ []);
       wait = waiting end tick;
     }
 
@@ -179,9 +179,9 @@ temperaturePass l run =
 unfoldable pub loopPass : Lamp → ColorLoopRun → Effect
 loopPass l run =
     let elapsed : ℕ = l .clock - run .start in
-    let now : ℕ = movedHue (run .hue) (loopWay (run .task .direction) elapsed (run .task .seconds)) in
+    let now : ℕ = movedHue (run .hue) (loopDelta (run .task .direction) elapsed (run .task .seconds)) in
     record {
       lamp = moved l (hueSet (l .color) now false true (l .clock)) (Running.ColorLoop run);
-      told = hueTold (l .color) now false true (l .clock) (l .looping .active) ++ (deviceHueSaturation ∷ []);
+      reported = hueReported (l .color) now false true (l .clock) (l .looping .active) ++ (deviceHueSaturation ∷ []);
       wait = turnWait elapsed (run .task .seconds);
     }

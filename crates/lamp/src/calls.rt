@@ -7,12 +7,12 @@ use matter::ACCEPTED;
 use matter::Bounds;
 use matter::CLOCK_LIMIT;
 use matter::CLOCK_REFUSED;
-use matter::LAMP_OUT_OF_FORM;
+use matter::INVALID_LAMP;
+use matter::INVALID_TASK;
 use matter::STEP_WHILE_IDLE;
-use matter::TASK_OUT_OF_FORM;
 use notices::Notices;
 use notices::REMAINING_TIME;
-use progress::brought_within;
+use progress::clamped_sum;
 use progress::elapsed;
 use progress::permille;
 use tasks::ColorLoopRun;
@@ -33,13 +33,13 @@ ghost use mathlib.Core.Path.{_≡_};
 ghost use mathlib.Core.Bool.{true};
 ghost use mathlib.Core.List.{[]};
 ghost use Rattle.notices.specs.Notices.{noted};
-ghost use Rattle.tasks.specs.Form.{moveToForm, rateForm, taskForm, runningForm};
+ghost use Rattle.tasks.specs.Valid.{moveToValid, rateValid, taskValid, runningValid};
 ghost use Rattle.matter.specs.Bounds.{lower, upper};
-ghost use Rattle.lamp.specs.Calls.{noHueWay, noSaturationWay, startPermille, hueSaturationStart, temperatureToStart, temperatureStart, started, stepped, startAnswer, stepAnswer, haltAnswer};
+ghost use Rattle.lamp.specs.Calls.{noHueDelta, noSaturationDelta, startPermille, hueSaturationStart, temperatureToStart, temperatureStart, started, stepped, startAnswer, stepAnswer, haltAnswer};
 ghost use Rattle.lamp.specs.Passed.{passedOf, answerOf};
 
-fn no_hue_way(delta: HueDelta) -> bool
-    ensures { λ r. ⌜ r ≡ noHueWay delta ⌝ }
+fn no_hue_delta(delta: HueDelta) -> bool
+    ensures { λ r. ⌜ r ≡ noHueDelta delta ⌝ }
 {
     match delta {
         HueDelta::Keep => true,
@@ -47,8 +47,8 @@ fn no_hue_way(delta: HueDelta) -> bool
     }
 }
 
-fn no_saturation_way(target: TargetSaturation, start: u8) -> bool
-    ensures { λ r. ⌜ r ≡ noSaturationWay target start ⌝ }
+fn no_saturation_delta(target: TargetSaturation, start: u8) -> bool
+    ensures { λ r. ⌜ r ≡ noSaturationDelta target start ⌝ }
 {
     match target {
         TargetSaturation::Keep => true,
@@ -57,10 +57,10 @@ fn no_saturation_way(target: TargetSaturation, start: u8) -> bool
 }
 
 // Permille at a start: the end at once where there is no time or no way.
-fn start_permille(ms: u32, no_way: bool) -> u16
-    ensures { λ r. ⌜ r ≡ startPermille ms «no_way» ⌝ }
+fn start_permille(ms: u32, no_delta: bool) -> u16
+    ensures { λ r. ⌜ r ≡ startPermille ms «no_delta» ⌝ }
 {
-    if (ms == 0) | no_way { 1000 } else { 0 }
+    if (ms == 0) | no_delta { 1000 } else { 0 }
 }
 
 // The answer of an accepted start or step.
@@ -81,16 +81,16 @@ fn accepted(passed: Passed) -> Answer
 impl Lamp {
     // The two move-to starts write the full time first; then comes the first pass.
     fn start_hue_saturation(self, task: HueSaturationMoveTo) -> Passed
-        requires { ⌜ moveToForm task ≡ true ⌝ }
+        requires { ⌜ moveToValid task ≡ true ⌝ }
         ensures { λ r. ⌜ r ≡ passedOf (noted []) (hueSaturationStart self task) ⌝ }
     {
         let remaining = self.remaining;
         let w = remaining.write_remaining_time_quietly(task.ms as u64, true);
-        let list = Notices::new().push_if(w.told, REMAINING_TIME);
+        let list = Notices::new().push_if(w.reported, REMAINING_TIME);
         let left = w.remaining;
         let delta = task.delta;
         let target = task.saturation;
-        let no_way = no_hue_way(delta) & no_saturation_way(target, self.color.saturation);
+        let no_delta = no_hue_delta(delta) & no_saturation_delta(target, self.color.saturation);
         let run = HueSaturationRun {
             start: self.clock,
             hue: self.color.hue,
@@ -101,7 +101,7 @@ impl Lamp {
             remaining: left,
             ..self
         };
-        lamp.move_to_hue_saturation_transition(list, run, start_permille(task.ms, no_way))
+        lamp.move_to_hue_saturation_transition(list, run, start_permille(task.ms, no_delta))
     }
 
     fn start_color_temperature_to(self, task: ColorTemperatureMoveTo) -> Passed
@@ -109,10 +109,10 @@ impl Lamp {
     {
         let remaining = self.remaining;
         let w = remaining.write_remaining_time_quietly(task.ms as u64, true);
-        let list = Notices::new().push_if(w.told, REMAINING_TIME);
+        let list = Notices::new().push_if(w.reported, REMAINING_TIME);
         let left = w.remaining;
-        let target = brought_within(self.bounds.min, self.bounds.max, task.target, 0);
-        let no_way = target == self.color.mireds;
+        let target = clamped_sum(self.bounds.min, self.bounds.max, task.target, 0);
+        let no_delta = target == self.color.mireds;
         let run = ColorTemperatureToRun {
             start: self.clock,
             mireds: self.color.mireds,
@@ -125,11 +125,11 @@ impl Lamp {
             remaining: left,
             ..self
         };
-        lamp.move_to_color_temperature_transition(list, run, start_permille(task.ms, no_way))
+        lamp.move_to_color_temperature_transition(list, run, start_permille(task.ms, no_delta))
     }
 
     fn start_color_temperature(self, task: ColorTemperatureMove) -> Passed
-        requires { ⌜ rateForm (task .rate) ≡ true ⌝ }
+        requires { ⌜ rateValid (task .rate) ≡ true ⌝ }
         ensures { λ r. ⌜ r ≡ passedOf (noted []) (temperatureStart self task) ⌝ }
     {
         let bounds = self.bounds;
@@ -157,7 +157,7 @@ impl Lamp {
 
     // A start on a lamp that is at the call's clock.
     fn begin(self, task: Task) -> Passed
-        requires { ⌜ taskForm task ≡ true ⌝ }
+        requires { ⌜ taskValid task ≡ true ⌝ }
         ensures { λ r. ⌜ r ≡ passedOf (noted []) (started self task) ⌝ }
     {
         match task {
@@ -198,7 +198,7 @@ impl Lamp {
 
     // A pass of what runs, on a lamp that is at the call's clock.
     fn pass(self, running: Running) -> Passed
-        requires { ⌜ runningForm running (self .bounds) (self .clock) ≡ true ⌝ }
+        requires { ⌜ runningValid running (self .bounds) (self .clock) ≡ true ⌝ }
         ensures { λ r. ⌜ r ≡ passedOf (noted []) (stepped self running) ⌝ }
     {
         match running {
@@ -230,12 +230,12 @@ impl Lamp {
     pub fn start(self, task: Task, clock: u64) -> Answer
         ensures { λ r. ⌜ r ≡ startAnswer self task clock ⌝ }
     {
-        let cause = self.form_or_clock(clock);
+        let cause = self.first_cause(clock);
         if cause != ACCEPTED {
             return self.refused(cause);
         }
-        if !task.in_form() {
-            return self.refused(TASK_OUT_OF_FORM);
+        if !task.is_valid() {
+            return self.refused(INVALID_TASK);
         }
         accepted(self.at_clock(clock).begin(task))
     }
@@ -244,8 +244,8 @@ impl Lamp {
     pub fn step(self, clock: u64) -> Answer
         ensures { λ r. ⌜ r ≡ stepAnswer self clock ⌝ }
     {
-        if !self.in_form() {
-            return self.refused(LAMP_OUT_OF_FORM);
+        if !self.is_valid() {
+            return self.refused(INVALID_LAMP);
         }
         let running = self.running;
         if !running.is_running() {
@@ -261,7 +261,7 @@ impl Lamp {
     pub fn halt(self, clock: u64) -> Answer
         ensures { λ r. ⌜ r ≡ haltAnswer self clock ⌝ }
     {
-        let number = self.form_or_clock(clock);
+        let number = self.first_cause(clock);
         if number != ACCEPTED {
             return self.refused(number);
         }

@@ -1,5 +1,5 @@
 // The lamp: its state, its making and its form, and the answer that a call gives. Document 01, leaf 4 and "Why a call is
-// turned away".
+// refused".
 // Carried over from project-chip/rs-matter, commit 43f61585a4 (Apache-2.0, see NOTICE), and changed.
 mod calls;
 mod passes;
@@ -12,7 +12,7 @@ use matter::CLOCK_REFUSED;
 use matter::CROSSED_BOUNDS;
 use matter::ColorLoopDirectionEnum;
 use matter::Command;
-use matter::LAMP_OUT_OF_FORM;
+use matter::INVALID_LAMP;
 use matter::OnOff;
 use notices::Notices;
 use remaining_time::RemainingTime;
@@ -20,9 +20,9 @@ use tasks::GivenTask;
 use tasks::Running;
 use tasks::Task;
 ghost use mathlib.Core.Path.{_≡_};
-ghost use Rattle.lamp.specs.Form.{lampForm};
+ghost use Rattle.lamp.specs.Valid.{lampValid};
 ghost use Rattle.lamp.specs.Making.{freshLamp, making, madeValues, makingValues};
-ghost use Rattle.lamp.specs.Answers.{atClock, formOrClock, refusal};
+ghost use Rattle.lamp.specs.Answers.{atClock, firstCause, refusal};
 
 // ColorLoopActive, ColorLoopDirection, ColorLoopTime, ColorLoopStartEnhancedHue, ColorLoopStoredEnhancedHue.
 pub struct LoopSettings {
@@ -44,7 +44,7 @@ pub struct Lamp {
     pub running: Running,
 }
 
-// What a call gives: 0 or the number of its refusal, the lamp after it, what it tells, the task it gives, and how long to
+// What a call gives: 0 or the number of its refusal, the lamp after it, what it reports, the task it gives, and how long to
 // wait for the next step, in milliseconds.
 pub struct Answer {
     pub number: u8,
@@ -115,15 +115,15 @@ impl Lamp {
         Made::Lamp(fresh(bounds, feature_map, options, clock))
     }
 
-    pub fn in_form(self) -> bool
-        ensures { λ r. ⌜ r ≡ lampForm self ⌝ }
+    pub fn is_valid(self) -> bool
+        ensures { λ r. ⌜ r ≡ lampValid self ⌝ }
     {
         let color = self.color;
         let running = self.running;
         let bounds = self.bounds;
         (self.clock <= CLOCK_LIMIT)
-            & color.in_form(bounds, self.clock)
-            & running.in_form(bounds, self.clock)
+            & color.is_valid(bounds, self.clock)
+            & running.is_valid(bounds, self.clock)
     }
 
     // The same lamp at another clock.
@@ -133,13 +133,13 @@ impl Lamp {
         Lamp { clock: now, ..self }
     }
 
-    // The two causes that every call but a step looks at first: a lamp out of form, and the clock. 0 where there is
+    // The two causes that every call but a step looks at first: a lamp invalid, and the clock. 0 where there is
     // neither.
-    pub fn form_or_clock(self, clock: u64) -> u8
-        ensures { λ r. ⌜ r ≡ formOrClock self clock ⌝ }
+    pub fn first_cause(self, clock: u64) -> u8
+        ensures { λ r. ⌜ r ≡ firstCause self clock ⌝ }
     {
-        if !self.in_form() {
-            return LAMP_OUT_OF_FORM;
+        if !self.is_valid() {
+            return INVALID_LAMP;
         }
         if (clock < self.clock) | (CLOCK_LIMIT < clock) {
             return CLOCK_REFUSED;

@@ -1,5 +1,5 @@
 // One pass of each transition, on a lamp that is at the call's clock: document 01, leaf 6. A pass is given the list of
-// what was told so far.
+// what was reported so far.
 // Carried over from project-chip/rs-matter, commit 43f61585a4 (Apache-2.0, see NOTICE), and changed.
 use crate::Lamp;
 use color::Color;
@@ -12,15 +12,15 @@ use notices::DEVICE_MIREDS;
 use notices::Notices;
 use notices::REMAINING_TIME;
 use progress::TICK;
-use progress::brought_within;
+use progress::clamped_sum;
+use progress::delta_at_rate;
 use progress::elapsed;
-use progress::loop_way;
+use progress::loop_delta;
 use progress::moved_saturation;
 use progress::part;
 use progress::time_left;
 use progress::wait_for_end;
 use progress::wait_for_turn;
-use progress::way_at_rate;
 use tasks::ColorLoopRun;
 use tasks::ColorTemperatureRun;
 use tasks::ColorTemperatureToRun;
@@ -35,12 +35,12 @@ ghost use mathlib.Core.Bool.{true, cond};
 ghost use Prim.Native.Nat.{_-_};
 ghost use lib.IntN.{pos, _-ℤ_};
 ghost use Rattle.color.specs.Setters.{answered};
-ghost use Rattle.tasks.specs.Form.{deltaForm, moveToForm, hueMoveForm, saturationMoveForm, rateForm};
+ghost use Rattle.tasks.specs.Valid.{deltaValid, moveToValid, hueMoveValid, saturationMoveValid, rateValid};
 ghost use Rattle.matter.specs.Rules.{signed};
-ghost use Rattle.lamp.specs.Passes.{atEnd, hueMoved, hueMovedTold, saturationNow, saturationMoved, saturationMovedTold, miredsNow, saturationDone, miredsDone, unless, waiting, hueSaturationPass, temperatureToPass, huePass, saturationPass, temperaturePass, loopPass};
+ghost use Rattle.lamp.specs.Passes.{atEnd, hueMoved, hueMovedReported, saturationNow, saturationMoved, saturationMovedReported, miredsNow, saturationDone, miredsDone, unless, waiting, hueSaturationPass, temperatureToPass, huePass, saturationPass, temperaturePass, loopPass};
 ghost use Rattle.lamp.specs.Passed.{passedOf};
 
-// What a pass leaves: the lamp, the list with what it tells, and the wait.
+// What a pass leaves: the lamp, the list with what it reports, and the wait.
 pub struct Passed {
     pub lamp: Lamp,
     pub notices: Notices,
@@ -48,7 +48,7 @@ pub struct Passed {
 }
 
 // The way from one number to another, with its sign.
-fn way_between(start: u16, target: u16) -> i64
+fn delta_between(start: u16, target: u16) -> i64
     ensures { λ r. ⌜ r ≡ pos target -ℤ pos start ⌝ }
 {
     (target as i64) - (start as i64)
@@ -85,8 +85,8 @@ fn move_hue(
     clock: u64,
     loop_active: bool,
 ) -> ColorSet
-    requires { ⌜ deltaForm delta ≡ true ⌝ }
-    ensures { λ r. ⌜ r ≡ answered (hueMoved color delta start permille «is_enhanced» clock) list (hueMovedTold color delta start permille «is_enhanced» clock «loop_active») ⌝ }
+    requires { ⌜ deltaValid delta ≡ true ⌝ }
+    ensures { λ r. ⌜ r ≡ answered (hueMoved color delta start permille «is_enhanced» clock) list (hueMovedReported color delta start permille «is_enhanced» clock «loop_active») ⌝ }
 {
     match delta {
         HueDelta::Keep => ColorSet {
@@ -108,7 +108,7 @@ fn saturation_now(start: u8, target: u8, permille: u16) -> u8
     }
     moved_saturation(
         start,
-        part(way_between(start as u16, target as u16), permille),
+        part(delta_between(start as u16, target as u16), permille),
     )
 }
 
@@ -122,7 +122,7 @@ fn move_saturation(
     clock: u64,
     loop_active: bool,
 ) -> ColorSet
-    ensures { λ r. ⌜ r ≡ answered (saturationMoved color target start permille clock) list (saturationMovedTold color target start permille clock «loop_active») ⌝ }
+    ensures { λ r. ⌜ r ≡ answered (saturationMoved color target start permille clock) list (saturationMovedReported color target start permille clock «loop_active») ⌝ }
 {
     match target {
         TargetSaturation::Keep => ColorSet {
@@ -142,11 +142,11 @@ fn mireds_now(bounds: Bounds, start: u16, target: u16, permille: u16) -> u16
     if 1000 <= permille {
         return target;
     }
-    brought_within(
+    clamped_sum(
         bounds.min,
         bounds.max,
         start,
-        part(way_between(start, target), permille),
+        part(delta_between(start, target), permille),
     )
 }
 
@@ -173,7 +173,7 @@ impl Lamp {
         run: HueSaturationRun,
         permille: u16,
     ) -> Passed
-        requires { ⌜ moveToForm (run .task) ≡ true ⌝ }
+        requires { ⌜ moveToValid (run .task) ≡ true ⌝ }
         ensures { λ r. ⌜ r ≡ passedOf list (hueSaturationPass self run permille) ⌝ }
     {
         let task = run.task;
@@ -192,10 +192,10 @@ impl Lamp {
             active,
         );
         let color = hued.color;
-        let told = hued.notices;
+        let reported = hued.notices;
         let set = move_saturation(
             color,
-            told,
+            reported,
             target,
             run.saturation,
             permille,
@@ -207,7 +207,7 @@ impl Lamp {
         let remaining = self.remaining;
         let w = remaining.write_remaining_time_quietly(left_unless(is_end, passed, task.ms), false);
         let next = set.color;
-        let tells = set.notices;
+        let reports = set.notices;
         let left = w.remaining;
         Passed {
             lamp: Lamp {
@@ -216,9 +216,9 @@ impl Lamp {
                 running: running_unless(is_end, Running::HueSaturationMoveTo(run)),
                 ..self
             },
-            notices: tells
+            notices: reports
                 .push(DEVICE_HUE_SATURATION)
-                .push_if(w.told, REMAINING_TIME),
+                .push_if(w.reported, REMAINING_TIME),
             wait: wait_unless(is_end, wait_for_end(passed, task.ms)),
         }
     }
@@ -241,7 +241,7 @@ impl Lamp {
         let remaining = self.remaining;
         let w = remaining.write_remaining_time_quietly(left_unless(is_end, passed, task.ms), false);
         let next = set.color;
-        let tells = set.notices;
+        let reports = set.notices;
         let left = w.remaining;
         Passed {
             lamp: Lamp {
@@ -250,19 +250,21 @@ impl Lamp {
                 running: running_unless(is_end, Running::ColorTemperatureMoveTo(run)),
                 ..self
             },
-            notices: tells.push(DEVICE_MIREDS).push_if(w.told, REMAINING_TIME),
+            notices: reports
+                .push(DEVICE_MIREDS)
+                .push_if(w.reported, REMAINING_TIME),
             wait: wait_unless(is_end, wait_for_end(passed, task.ms)),
         }
     }
 
     pub(crate) fn hue_move_transition(self, list: Notices, run: HueRun) -> Passed
-        requires { ⌜ hueMoveForm (run .task) ≡ true ⌝ }
+        requires { ⌜ hueMoveValid (run .task) ≡ true ⌝ }
         ensures { λ r. ⌜ r ≡ passedOf list (huePass self run) ⌝ }
     {
         let task = run.task;
         let direction = task.direction;
         let rate = direction.signed(task.rate);
-        let now = moved_hue(run.hue, way_at_rate(rate, elapsed(run.start, self.clock)));
+        let now = moved_hue(run.hue, delta_at_rate(rate, elapsed(run.start, self.clock)));
         let old = self.color;
         let set = old.set_hue(
             list,
@@ -273,20 +275,20 @@ impl Lamp {
             self.looping.active,
         );
         let next = set.color;
-        let tells = set.notices;
+        let reports = set.notices;
         Passed {
             lamp: Lamp {
                 color: next,
                 running: Running::HueMove(run),
                 ..self
             },
-            notices: tells.push(DEVICE_HUE_SATURATION),
+            notices: reports.push(DEVICE_HUE_SATURATION),
             wait: TICK,
         }
     }
 
     pub(crate) fn saturation_move_transition(self, list: Notices, run: SaturationRun) -> Passed
-        requires { ⌜ saturationMoveForm (run .task) ≡ true ⌝ }
+        requires { ⌜ saturationMoveValid (run .task) ≡ true ⌝ }
         ensures { λ r. ⌜ r ≡ passedOf list (saturationPass self run) ⌝ }
     {
         let task = run.task;
@@ -294,20 +296,20 @@ impl Lamp {
         let rate = direction.signed(task.rate);
         let now = moved_saturation(
             run.saturation,
-            way_at_rate(rate, elapsed(run.start, self.clock)),
+            delta_at_rate(rate, elapsed(run.start, self.clock)),
         );
         let is_end = saturation_done(direction, now);
         let old = self.color;
         let set = old.set_saturation(list, now, is_end, self.clock, self.looping.active);
         let next = set.color;
-        let tells = set.notices;
+        let reports = set.notices;
         Passed {
             lamp: Lamp {
                 color: next,
                 running: running_unless(is_end, Running::SaturationMove(run)),
                 ..self
             },
-            notices: tells.push(DEVICE_HUE_SATURATION),
+            notices: reports.push(DEVICE_HUE_SATURATION),
             wait: wait_unless(is_end, TICK),
         }
     }
@@ -317,23 +319,23 @@ impl Lamp {
         list: Notices,
         run: ColorTemperatureRun,
     ) -> Passed
-        requires { ⌜ rateForm (run .rate) ≡ true ⌝ }
+        requires { ⌜ rateValid (run .rate) ≡ true ⌝ }
         ensures { λ r. ⌜ r ≡ passedOf list (temperaturePass self run) ⌝ }
     {
-        let way = way_at_rate(run.rate, elapsed(run.start, self.clock));
-        let now = brought_within(run.lo, run.hi, run.mireds, way);
+        let way = delta_at_rate(run.rate, elapsed(run.start, self.clock));
+        let now = clamped_sum(run.lo, run.hi, run.mireds, way);
         let is_end = mireds_done(run.rate, run.lo, run.hi, now);
         let old = self.color;
         let set = old.set_color_temperature(list, now, is_end, self.clock, self.looping.active);
         let next = set.color;
-        let tells = set.notices;
+        let reports = set.notices;
         Passed {
             lamp: Lamp {
                 color: next,
                 running: running_unless(is_end, Running::ColorTemperatureMove(run)),
                 ..self
             },
-            notices: tells.push(DEVICE_MIREDS),
+            notices: reports.push(DEVICE_MIREDS),
             wait: wait_unless(is_end, TICK),
         }
     }
@@ -344,18 +346,18 @@ impl Lamp {
         let task = run.task;
         let direction = task.direction;
         let passed = elapsed(run.start, self.clock);
-        let now = moved_hue(run.hue, loop_way(direction, passed, task.seconds));
+        let now = moved_hue(run.hue, loop_delta(direction, passed, task.seconds));
         let old = self.color;
         let set = old.set_hue(list, now, false, true, self.clock, self.looping.active);
         let next = set.color;
-        let tells = set.notices;
+        let reports = set.notices;
         Passed {
             lamp: Lamp {
                 color: next,
                 running: Running::ColorLoop(run),
                 ..self
             },
-            notices: tells.push(DEVICE_HUE_SATURATION),
+            notices: reports.push(DEVICE_HUE_SATURATION),
             wait: wait_for_turn(passed, task.seconds),
         }
     }

@@ -1,4 +1,4 @@
--- Why a call is turned away: the numbers of document 01's table. 0 is an accepted call's.
+-- Why a call is refused: the numbers of document 01's table. 0 is an accepted call's.
 use Prim.Native.Nat.{ℕ}
 
 abbrev pub accepted : ℕ
@@ -24,14 +24,14 @@ clockRefused = 4
 abbrev pub crossedBounds : ℕ
 crossedBounds = 5
 
--- task out of form
-abbrev pub taskOutOfForm : ℕ
-taskOutOfForm = 6
+-- task invalid
+abbrev pub invalidTask : ℕ
+invalidTask = 6
 
 -- step while idle
 abbrev pub stepWhileIdle : ℕ
 stepWhileIdle = 7
 
--- lamp out of form
-abbrev pub lampOutOfForm : ℕ
-lampOutOfForm = 8
+-- lamp invalid
+abbrev pub invalidLamp : ℕ
+invalidLamp = 8

@@ -5,4 +5,4 @@ pub mod Rules
 pub mod Causes
 pub mod All
 pub mod Bounds
-pub mod Typed
+pub mod InRange

@@ -8,12 +8,12 @@ use Rattle.matter.specs.declared.enums.ColorModeEnum.{ColorModeEnum}
 use Rattle.matter.specs.declared.enums.EnhancedColorModeEnum.{EnhancedColorModeEnum}
 use Rattle.matter.specs.Flags.{hasFlag, executeIfOff, xy, hueAndSaturation, colorTemperature}
 
--- leave to run: "No handler, or lamp on: yes. Lamp off: if the options mask has ExecuteIfOff (bit 0), the override's
+-- leave to execute: "No handler, or lamp on: yes. Lamp off: if the options mask has ExecuteIfOff (bit 0), the override's
 -- bit decides, else the lamp's own option." From the lamp's options, the mask and the override
-abbrev pub leave : OnOff → ℕ → ℕ → ℕ → Bool
-leave OnOff.NoHandler options mask over = true
-leave OnOff.On options mask over = true
-leave OnOff.Off options mask over = cond (hasFlag mask executeIfOff) (hasFlag over executeIfOff) (hasFlag options executeIfOff)
+abbrev pub mayExecute : OnOff → ℕ → ℕ → ℕ → Bool
+mayExecute OnOff.NoHandler options mask over = true
+mayExecute OnOff.On options mask over = true
+mayExecute OnOff.Off options mask over = cond (hasFlag mask executeIfOff) (hasFlag over executeIfOff) (hasFlag options executeIfOff)
 
 -- a rate with the sign of its direction
 abbrev pub signed : MoveModeEnum → ℕ → ℤ

@@ -16,8 +16,8 @@ pub const CLOCK_REFUSED: u8 = 4;
 // The physical minimum above the maximum.
 pub const CROSSED_BOUNDS: u8 = 5;
 
-pub const TASK_OUT_OF_FORM: u8 = 6;
+pub const INVALID_TASK: u8 = 6;
 
 pub const STEP_WHILE_IDLE: u8 = 7;
 
-pub const LAMP_OUT_OF_FORM: u8 = 8;
+pub const INVALID_LAMP: u8 = 8;

@@ -2,7 +2,7 @@
 ghost use mathlib.Core.Path.{_≡_};
 ghost use Rattle.matter.specs.Bounds.{lower, upper};
 
-// The largest clock, in milliseconds: a call with a later one is turned away.
+// The largest clock, in milliseconds: a call with a later one is refused.
 pub const CLOCK_LIMIT: u64 = 1_099_511_627_776;
 
 // The physical bounds of the mireds.

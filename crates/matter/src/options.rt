@@ -4,7 +4,7 @@ use crate::enums::EnhancedColorModeEnum;
 use crate::enums::OnOff;
 ghost use mathlib.Core.Path.{_≡_};
 ghost use Rattle.matter.specs.Flags.{hasFlag};
-ghost use Rattle.matter.specs.Rules.{leave, defaultColorMode};
+ghost use Rattle.matter.specs.Rules.{mayExecute, defaultColorMode};
 
 // The bits of the cluster's bitmaps: OptionsBitmap, UpdateFlagsBitmap, Feature.
 pub const EXECUTE_IF_OFF: u32 = 1;
@@ -40,7 +40,7 @@ pub fn contains(bits: u32, flag: u32) -> bool
 // Leave to run: without an on/off cluster, or on, always. Off: ExecuteIfOff of the override where the mask has it,
 // else of the lamp's own options.
 pub fn should_continue(on_off: OnOff, options: u8, options_mask: u8, options_override: u8) -> bool
-    ensures { λ r. ⌜ r ≡ leave «on_off» options «options_mask» «options_override» ⌝ }
+    ensures { λ r. ⌜ r ≡ mayExecute «on_off» options «options_mask» «options_override» ⌝ }
 {
     match on_off {
         OnOff::NoHandler => true,

@@ -21,7 +21,7 @@ unfoldable pub ran : Lamp → List ℕ → ℕ → Ran
 ran l calls zero = record { lamp = l; sums = record { a = 0; b = 0 } }
 ran l calls (suc k) = after (ran l calls k) (sent (ran l calls k .lamp) (callAt calls k))
 
--- after all of them; words at the end that make no whole call are passed over
+-- after all of them; words at the end that make no whole call are skipped
 abbrev pub ranAll : Lamp → List ℕ → Ran
 ranAll l calls = ran l calls (length calls / 10)
 

@@ -41,9 +41,9 @@ ColorLoopStoredEnhancedHue = 12
 abbrev pub markedDirty : ℕ
 markedDirty = 13
 
--- scenes told
-abbrev pub scenesTold : ℕ
-scenesTold = 14
+-- scenes reported
+abbrev pub scenesNotified : ℕ
+scenesNotified = 14
 
 -- device written with hue and saturation
 abbrev pub deviceHueSaturation : ℕ

@@ -1,4 +1,4 @@
-// What a call tells, in the order in which it comes: a list of notice numbers in sixteen places, unused places 0.
+// What a call reports, in the order in which it comes: a list of notice numbers in sixteen places, unused places 0.
 ghost use mathlib.Core.Path.{_≡_};
 ghost use mathlib.Core.List.{[]};
 ghost use Rattle.notices.specs.Notices.{pushed, pushedAll, only, chosen, noted};
@@ -30,7 +30,7 @@ pub const COLOR_LOOP_STORED_ENHANCED_HUE: u8 = 12;
 
 pub const MARKED_DIRTY: u8 = 13;
 
-pub const SCENES_TOLD: u8 = 14;
+pub const SCENES_NOTIFIED: u8 = 14;
 
 pub const DEVICE_HUE_SATURATION: u8 = 15;
 

@@ -15,7 +15,7 @@ use Rattle.integers.proofs.Sizes.{abs-mul, abs-quot}
 use Rattle.integers.proofs.Signs.{neg-mul, neg-quot}
 use Rattle.matter.specs.declared.enums.ColorLoopDirectionEnum.{ColorLoopDirectionEnum}
 use Rattle.matter.specs.Limits.{clockLimit}
-use Rattle.progress.specs.Progress.{permilleOf, limited, partOf, wayAtRate, loopMs, snapped, loopTurn, loopWay, tenthsOf, clamp}
+use Rattle.progress.specs.Progress.{permilleOf, limited, partOf, deltaAtRate, loopMs, snapped, loopTurn, loopDelta, tenthsOf, clamp}
 
 -- ---- sums of the document
 
@@ -30,21 +30,21 @@ unfolding permilleOf
 k6 = refl
 
 -- K9: a loop of a second, up
-k9 : map (λ e. loopWay ColorLoopDirectionEnum.Increment e 1) (994 ∷ 995 ∷ 1005 ∷ 1006 ∷ 5 ∷ []) ≡ pos 65142 ∷ pos 65536 ∷ pos 65536 ∷ pos 65929 ∷ pos 327 ∷ []
+k9 : map (λ e. loopDelta ColorLoopDirectionEnum.Increment e 1) (994 ∷ 995 ∷ 1005 ∷ 1006 ∷ 5 ∷ []) ≡ pos 65142 ∷ pos 65536 ∷ pos 65536 ∷ pos 65929 ∷ pos 327 ∷ []
 unfolding loopTurn snapped
 k9 = refl
 
 -- K10: and down
-k10 : loopWay ColorLoopDirectionEnum.Decrement 1 1 ≡ negℤ (pos 65)
+k10 : loopDelta ColorLoopDirectionEnum.Decrement 1 1 ≡ negℤ (pos 65)
 unfolding loopTurn snapped
 k10 = refl
 
 -- K12: 100 a second, after 100 and 2500 milliseconds
-k12 : map (wayAtRate (pos 100)) (100 ∷ 2500 ∷ []) ≡ pos 10 ∷ pos 250 ∷ []
+k12 : map (deltaAtRate (pos 100)) (100 ∷ 2500 ∷ []) ≡ pos 10 ∷ pos 250 ∷ []
 k12 = refl
 
 -- 1 a second at the limit of clocks, and past it
-rate-at-limit : map (wayAtRate (pos 1)) (clockLimit ∷ (clockLimit + 1000) ∷ []) ≡ pos 1099511627 ∷ pos 1099511627 ∷ []
+rate-at-limit : map (deltaAtRate (pos 1)) (clockLimit ∷ (clockLimit + 1000) ∷ []) ≡ pos 1099511627 ∷ pos 1099511627 ∷ []
 rate-at-limit = refl
 
 -- ---- permille

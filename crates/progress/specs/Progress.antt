@@ -12,7 +12,7 @@ use Rattle.matter.specs.Limits.{clockLimit}
 unfoldable pub permilleOf : ℕ → ℕ → ℕ
 permilleOf elapsed time = cond (eqb time 0) 1000 (min 1000 (elapsed * 1000 / time))
 
--- no task in form has a way or a rate beyond ±65,535 (document 01, "Task out of form"): one beyond is read as that limit
+-- no task valid has a way or a rate beyond ±65,535 (document 01, "Task out of form"): one beyond is read as that limit
 unfoldable pub limited : ℤ → ℤ
 limited z = cond (ltZ (pos 65535) z) (pos 65535) (cond (ltZ z (negℤ (pos 65535))) (negℤ (pos 65535)) z)
 
@@ -21,8 +21,8 @@ abbrev pub partOf : ℤ → ℕ → ℤ
 partOf way permille = quotZ (way *ℤ pos permille) (pos 1000)
 
 -- "Moves at a rate: rate × elapsed / 1000". An elapsed time past the limit of clocks is read as the limit
-abbrev pub wayAtRate : ℤ → ℕ → ℤ
-wayAtRate rate elapsed = quotZ (rate *ℤ pos (min elapsed clockLimit)) (pos 1000)
+abbrev pub deltaAtRate : ℤ → ℕ → ℤ
+deltaAtRate rate elapsed = quotZ (rate *ℤ pos (min elapsed clockLimit)) (pos 1000)
 
 -- a turn of the loop in milliseconds: "seconds × 1000, 0 seconds read as 25"
 abbrev pub loopMs : ℕ → ℕ
@@ -45,20 +45,20 @@ abbrev pub directed : ColorLoopDirectionEnum → ℕ → ℤ
 directed ColorLoopDirectionEnum.Increment turn = pos turn
 directed ColorLoopDirectionEnum.Decrement turn = negℤ (pos turn)
 
-abbrev pub loopWay : ColorLoopDirectionEnum → ℕ → ℕ → ℤ
-loopWay direction elapsed seconds = directed direction (loopTurn elapsed seconds)
+abbrev pub loopDelta : ColorLoopDirectionEnum → ℕ → ℕ → ℤ
+loopDelta direction elapsed seconds = directed direction (loopTurn elapsed seconds)
 
 -- tenths of a second, rounded up: the fewest tenths that are no shorter
 abbrev pub tenthsOf : ℕ → ℕ
 tenthsOf ms = (ms + 99) / 100
 
--- an integer brought within two bounds: below lo it is lo, above hi it is hi
+-- an integer clamped to two bounds: below lo it is lo, above hi it is hi
 unfoldable pub clamp : ℕ → ℕ → ℤ → ℕ
 clamp lo hi z = cond (ltZ z (pos lo)) lo (cond (ltZ (pos hi) z) hi (natAbs z))
 
 -- "Saturation and mireds are clamped to 0 to 254 and to the physical bounds"
-abbrev pub broughtWithin : ℕ → ℕ → ℕ → ℤ → ℕ
-broughtWithin lo hi start part = clamp lo hi (pos start +ℤ part)
+abbrev pub clampedSum : ℕ → ℕ → ℕ → ℤ → ℕ
+clampedSum lo hi start part = clamp lo hi (pos start +ℤ part)
 
 -- "Wait: 100 ms, or less where the end or the next whole turn is nearer; moves at a rate always 100"
 abbrev pub tick : ℕ

@@ -6,7 +6,7 @@ use matter::ColorLoopDirectionEnum;
 ghost use mathlib.Core.Path.{_≡_};
 ghost use Prim.Native.Nat.{_-_, min};
 ghost use Rattle.matter.specs.Limits.{clockLimit};
-ghost use Rattle.progress.specs.Progress.{permilleOf, partOf, wayAtRate, limited, loopMs, loopTurn, loopWay, tenthsOf, broughtWithin, endWait, turnWait};
+ghost use Rattle.progress.specs.Progress.{permilleOf, partOf, deltaAtRate, limited, loopMs, loopTurn, loopDelta, tenthsOf, clampedSum, endWait, turnWait};
 
 // The wait between two steps where nothing is nearer; a move at a rate always asks for it.
 pub const TICK: u64 = 100;
@@ -22,7 +22,7 @@ pub fn permille(elapsed: u64, time: u32) -> u16
     (elapsed * 1000 / total) as u16
 }
 
-// A way or a rate beyond ±65,535, which no task in form has, is read as that limit.
+// A way or a rate beyond ±65,535, which no task valid has, is read as that limit.
 fn limited(signed: i64) -> i64
     ensures { λ r. ⌜ r ≡ limited signed ⌝ }
 {
@@ -54,8 +54,8 @@ fn within_limit(elapsed: u64) -> u64
 }
 
 // The signed way that a move at a rate per second has gone. The fraction is dropped toward zero.
-pub fn way_at_rate(rate: i64, elapsed: u64) -> i64
-    ensures { λ r. ⌜ r ≡ wayAtRate (limited rate) elapsed ⌝ }
+pub fn delta_at_rate(rate: i64, elapsed: u64) -> i64
+    ensures { λ r. ⌜ r ≡ deltaAtRate (limited rate) elapsed ⌝ }
 {
     limited(rate) * (within_limit(elapsed) as i64) / 1000
 }
@@ -90,8 +90,8 @@ pub fn loop_turn(elapsed: u64, seconds: u16) -> u64
 }
 
 // The colour loop's turn with its sign.
-pub fn loop_way(direction: ColorLoopDirectionEnum, elapsed: u64, seconds: u16) -> i64
-    ensures { λ r. ⌜ r ≡ loopWay direction elapsed seconds ⌝ }
+pub fn loop_delta(direction: ColorLoopDirectionEnum, elapsed: u64, seconds: u16) -> i64
+    ensures { λ r. ⌜ r ≡ loopDelta direction elapsed seconds ⌝ }
 {
     let turn = loop_turn(elapsed, seconds) as i64;
     match direction {
@@ -111,9 +111,9 @@ pub fn tenths(ms: u64) -> u64
     whole + 1
 }
 
-// The sum of a start and a signed part, brought within `lo` and `hi`; `lo` is looked at first.
-pub fn brought_within(lo: u16, hi: u16, start: u16, part: i64) -> u16
-    ensures { λ r. ⌜ r ≡ broughtWithin lo hi start part ⌝ }
+// The sum of a start and a signed part, clamped to `lo` and `hi`; `lo` is looked at first.
+pub fn clamped_sum(lo: u16, hi: u16, start: u16, part: i64) -> u16
+    ensures { λ r. ⌜ r ≡ clampedSum lo hi start part ⌝ }
 {
     if part < (lo as i64) - (start as i64) {
         return lo;
@@ -126,9 +126,9 @@ pub fn brought_within(lo: u16, hi: u16, start: u16, part: i64) -> u16
 
 // A saturation moved by a signed part, within 0 and 254.
 pub fn moved_saturation(start: u8, part: i64) -> u8
-    ensures { λ r. ⌜ r ≡ broughtWithin 0 254 start part ⌝ }
+    ensures { λ r. ⌜ r ≡ clampedSum 0 254 start part ⌝ }
 {
-    brought_within(0, 254, start as u16, part) as u8
+    clamped_sum(0, 254, start as u16, part) as u8
 }
 
 // The time from one clock to a later one; 0 where it is not later.

@@ -40,8 +40,8 @@ is-record t fits = LL.owes T.the-type T′.the-laws t ((refl, fits), tt)
 pub tenths-fit : (t : RemainingTime) (vs : List Val) → Is T.the-row t vs → t .tenths < 2 ^ 16
 tenths-fit t vs is = LL.owed T.the-type T′.the-laws t vs is .0 .1
 
-pub record-typed : (t : RemainingTime) → t .tenths < 2 ^ 16 → Holds (hasTy T′.mir (T′.lowered t)) × WT (T′.lowered t)
-record-typed t fits = (tt, (record { fits = fits }, tt))
+pub record-in-range : (t : RemainingTime) → t .tenths < 2 ^ 16 → Holds (hasTy T′.mir (T′.lowered t)) × WT (T′.lowered t)
+record-in-range t fits = (tt, (record { fits = fits }, tt))
 
 module _ {M : Type 1} (𝓤 : URA M) (H : Heap 𝓤) (A : Atoms 𝓤) (W : Given 𝓤 H A) where
   pub own-record : (t : RemainingTime) → t .tenths < 2 ^ 16 → ent 𝓤 (emp 𝓤) (sem 𝓤 H A (T.the-row .own t (T′.lowered t ∷ [])))

@@ -1,17 +1,17 @@
-// RemainingTime, and when a change of it is told: document 01, leaf 2.
+// RemainingTime, and when a change of it is reported: document 01, leaf 2.
 // Carried over from project-chip/rs-matter, commit 43f61585a4 (Apache-2.0, see NOTICE), and changed.
 use progress::tenths;
 ghost use mathlib.Core.Path.{_≡_};
-ghost use Rattle.remaining_time.specs.RemainingTime.{apart, told, writtenQuietly};
+ghost use Rattle.remaining_time.specs.RemainingTime.{apart, reported, writtenQuietly};
 
 // The attribute, in tenths of a second.
 pub struct RemainingTime {
     pub tenths: u16,
 }
 
-// The attribute after a write, and whether the change is told.
+// The attribute after a write, and whether the change is reported.
 pub struct Written {
-    pub told: bool,
+    pub reported: bool,
     pub remaining: RemainingTime,
 }
 
@@ -22,10 +22,10 @@ fn abs_diff(a: u16, b: u16) -> u16
     if a < b { b - a } else { a - b }
 }
 
-// Whether a change from `prev` to `new_ds` is told: to 0, from 0 to more than a second, or, at a transition's start,
+// Whether a change from `prev` to `new_ds` is reported: to 0, from 0 to more than a second, or, at a transition's start,
 // by more than a second.
-fn is_told(prev: u16, new_ds: u16, is_start_of_transition: bool) -> bool
-    ensures { λ r. ⌜ r ≡ told prev «new_ds» «is_start_of_transition» ⌝ }
+fn is_reported(prev: u16, new_ds: u16, is_start_of_transition: bool) -> bool
+    ensures { λ r. ⌜ r ≡ reported prev «new_ds» «is_start_of_transition» ⌝ }
 {
     let changed_to_zero = (new_ds == 0) & !(prev == 0);
     let changed_from_zero_gt_10 = (prev == 0) & (10 < new_ds);
@@ -34,26 +34,26 @@ fn is_told(prev: u16, new_ds: u16, is_start_of_transition: bool) -> bool
 }
 
 impl RemainingTime {
-    // The rule, by value: the time that remains, rounded up to tenths and wrapped at sixteen bits, and whether the change is told.
+    // The rule, by value: the time that remains, rounded up to tenths and wrapped at sixteen bits, and whether the change is reported.
     fn written_quietly(self, remaining_ms: u64, is_start_of_transition: bool) -> Written
         ensures { λ w. ⌜ w ≡ writtenQuietly self «remaining_ms» «is_start_of_transition» ⌝ }
     {
         let new_ds = (tenths(remaining_ms) % 65536) as u16;
         let prev = self.tenths;
         Written {
-            told: is_told(prev, new_ds, is_start_of_transition),
+            reported: is_reported(prev, new_ds, is_start_of_transition),
             remaining: RemainingTime { tenths: new_ds },
         }
     }
 
-    // The record is lent and changed in place, as in the source: the time that remains is stored, and whether it is told is answered.
+    // The record is lent and changed in place, as in the source: the time that remains is stored, and whether it is reported is answered.
     pub fn write_quietly(&mut self, remaining_ms: u64, is_start_of_transition: bool) -> bool
         ensures { λ r. ⌜ (now (self .exit) ≡ writtenQuietly (now (self .entry)) «remaining_ms» «is_start_of_transition» .remaining)
-            × (r ≡ writtenQuietly (now (self .entry)) «remaining_ms» «is_start_of_transition» .told) ⌝ }
+            × (r ≡ writtenQuietly (now (self .entry)) «remaining_ms» «is_start_of_transition» .reported) ⌝ }
     {
         let written = (*self).written_quietly(remaining_ms, is_start_of_transition);
         *self = written.remaining;
-        written.told
+        written.reported
     }
 
     // The record in and out by value: it is lent for the write. Starts and passes use this one.
@@ -65,7 +65,10 @@ impl RemainingTime {
         ensures { λ r. ⌜ r ≡ writtenQuietly self «remaining_ms» «is_start_of_transition» ⌝ }
     {
         let mut remaining = self;
-        let told = remaining.write_quietly(remaining_ms, is_start_of_transition);
-        Written { told, remaining }
+        let reported = remaining.write_quietly(remaining_ms, is_start_of_transition);
+        Written {
+            reported,
+            remaining,
+        }
     }
 }

@@ -304,9 +304,9 @@ fn leaf_call(line: &[u8], at: usize) -> Call {
     if remaining != LOST {
         return remaining_call(line, remaining);
     }
-    let leave = words::after(line, at, b"leave");
-    if leave != LOST {
-        return leave_call(line, leave);
+    let may_execute = words::after(line, at, b"may_execute");
+    if may_execute != LOST {
+        return leave_call(line, may_execute);
     }
     mode_of_call(line, words::after(line, at, b"mode_of"))
 }

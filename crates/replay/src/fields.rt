@@ -61,9 +61,9 @@ fn stamps(line: &[u8], at: usize) -> StampsRead {
 }
 
 fn color(line: &[u8], at: usize) -> ColorRead {
-    let told = stamps(line, at);
-    let stamps = told.value;
-    let hue = words::short(line, told.at);
+    let reported = stamps(line, at);
+    let stamps = reported.value;
+    let hue = words::short(line, reported.at);
     let saturation = words::byte(line, hue.at);
     let mireds = words::short(line, saturation.at);
     let modes = enums::color_mode(line, mireds.at);

@@ -29,7 +29,7 @@ struct Replay {
     more: bool,
 }
 
-// A count brought within a buffer.
+// A count clamped to a buffer.
 fn within(count: usize, buffer: &[u8]) -> usize
     ensures { λ r. ⌜ Counts r (now (buffer .entry)) ⌝ }
 {

@@ -250,7 +250,7 @@ fn ending(out: &mut [u8], at: usize, running: Running) -> usize {
 }
 
 // The notices, the task given and the wait.
-fn told(out: &mut [u8], at: usize, list: Notices, task: GivenTask, wait: u64) -> usize {
+fn reported(out: &mut [u8], at: usize, list: Notices, task: GivenTask, wait: u64) -> usize {
     let a = bar(out, at);
     let b = notices(out, a, list);
     let c = bar(out, b);
@@ -267,7 +267,7 @@ pub(crate) fn answer(out: &mut [u8], at: usize, answer: Answer) -> usize {
     let a = status(out, at, answer.number);
     let b = bar(out, a);
     let c = fields(out, b, lamp);
-    let d = told(out, c, list, task, answer.wait);
+    let d = reported(out, c, list, task, answer.wait);
     let e = bar(out, d);
     ending(out, e, running)
 }

@@ -129,7 +129,7 @@ fn recorded(lamp: Lamp, running: Running) -> Answer {
 // A setter's answer: the lamp at the clock, with the colour that was set.
 fn colored(lamp: Lamp, clock: u64, set: ColorSet) -> Answer {
     let color = set.color;
-    let told = set.notices;
+    let reported = set.notices;
     let now = lamp.at_clock(clock);
     Answer {
         number: ACCEPTED,
@@ -137,14 +137,14 @@ fn colored(lamp: Lamp, clock: u64, set: ColorSet) -> Answer {
             color: color,
             ..now
         },
-        notices: told,
+        notices: reported,
         task: GivenTask::Nothing,
         wait: 0,
     }
 }
 
 fn set_hue(lamp: Lamp, set: HueSetting) -> Answer {
-    let number = lamp.form_or_clock(set.clock);
+    let number = lamp.first_cause(set.clock);
     if number != ACCEPTED {
         return lamp.refused(number);
     }
@@ -166,7 +166,7 @@ fn set_hue(lamp: Lamp, set: HueSetting) -> Answer {
 }
 
 fn set_saturation(lamp: Lamp, set: SaturationSetting) -> Answer {
-    let number = lamp.form_or_clock(set.clock);
+    let number = lamp.first_cause(set.clock);
     if number != ACCEPTED {
         return lamp.refused(number);
     }
@@ -187,7 +187,7 @@ fn set_saturation(lamp: Lamp, set: SaturationSetting) -> Answer {
 }
 
 fn set_mireds(lamp: Lamp, set: MiredsSetting) -> Answer {
-    let number = lamp.form_or_clock(set.clock);
+    let number = lamp.first_cause(set.clock);
     if number != ACCEPTED {
         return lamp.refused(number);
     }
@@ -275,12 +275,12 @@ fn remaining(asked: RemainingAsked, out: &mut [u8], at: usize) -> usize {
     let old = RemainingTime { tenths: asked.old };
     let written = old.write_remaining_time_quietly(asked.ms, asked.is_start);
     let now = written.remaining;
-    let a = bit(out, at, written.told);
+    let a = bit(out, at, written.reported);
     let b = print::byte(out, a, b' ');
     print::number(out, b, now.tenths as u64)
 }
 
-fn leave(asked: LeaveAsked, out: &mut [u8], at: usize) -> usize {
+fn may_execute(asked: LeaveAsked, out: &mut [u8], at: usize) -> usize {
     let on_off = asked.on_off;
     let may = matter::should_continue(on_off, asked.options, asked.mask, asked.over);
     bit(out, at, may)
@@ -296,7 +296,7 @@ fn ask(leaf: Leaf, out: &mut [u8], at: usize) -> usize {
     match leaf {
         Leaf::Delta(asked) => delta(asked, out, at),
         Leaf::Remaining(asked) => remaining(asked, out, at),
-        Leaf::Leave(asked) => leave(asked, out, at),
+        Leaf::Leave(asked) => may_execute(asked, out, at),
         Leaf::ModeOf(emode) => mode_of(emode, out, at),
     }
 }

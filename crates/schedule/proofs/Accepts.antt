@@ -1,4 +1,4 @@
--- Which calls a lamp in form accepts, that a refused one leaves it as it was, and what an accepted one gives.
+-- Which calls a lamp valid accepts, that a refused one leaves it as it was, and what an accepted one gives.
 use Prim.Native.Nat.{ℕ}
 use mathlib.Core.Bool.{Bool, true, false, not, cond, _&&_, _||_}
 use mathlib.Core.Logic.{inl, inr}
@@ -6,12 +6,12 @@ use mathlib.Core.Path.{_≡_, refl, sym, _∙_, ap}
 use lib.Dec.{leb, eqb}
 use borrow.Author.Tests.{eqb-true, eqb-false}
 use Rattle.matter.specs.Limits.{clockLimit}
-use Rattle.tasks.specs.Form.{taskForm}
+use Rattle.tasks.specs.Valid.{taskValid}
 use Rattle.tasks.specs.Runs.{runs}
 use Rattle.lamp.specs.declared.Lamp.{Lamp}
 use Rattle.lamp.specs.declared.Answer.{Answer}
-use Rattle.lamp.specs.Answers.{badClock, formOrClock}
-use Rattle.lamp.specs.Form.{lampForm}
+use Rattle.lamp.specs.Answers.{badClock, firstCause}
+use Rattle.lamp.specs.Valid.{lampValid}
 use Rattle.lamp.specs.declared.Call.{Call}
 use Rattle.commands.specs.Commands.{stopMode, numberCause, crossed}
 use Rattle.commands.specs.Answers.{allowed, commandCause, cause, answer, granted, clockOf}
@@ -26,7 +26,7 @@ timely now clock = leb now clock && leb clock clockLimit
 -- a call that nothing but form and clock can turn away
 abbrev pub grounds : Lamp → Call → Bool
 grounds l (Call.Command c onOff clock) = stopMode c || (eqb (numberCause c) 0 && not (allowed l c onOff && crossed (l .bounds) c))
-grounds l (Call.Start task clock) = taskForm task
+grounds l (Call.Start task clock) = taskValid task
 grounds l (Call.Step clock) = runs (l .running)
 grounds l (Call.Halt clock) = true
 
@@ -47,8 +47,8 @@ command-table true false n b = elim (either (eqb n 0)) [ inl e ↦ rw e (go b) |
     go true = refl
     go false = refl
 
-start-table : (t form : Bool) → eqb (cond (eqb (cond (not t) 4 0) 0) (cond form 0 6) (cond (not t) 4 0)) 0 ≡ (t && form)
-start-table false form = refl
+start-table : (t valid : Bool) → eqb (cond (eqb (cond (not t) 4 0) 0) (cond valid 0 6) (cond (not t) 4 0)) 0 ≡ (t && valid)
+start-table false valid = refl
 start-table true true = refl
 start-table true false = refl
 
@@ -62,15 +62,15 @@ halt-table : (t : Bool) → eqb (cond (not t) 4 0) 0 ≡ (t && true)
 halt-table true = refl
 halt-table false = refl
 
-table : (l : Lamp) (x : Call) → lampForm l ≡ true → eqb (cause l x) 0 ≡ (timely (l .clock) (clockOf x) && grounds l x)
-unfolding cause commandCause formOrClock
+table : (l : Lamp) (x : Call) → lampValid l ≡ true → eqb (cause l x) 0 ≡ (timely (l .clock) (clockOf x) && grounds l x)
+unfolding cause commandCause firstCause
 table l (Call.Command c onOff clock) f = rw (f, bad-is l clock) (command-table (timely (l .clock) clock) (stopMode c) (numberCause c) (allowed l c onOff && crossed (l .bounds) c))
-table l (Call.Start task clock) f = rw (f, bad-is l clock) (start-table (timely (l .clock) clock) (taskForm task))
+table l (Call.Start task clock) f = rw (f, bad-is l clock) (start-table (timely (l .clock) clock) (taskValid task))
 table l (Call.Step clock) f = rw (f, bad-is l clock) (step-table (timely (l .clock) clock) (runs (l .running)))
 table l (Call.Halt clock) f = rw (f, bad-is l clock) (halt-table (timely (l .clock) clock))
 
 -- accepted where clock and grounds are good
-pub accepts-is : (l : Lamp) (x : Call) → lampForm l ≡ true → accepts l x ≡ (timely (l .clock) (clockOf x) && grounds l x)
+pub accepts-is : (l : Lamp) (x : Call) → lampValid l ≡ true → accepts l x ≡ (timely (l .clock) (clockOf x) && grounds l x)
 accepts-is l x f = ap (λ (n : ℕ). eqb n 0) (number-is-cause l x) ∙ table l x f
 
 -- an accepted call has no cause

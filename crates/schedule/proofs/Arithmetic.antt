@@ -68,6 +68,6 @@ at-end e t =
 
 -- ---- the remaining time
 
--- a time in form, or less of it, fits in sixteen bits
+-- a time valid, or less of it, fits in sixteen bits
 pub tenths-fit : (ms e : ℕ) → ms ≤ 6553500 → newTenths (ms - e) ≡ tenthsOf (ms - e)
 tenths-fit ms e h = omega arith

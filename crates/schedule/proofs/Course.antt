@@ -16,12 +16,12 @@ use Rattle.progress.proofs.Laws.{permille-most, permille-grows, part-within, pa
 use Rattle.lamp.specs.declared.Call.{Call}
 use Rattle.commands.specs.Answers.{clockOf}
 use Rattle.schedule.specs.Calls.{isStep}
-use Rattle.schedule.specs.Schedule.{target, wayFrom, time, Fed, Shown, over, shownAt, takes, whenTaken, followed}
+use Rattle.schedule.specs.Schedule.{target, deltaFrom, time, Fed, Shown, over, shownAt, takes, whenTaken, followed}
 use Rattle.matter.proofs.Laws.{and-left, and-right, or-left, or-right}
 use Rattle.schedule.proofs.Tests.{either, never, positive, leb-same}
 use Rattle.schedule.proofs.Arithmetic.{gone, gone-part, gone-whole}
 
--- the numbers that the schedule is fed are hues, and the time of a task in form
+-- the numbers that the schedule is fed are hues, and the time of a task valid
 pub record Sane (f : Fed) : Type 0 where
   pub found : f .found < 65536
   pub target : target (f .fade) < 65536
@@ -29,14 +29,14 @@ pub record Sane (f : Fed) : Type 0 where
 
 -- how much of the way a hue shows travelled, and the whole of it
 abbrev pub goneOf : Fed → ℕ → ℕ
-goneOf f hue = gone (wayFrom (f .fade) (f .found)) (f .found) hue
+goneOf f hue = gone (deltaFrom (f .fade) (f .found)) (f .found) hue
 
 abbrev pub wholeOf : Fed → ℕ
-wholeOf f = natAbs (wayFrom (f .fade) (f .found))
+wholeOf f = natAbs (deltaFrom (f .fade) (f .found))
 
 -- the size of the part at a clock
 abbrev pub partAt : Fed → ℕ → ℕ
-partAt f clock = natAbs (partOf (wayFrom (f .fade) (f .found)) (permilleOf (clock - f .start) (time (f .fade))))
+partAt f clock = natAbs (partOf (deltaFrom (f .fade) (f .found)) (permilleOf (clock - f .start) (time (f .fade))))
 
 -- what holds of the schedule at every time
 pub record Right (f : Fed) (s : Shown) : Type 0 where
@@ -47,7 +47,7 @@ pub record Right (f : Fed) (s : Shown) : Type 0 where
   pub live : s .done ≡ false → (0 < time (f .fade)) × (0 < wholeOf f)
 
 part-later : (f : Fed) (b c : ℕ) → b ≤ c → partAt f b ≤ partAt f c
-part-later f b c h = part-grows (wayFrom (f .fade) (f .found)) _ _ (permille-grows (b - f .start) (c - f .start) (time (f .fade)) (omega arith))
+part-later f b c h = part-grows (deltaFrom (f .fade) (f .found)) _ _ (permille-grows (b - f .start) (c - f .start) (time (f .fade)) (omega arith))
 
 -- a later clock changes nothing else
 later-right : (f : Fed) (s : Shown) (clock : ℕ) → Right f s → s .clock ≤ clock → Right f (record { clock = clock; hue = s .hue; remaining = s .remaining; wait = s .wait; done = s .done })
@@ -71,8 +71,8 @@ module _ (f : Fed) (n : Sane f) where
   gone-target = gone-whole (f .found) (target (f .fade)) (f .fade .direction) (n .found) (n .target)
 
   -- and so much of it as the part's size at a place before the end
-  gone-at : (clock : ℕ) → goneOf f (movedHue (f .found) (partOf (wayFrom (f .fade) (f .found)) (permilleOf (clock - f .start) (time (f .fade))))) ≡ partAt f clock
-  gone-at clock = gone-part (wayFrom (f .fade) (f .found)) (f .found) (permilleOf (clock - f .start) (time (f .fade))) (n .found) (way-small (f .found) (target (f .fade)) (f .fade .direction)) (permille-most (clock - f .start) (time (f .fade)))
+  gone-at : (clock : ℕ) → goneOf f (movedHue (f .found) (partOf (deltaFrom (f .fade) (f .found)) (permilleOf (clock - f .start) (time (f .fade))))) ≡ partAt f clock
+  gone-at clock = gone-part (deltaFrom (f .fade) (f .found)) (f .found) (permilleOf (clock - f .start) (time (f .fade))) (n .found) (way-small (f .found) (target (f .fade)) (f .fade .direction)) (permille-most (clock - f .start) (time (f .fade)))
 
   -- ---- a place of the schedule
 
@@ -90,7 +90,7 @@ module _ (f : Fed) (n : Sane f) where
             })
         | inr e ↦
             let t : clock - f .start < time (f .fade) = leb-false (time (f .fade)) (clock - f .start) (or-left (leb (time (f .fade)) (clock - f .start)) _ e) in
-            let w = part-within (wayFrom (f .fade) (f .found)) (permilleOf (clock - f .start) (time (f .fade))) (permille-most (clock - f .start) (time (f .fade))) in
+            let w = part-within (deltaFrom (f .fade) (f .found)) (permilleOf (clock - f .start) (time (f .fade))) (permille-most (clock - f .start) (time (f .fade))) in
             rw e
             (record {
               since = h;

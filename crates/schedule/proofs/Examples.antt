@@ -16,26 +16,26 @@ use Rattle.matter.specs.declared.enums.MoveModeEnum.{MoveModeEnum}
 use Rattle.matter.specs.declared.enums.OnOff.{OnOff}
 use Rattle.matter.specs.All.{allTrue}
 use Rattle.matter.specs.Flags.{hasFlag}
-use Rattle.matter.specs.Typed.{TypedOptions}
+use Rattle.matter.specs.InRange.{InRangeOptions}
 use Rattle.hue.specs.Hue.{distance, pathDelta, movedHue}
 use Rattle.progress.specs.Progress.{permilleOf}
-use Rattle.color.specs.Form.{colorForm}
+use Rattle.color.specs.Valid.{colorValid}
 use Rattle.color.specs.Setters.{hueSet}
 use Rattle.tasks.specs.declared.Running.{Running}
 use Rattle.tasks.specs.declared.Task.{Task}
-use Rattle.tasks.specs.Form.{moveToForm, taskForm, runningForm}
+use Rattle.tasks.specs.Valid.{moveToValid, taskValid, runningValid}
 use Rattle.lamp.specs.declared.Lamp.{Lamp}
-use Rattle.lamp.specs.Answers.{formOrClock}
+use Rattle.lamp.specs.Answers.{firstCause}
 use Rattle.lamp.specs.Calls.{hueSaturationStart, started, stepped, startAnswer, stepAnswer, haltAnswer}
-use Rattle.lamp.specs.Form.{lampForm}
+use Rattle.lamp.specs.Valid.{lampValid}
 use Rattle.lamp.specs.Passes.{hueSaturationPass}
 use Rattle.lamp.specs.declared.Call.{Call}
-use Rattle.lamp.specs.Typed.{TypedLamp}
+use Rattle.lamp.specs.InRange.{InRangeLamp}
 use Rattle.commands.specs.Commands.{commandEffect}
 use Rattle.commands.specs.Answers.{answer, allowed, commandCause, commandAnswer}
-use Rattle.schedule.specs.Calls.{after, accepts, TypedCalls, quiet, steps, paced}
+use Rattle.schedule.specs.Calls.{after, accepts, InRangeCalls, quiet, steps, paced}
 use Rattle.schedule.specs.Schedule.{HueCommand, asCommand}
-use Rattle.schedule.specs.Fades.{Fade, finds, commandCall, ready, startCall, begun, listOf, PremisedButHue, Premised, waitsKept, seen, looks, shown, stepsTaken}
+use Rattle.schedule.specs.Fades.{Fade, finds, commandCall, ready, startCall, begun, listOf, PremisedButHue, Premised, waitsKept, seen, observations, shown, stepsTaken}
 
 -- ---- a lamp
 
@@ -78,8 +78,8 @@ paceKept =
     (Call.Step 5100 ∷ Call.Step 5200 ∷ [])
 
 -- to the hue that is there
-abbrev pub noWay : Fade
-noWay =
+abbrev pub noDelta : Fade
+noDelta =
     at5000 (lampAt 2560)
     (record { enhanced = false; hue = 10; direction = DirectionEnum.Longest; tenths = 5; options = plain })
     (Call.Step 5100 ∷ [])
@@ -121,7 +121,7 @@ amongOthers =
           ∷ Call.Start Task.Stop 5260
           -- refused: an earlier clock
           ∷ Call.Command (Command.ColorLoopSet 1 ColorLoopActionEnum.ActivateFromEnhancedCurrentHue ColorLoopDirectionEnum.Increment 25 0 plain) OnOff.On 5240
-          -- accepted, and passed over
+          -- accepted, and skipped
           ∷ Call.Command (Command.MoveToHue 254 DirectionEnum.Shortest 1 plain) OnOff.Off 5270
           -- refused: past the limit
           ∷ Call.Halt 1_099_511_627_777
@@ -133,12 +133,12 @@ amongOthers =
     }
 
 abbrev examples : List Fade
-examples = paceKept ∷ noWay ∷ noTime ∷ pastZero ∷ amongOthers ∷ []
+examples = paceKept ∷ noDelta ∷ noTime ∷ pastZero ∷ amongOthers ∷ []
 
 -- ---- they meet the premises
 
-pub typed-lamp : (hue : ℕ) → hue < 65536 → TypedLamp (lampAt hue)
-typed-lamp hue h =
+pub in-range-lamp : (hue : ℕ) → hue < 65536 → InRangeLamp (lampAt hue)
+in-range-lamp hue h =
     record {
       clock = lit< tt;
       bounds = record { min = lit< tt; max = lit< tt };
@@ -156,54 +156,54 @@ typed-lamp hue h =
       running = tt;
     }
 
-pub typed-plain : TypedOptions plain
-typed-plain = record { mask = lit< tt; over = lit< tt }
+pub in-range-plain : InRangeOptions plain
+in-range-plain = record { mask = lit< tt; over = lit< tt }
 
 -- the premises of a fade: the types, and six tests that compute
-pub meets : (e : Fade) → TypedLamp (e .lamp) → TypedCalls (listOf e) → lampForm (e .lamp) ≡ true →
+pub meets : (e : Fade) → InRangeLamp (e .lamp) → InRangeCalls (listOf e) → lampValid (e .lamp) ≡ true →
     accepts (finds e) (commandCall e) ≡ true → allowed (finds e) (asCommand (e .move)) (e .onOff) ≡ true →
     accepts (ready e) (startCall e) ≡ true → quiet (begun e .lamp) (e .calls) ≡ true → PremisedButHue e
-meets e typedLamp typedCalls form accepted leave started undisturbed =
+meets e inRangeLamp inRangeCalls valid accepted mayExecute started undisturbed =
     record {
-      form = form;
-      typedLamp = typedLamp;
-      typedCalls = typedCalls;
+      valid = valid;
+      inRangeLamp = inRangeLamp;
+      inRangeCalls = inRangeCalls;
       accepted = accepted;
-      leave = leave;
+      mayExecute = mayExecute;
       started = started;
       undisturbed = undisturbed;
     }
 
-pub all-meet : Premised paceKept × Premised noWay × Premised noTime × Premised pastZero × Premised amongOthers
-unfolding after quiet answer commandCause commandAnswer formOrClock lampForm allTrue colorForm runningForm moveToForm taskForm commandEffect startAnswer stepAnswer haltAnswer started stepped hueSaturationStart hueSaturationPass hueSet permilleOf pathDelta distance movedHue hasFlag
+pub all-meet : Premised paceKept × Premised noDelta × Premised noTime × Premised pastZero × Premised amongOthers
+unfolding after quiet answer commandCause commandAnswer firstCause lampValid allTrue colorValid runningValid moveToValid taskValid commandEffect startAnswer stepAnswer haltAnswer started stepped hueSaturationStart hueSaturationPass hueSet permilleOf pathDelta distance movedHue hasFlag
 all-meet = (
   record {
-    others = meets _ (typed-lamp 0 (lit< tt))
-        (((lit< tt, lit< tt, typed-plain), lit< tt), ((record { delta = lit< tt; saturation = tt; ms = lit< tt }, lit< tt), (lit< tt, (lit< tt, tt))))
+    others = meets _ (in-range-lamp 0 (lit< tt))
+        (((lit< tt, lit< tt, in-range-plain), lit< tt), ((record { delta = lit< tt; saturation = tt; ms = lit< tt }, lit< tt), (lit< tt, (lit< tt, tt))))
         refl refl refl refl refl;
     hue = refl;
   },
   record {
-    others = meets _ (typed-lamp 2560 (lit< tt))
-        (((lit< tt, lit< tt, typed-plain), lit< tt), ((record { delta = lit< tt; saturation = tt; ms = lit< tt }, lit< tt), (lit< tt, tt)))
+    others = meets _ (in-range-lamp 2560 (lit< tt))
+        (((lit< tt, lit< tt, in-range-plain), lit< tt), ((record { delta = lit< tt; saturation = tt; ms = lit< tt }, lit< tt), (lit< tt, tt)))
         refl refl refl refl refl;
     hue = refl;
   },
   record {
-    others = meets _ (typed-lamp 0 (lit< tt))
-        (((lit< tt, lit< tt, typed-plain), lit< tt), ((record { delta = lit< tt; saturation = tt; ms = lit< tt }, lit< tt), (lit< tt, tt)))
+    others = meets _ (in-range-lamp 0 (lit< tt))
+        (((lit< tt, lit< tt, in-range-plain), lit< tt), ((record { delta = lit< tt; saturation = tt; ms = lit< tt }, lit< tt), (lit< tt, tt)))
         refl refl refl refl refl;
     hue = refl;
   },
   record {
-    others = meets _ (typed-lamp 1000 (lit< tt))
-        (((lit< tt, lit< tt, typed-plain), lit< tt), ((record { delta = lit< tt; saturation = tt; ms = lit< tt }, lit< tt), (lit< tt, (lit< tt, (lit< tt, (lit< tt, tt))))))
+    others = meets _ (in-range-lamp 1000 (lit< tt))
+        (((lit< tt, lit< tt, in-range-plain), lit< tt), ((record { delta = lit< tt; saturation = tt; ms = lit< tt }, lit< tt), (lit< tt, (lit< tt, (lit< tt, (lit< tt, tt))))))
         refl refl refl refl refl;
     hue = refl;
   },
   record {
-    others = meets _ (typed-lamp 60000 (lit< tt))
-        (lit< tt, (lit< tt, (((lit< tt, lit< tt, typed-plain), lit< tt), (((lit< tt, lit< tt, typed-plain), lit< tt), ((record { delta = lit< tt; saturation = tt; ms = lit< tt }, lit< tt), (lit< tt, (lit< tt, (((lit< tt, lit< tt, typed-plain), lit< tt), (((lit< tt, typed-plain), lit< tt), ((tt, lit< tt), (((lit< tt, lit< tt, lit< tt, typed-plain), lit< tt), (((lit< tt, lit< tt, typed-plain), lit< tt), (lit< tt, (lit< tt, (lit< tt, tt)))))))))))))))
+    others = meets _ (in-range-lamp 60000 (lit< tt))
+        (lit< tt, (lit< tt, (((lit< tt, lit< tt, in-range-plain), lit< tt), (((lit< tt, lit< tt, in-range-plain), lit< tt), ((record { delta = lit< tt; saturation = tt; ms = lit< tt }, lit< tt), (lit< tt, (lit< tt, (((lit< tt, lit< tt, in-range-plain), lit< tt), (((lit< tt, in-range-plain), lit< tt), ((tt, lit< tt), (((lit< tt, lit< tt, lit< tt, in-range-plain), lit< tt), (((lit< tt, lit< tt, in-range-plain), lit< tt), (lit< tt, (lit< tt, (lit< tt, tt)))))))))))))))
         refl refl refl refl refl;
     hue = refl;
   },
@@ -211,7 +211,7 @@ all-meet = (
 
 -- and each accepted step comes at or after the wait that was asked
 pub all-wait : map waitsKept examples ≡ true ∷ true ∷ true ∷ true ∷ true ∷ []
-unfolding paced after answer commandCause commandAnswer formOrClock lampForm allTrue colorForm runningForm moveToForm taskForm commandEffect startAnswer stepAnswer haltAnswer started stepped hueSaturationStart hueSaturationPass hueSet permilleOf pathDelta distance movedHue hasFlag
+unfolding paced after answer commandCause commandAnswer firstCause lampValid allTrue colorValid runningValid moveToValid taskValid commandEffect startAnswer stepAnswer haltAnswer started stepped hueSaturationStart hueSaturationPass hueSet permilleOf pathDelta distance movedHue hasFlag
 all-wait = refl
 
 -- ---- what their lamps show, from the start on
@@ -224,10 +224,10 @@ pub all-show : map shown examples ≡
     ∷ (seen 60000 10 false ∷ seen 60653 9 false ∷ seen 60653 9 false ∷ seen 60653 9 false ∷ seen 60653 9 false ∷ seen 60653 9 false
     ∷ seen 60653 9 false ∷ seen 60653 9 false ∷ seen 60653 9 false ∷ seen 1000 0 true ∷ seen 1000 0 true ∷ [])
     ∷ []
-unfolding looks after answer commandCause commandAnswer formOrClock lampForm allTrue colorForm runningForm moveToForm taskForm commandEffect startAnswer stepAnswer haltAnswer started stepped hueSaturationStart hueSaturationPass hueSet permilleOf pathDelta distance movedHue hasFlag
+unfolding observations after answer commandCause commandAnswer firstCause lampValid allTrue colorValid runningValid moveToValid taskValid commandEffect startAnswer stepAnswer haltAnswer started stepped hueSaturationStart hueSaturationPass hueSet permilleOf pathDelta distance movedHue hasFlag
 all-show = refl
 
 -- as many steps as tenths, where each comes as soon as it may
 pub all-take : map stepsTaken examples ≡ 2 ∷ 0 ∷ 0 ∷ 4 ∷ 2 ∷ []
-unfolding steps after answer commandCause commandAnswer formOrClock lampForm allTrue colorForm runningForm moveToForm taskForm commandEffect startAnswer stepAnswer haltAnswer started stepped hueSaturationStart hueSaturationPass hueSet permilleOf pathDelta distance movedHue hasFlag
+unfolding steps after answer commandCause commandAnswer firstCause lampValid allTrue colorValid runningValid moveToValid taskValid commandEffect startAnswer stepAnswer haltAnswer started stepped hueSaturationStart hueSaturationPass hueSet permilleOf pathDelta distance movedHue hasFlag
 all-take = refl

@@ -9,7 +9,7 @@ use lib.Dec.{leb, eqb}
 use borrow.Author.Tests.{leb-true, ne-eqb, not-true}
 use Rattle.matter.specs.declared.enums.OnOff.{OnOff}
 use Rattle.matter.specs.Flags.{hasFlag, executeIfOff}
-use Rattle.matter.specs.Rules.{leave}
+use Rattle.matter.specs.Rules.{mayExecute}
 use Rattle.progress.specs.Progress.{permilleOf}
 use Rattle.progress.proofs.Laws.{permille-full, permille-is}
 use Rattle.tasks.specs.declared.HueDelta.{HueDelta}
@@ -18,14 +18,14 @@ use Rattle.tasks.specs.declared.Running.{Running}
 use Rattle.lamp.specs.declared.Lamp.{Lamp}
 use Rattle.lamp.specs.declared.Answer.{Answer}
 use Rattle.lamp.specs.Answers.{atClock}
-use Rattle.lamp.specs.Calls.{stepped, started, done, hueSaturationStart, startPermille, noHueWay, fullWritten}
-use Rattle.lamp.specs.Form.{lampForm}
+use Rattle.lamp.specs.Calls.{stepped, started, done, hueSaturationStart, startPermille, noHueDelta, fullWritten}
+use Rattle.lamp.specs.Valid.{lampValid}
 use Rattle.lamp.specs.Passes.{hueSaturationPass, remainingSet}
 use Rattle.lamp.specs.declared.Call.{Call}
 use Rattle.commands.specs.Answers.{answer, isLoopSet}
-use Rattle.commands.proofs.Kept.{form-kept, bounds-kept, options-kept, quiet-command}
+use Rattle.commands.proofs.Kept.{valid-kept, bounds-kept, options-kept, quiet-command}
 use Rattle.schedule.specs.Calls.{next, accepts, idle, acceptedStep, interrupts}
-use Rattle.schedule.specs.Schedule.{taskOf, time, wayFrom, Fed, Shown, over, shownAt, own, takes, whenTaken, followed}
+use Rattle.schedule.specs.Schedule.{taskOf, time, deltaFrom, Fed, Shown, over, shownAt, own, takes, whenTaken, followed}
 use Rattle.matter.proofs.Laws.{or-left}
 use Rattle.schedule.proofs.Tests.{either, never, positive}
 use Rattle.schedule.proofs.Course.{Sane, Right, wholeOf, at-right, step-open, followed-right, done-is, begins-done}
@@ -33,7 +33,7 @@ use Rattle.schedule.proofs.Pass.{Shows, Meets, runFrom, runOf, runningO
 use Rattle.schedule.proofs.Accepts.{grounds, accepts-is, no-cause, refused-keeps, accepted-is}
 
 pub record Fading (f : Fed) (l : Lamp) (s : Shown) : Type 0 where
-  pub form : lampForm l ≡ true
+  pub valid : lampValid l ≡ true
   pub bounds : l .bounds ≡ f .bounds
   pub options : hasFlag (l .options) executeIfOff ≡ f .executeIfOff
   pub saturation : ℕ
@@ -47,7 +47,7 @@ unfolding hasFlag
 bit-is true = refl
 bit-is false = refl
 
-leave-same : (onOff : OnOff) (options mask over : ℕ) (b : Bool) → hasFlag options executeIfOff ≡ b → leave onOff options mask over ≡ leave onOff (cond b 1 0) mask over
+leave-same : (onOff : OnOff) (options mask over : ℕ) (b : Bool) → hasFlag options executeIfOff ≡ b → mayExecute onOff options mask over ≡ mayExecute onOff (cond b 1 0) mask over
 leave-same OnOff.NoHandler options mask over b e = refl
 leave-same OnOff.On options mask over b e = refl
 leave-same OnOff.Off options mask over b e = rw (e, bit-is b)
@@ -71,7 +71,7 @@ module _ {f : Fed} {l : Lamp} {s : Shown} (k : Fading f l s) where
   grounds-are (Call.Halt clock) = refl
 
   pub accepts-takes : (x : Call) → accepts l x ≡ takes f s x
-  accepts-takes x = accepts-is l x (k .form) ∙ rw (grounds-are x, k .shows .clock)
+  accepts-takes x = accepts-is l x (k .valid) ∙ rw (grounds-are x, k .shows .clock)
 
 -- ---- one call
 
@@ -107,7 +107,7 @@ module _ {f : Fed} {l : Lamp} {s : Shown} (k : Fading f l s) (n : Sane f) where
   pub fades-on : (x : Call) → not (interrupts x && accepts l x) ≡ true → Fading f (next l x) (followed f s x)
   fades-on x q =
       record {
-        form = form-kept l x (k .form);
+        valid = valid-kept l x (k .valid);
         bounds = bounds-kept l x ∙ k .bounds;
         options = ap (λ (o : ℕ). hasFlag o executeIfOff) (options-kept l x) ∙ k .options;
         saturation = k .saturation;
@@ -134,7 +134,7 @@ permille-none : (c t : ℕ) → 0 < t → permilleOf (c - c) t ≡ 0
 permille-none c t h = rw (sub-self c) (permille-is 0 t h ∙ ap (min 1000) (zero-div t))
 
 -- the first pass, at the permille of a start
-start-pass : (f : Fed) → Sane f → (saturation : ℕ) (l : Lamp) → l .clock ≡ f .start → Meets f saturation (hueSaturationPass l (runOf f saturation) (startPermille (time (f .fade)) (noHueWay (HueDelta.By (wayFrom (f .fade) (f .found))) && true))) (shownAt f (l .clock))
+start-pass : (f : Fed) → Sane f → (saturation : ℕ) (l : Lamp) → l .clock ≡ f .start → Meets f saturation (hueSaturationPass l (runOf f saturation) (startPermille (time (f .fade)) (noHueDelta (HueDelta.By (deltaFrom (f .fade) (f .found))) && true))) (shownAt f (l .clock))
 start-pass f n saturation l c =
     let o : over f (l .clock - f .start) ≡ (eqb (time (f .fade)) 0 || eqb (wholeOf f) 0) = ap (λ (t : ℕ). over f (t - f .start)) c ∙ sym (done-is f (f .start)) ∙ begins-done f in
     rw and-true
@@ -149,9 +149,9 @@ start-meets : (f : Fed) → Sane f → (l : Lamp) → l .color .hue ≡ f .found
 unfolding started hueSaturationStart
 start-meets f n l h =
     let at : Lamp = remainingSet (atClock l (f .start)) (fullWritten l (time (f .fade))) in
-    let m : Meets f (l .color .saturation) (hueSaturationPass at (runFrom f (l .color .hue) (l .color .saturation)) (startPermille (time (f .fade)) (noHueWay (HueDelta.By (wayFrom (f .fade) (f .found))) && true))) (shownAt f (f .start)) =
+    let m : Meets f (l .color .saturation) (hueSaturationPass at (runFrom f (l .color .hue) (l .color .saturation)) (startPermille (time (f .fade)) (noHueDelta (HueDelta.By (deltaFrom (f .fade) (f .found))) && true))) (shownAt f (f .start)) =
     subst
-    (λ (hue : ℕ). Meets f (l .color .saturation) (hueSaturationPass at (runFrom f hue (l .color .saturation)) (startPermille (time (f .fade)) (noHueWay (HueDelta.By (wayFrom (f .fade) (f .found))) && true))) (shownAt f (f .start)))
+    (λ (hue : ℕ). Meets f (l .color .saturation) (hueSaturationPass at (runFrom f hue (l .color .saturation)) (startPermille (time (f .fade)) (noHueDelta (HueDelta.By (deltaFrom (f .fade) (f .found))) && true))) (shownAt f (f .start)))
     (sym h)
     (start-pass f n (l .color .saturation) at refl) in
     record { shows = m .shows; wait = m .wait }
@@ -161,7 +161,7 @@ pub record Begins (f : Fed) (a : Answer) : Type 0 where
   pub fading : Fading f (a .lamp) (shownAt f (f .start))
   pub wait : a .wait ≡ shownAt f (f .start) .wait
 
-module _ (f : Fed) (n : Sane f) (l : Lamp) (form : lampForm l ≡ true) (bounds : l .bounds ≡ f .bounds) (options : hasFlag (l .options) executeIfOff ≡ f .executeIfOff) (hue : l .color .hue ≡ f .found) where
+module _ (f : Fed) (n : Sane f) (l : Lamp) (valid : lampValid l ≡ true) (bounds : l .bounds ≡ f .bounds) (options : hasFlag (l .options) executeIfOff ≡ f .executeIfOff) (hue : l .color .hue ≡ f .found) where
   pub begins : accepts l (Call.Start (taskOf (f .fade) (f .found)) (f .start)) ≡ true → Begins f (answer l (Call.Start (taskOf (f .fade) (f .found)) (f .start)))
   begins a =
       let x : Call = Call.Start (taskOf (f .fade) (f .found)) (f .start) in
@@ -170,7 +170,7 @@ module _ (f : Fed) (n : Sane f) (l : Lamp) (form : lampForm l ≡ true) (bounds 
       record {
         fading =
             record {
-              form = form-kept l x form;
+              valid = valid-kept l x valid;
               bounds = bounds-kept l x ∙ bounds;
               options = ap (λ (o : ℕ). hasFlag o executeIfOff) (options-kept l x) ∙ options;
               saturation = l .color .saturation;

@@ -10,17 +10,17 @@ use borrow.Author.Tests.{leb-true}
 use Rattle.matter.specs.declared.enums.OnOff.{OnOff}
 use Rattle.matter.specs.Flags.{hasFlag, executeIfOff}
 use Rattle.matter.proofs.Laws.{each, and-right}
-use Rattle.matter.specs.Typed.{TypedCommand}
+use Rattle.matter.specs.InRange.{InRangeCommand}
 use Rattle.tasks.specs.declared.GivenTask.{GivenTask}
-use Rattle.tasks.specs.Form.{taskForm, moveToForm}
+use Rattle.tasks.specs.Valid.{taskValid, moveToValid}
 use Rattle.lamp.specs.declared.Lamp.{Lamp}
 use Rattle.lamp.specs.declared.Answer.{Answer}
-use Rattle.lamp.specs.Form.{lampForm}
+use Rattle.lamp.specs.Valid.{lampValid}
 use Rattle.lamp.specs.declared.Call.{Call}
-use Rattle.lamp.specs.Typed.{TypedLamp}
+use Rattle.lamp.specs.InRange.{InRangeLamp}
 use Rattle.commands.specs.Commands.{commandEffect}
 use Rattle.commands.specs.Answers.{answer, allowed}
-use Rattle.commands.proofs.Kept.{form-kept, bounds-kept, options-kept}
+use Rattle.commands.proofs.Kept.{valid-kept, bounds-kept, options-kept}
 use Rattle.schedule.specs.Calls.{next, after, accepts, interrupts, quiet, steps, paced}
 use Rattle.schedule.specs.Schedule.{HueCommand, asCommand, target, time, taskOf, Fed, Shown, shownAt, scheduledFrom}
 use Rattle.schedule.specs.Claim.{Keeps, KeepsAt, KeptFade, fed, Kept, Claim}
@@ -28,7 +28,7 @@ use Rattle.schedule.proofs.Tests.{either}
 use Rattle.schedule.proofs.Course.{Sane, followed-on, at-open, begins-done}
 use Rattle.schedule.proofs.Accepts.{timely, accepts-is, accepted-is}
 use Rattle.schedule.proofs.Fading.{Fading, idle-is, accepts-takes, fades-on, wait-is, Begins, begins}
-use Rattle.schedule.proofs.Lists.{after-one, scheduled-one, quiet-front, quiet-back, quiet-call, typed-split, form-after, typed-after, bounds-after, options-after}
+use Rattle.schedule.proofs.Lists.{after-one, scheduled-one, quiet-front, quiet-back, quiet-call, in-range-split, valid-after, in-range-after, bounds-after, options-after}
 use Rattle.schedule.proofs.Pace.{fades-after, done-exactly, left, done-stays, pace-kept}
 
 -- ---- from the start on
@@ -104,30 +104,30 @@ task-is l h onOff clock a e =
     (elim (either (h .enhanced)) [ inl z ↦ rw (z, rw z at e) | inr z ↦ rw (z, rw z at e) ])
 
 -- the target of a typed command is a hue
-pub target-small : (h : HueCommand) → TypedCommand (asCommand h) → target h < 65536
+pub target-small : (h : HueCommand) → InRangeCommand (asCommand h) → target h < 65536
 target-small h t =
     elim (either (h .enhanced)) [
       | inl z ↦ rw z (let k = (rw z at t) .0 in omega arith)
       | inr z ↦ rw z (let k = (rw z at t) .0 in omega arith)
     ]
 
--- the time of an accepted start is that of a task in form
-time-small : (l : Lamp) (h : HueCommand) (found clock : ℕ) → lampForm l ≡ true → accepts l (Call.Start (taskOf h found) clock) ≡ true → time h ≤ 6553500
-unfolding taskForm moveToForm
+-- the time of an accepted start is that of a task valid
+time-small : (l : Lamp) (h : HueCommand) (found clock : ℕ) → lampValid l ≡ true → accepts l (Call.Start (taskOf h found) clock) ≡ true → time h ≤ 6553500
+unfolding taskValid moveToValid
 time-small l h found clock f a =
-    let g : taskForm (taskOf h found) ≡ true = and-right (timely (l .clock) clock) _ (sym (accepts-is l (Call.Start (taskOf h found) clock) f) ∙ a) in
+    let g : taskValid (taskOf h found) ≡ true = and-right (timely (l .clock) clock) _ (sym (accepts-is l (Call.Start (taskOf h found) clock) f) ∙ a) in
     leb-true (time h) 6553500 (and-right (eqb (time h % 100) 0) _ (each _ g .0))
 
-pub kept : (l : Lamp) (h : HueCommand) (onOff : OnOff) (clock : ℕ) (rest : List Call) → lampForm l ≡ true → TypedLamp l → TypedCommand (asCommand h) → accepts l (Call.Command (asCommand h) onOff clock) ≡ true → allowed l (asCommand h) onOff ≡ true → Kept l h onOff clock rest
-kept l h onOff clock rest form typed c a e =
+pub kept : (l : Lamp) (h : HueCommand) (onOff : OnOff) (clock : ℕ) (rest : List Call) → lampValid l ≡ true → InRangeLamp l → InRangeCommand (asCommand h) → accepts l (Call.Command (asCommand h) onOff clock) ≡ true → allowed l (asCommand h) onOff ≡ true → Kept l h onOff clock rest
+kept l h onOff clock rest valid inRange c a e =
     let x : Call = Call.Command (asCommand h) onOff clock in
     record {
       task = task-is l h onOff clock a e;
       fades = λ between calls at split p.
           let found : Lamp = after (next l x) between in
           let f : Fed = fed h l at in
-          let form' : lampForm found ≡ true = form-after (next l x) between (form-kept l x form) in
-          let n : Sane f = record { found = typed .hue; target = target-small h c; time = time-small found h (l .color .hue) at form' (p .accepted) } in
+          let form' : lampValid found ≡ true = valid-after (next l x) between (valid-kept l x valid) in
+          let n : Sane f = record { found = inRange .hue; target = target-small h c; time = time-small found h (l .color .hue) at form' (p .accepted) } in
           let b =
           begins f n found form' (bounds-after (next l x) between ∙ bounds-kept l x)
           (ap (λ (o : ℕ). hasFlag o executeIfOff) (options-after (next l x) between ∙ options-kept l x))
@@ -137,6 +137,6 @@ kept l h onOff clock rest form typed c a e =
     }
 
 pub keeps-schedule : Claim
-keeps-schedule l calls form typed c before rest h onOff clock split a e =
-    let t = typed-split before (Call.Command (asCommand h) onOff clock ∷ rest) (rw split at c) in
-    kept (after l before) h onOff clock rest (form-after l before form) (typed-after l before form typed (t .0)) (t .1 .0 .0) a e
+keeps-schedule l calls valid inRange c before rest h onOff clock split a e =
+    let t = in-range-split before (Call.Command (asCommand h) onOff clock ∷ rest) (rw split at c) in
+    kept (after l before) h onOff clock rest (valid-after l before valid) (in-range-after l before valid inRange (t .0)) (t .1 .0 .0) a e

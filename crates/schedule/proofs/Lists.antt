@@ -4,11 +4,11 @@ use mathlib.Core.List.{List, [], _∷_, _++_}
 use mathlib.Core.Path.{_≡_, refl, _∙_}
 use Rattle.matter.proofs.Laws.{and-left, and-right}
 use Rattle.lamp.specs.declared.Lamp.{Lamp}
-use Rattle.lamp.specs.Form.{lampForm}
+use Rattle.lamp.specs.Valid.{lampValid}
 use Rattle.lamp.specs.declared.Call.{Call}
-use Rattle.lamp.specs.Typed.{TypedLamp}
-use Rattle.commands.proofs.Kept.{form-kept, typed-kept, bounds-kept, options-kept}
-use Rattle.schedule.specs.Calls.{next, after, accepts, TypedCalls, interrupts, quiet}
+use Rattle.lamp.specs.InRange.{InRangeLamp}
+use Rattle.commands.proofs.Kept.{valid-kept, in-range-kept, bounds-kept, options-kept}
+use Rattle.schedule.specs.Calls.{next, after, accepts, InRangeCalls, interrupts, quiet}
 use Rattle.schedule.specs.Schedule.{Fed, Shown, followed, scheduledFrom}
 
 -- ---- two lists, one behind the other
@@ -50,21 +50,21 @@ pub quiet-call : (l : Lamp) (x : Call) (xs : List Call) → quiet l (x ∷ xs) �
 unfolding quiet
 quiet-call l x xs q = (and-left (not (interrupts x && accepts l x)) _ q, and-right (not (interrupts x && accepts l x)) _ q)
 
-pub typed-split : (xs ys : List Call) → TypedCalls (xs ++ ys) → TypedCalls xs × TypedCalls ys
-typed-split [] ys t = (tt, t)
-typed-split (x ∷ xs) ys t = let r = typed-split xs ys (t .1) in ((t .0, r .0), r .1)
+pub in-range-split : (xs ys : List Call) → InRangeCalls (xs ++ ys) → InRangeCalls xs × InRangeCalls ys
+in-range-split [] ys t = (tt, t)
+in-range-split (x ∷ xs) ys t = let r = in-range-split xs ys (t .1) in ((t .0, r .0), r .1)
 
 -- ---- what a list keeps
 
-pub form-after : (l : Lamp) (xs : List Call) → lampForm l ≡ true → lampForm (after l xs) ≡ true
+pub valid-after : (l : Lamp) (xs : List Call) → lampValid l ≡ true → lampValid (after l xs) ≡ true
 unfolding after
-form-after l [] f = f
-form-after l (x ∷ xs) f = form-after (next l x) xs (form-kept l x f)
+valid-after l [] f = f
+valid-after l (x ∷ xs) f = valid-after (next l x) xs (valid-kept l x f)
 
-pub typed-after : (l : Lamp) (xs : List Call) → lampForm l ≡ true → TypedLamp l → TypedCalls xs → TypedLamp (after l xs)
+pub in-range-after : (l : Lamp) (xs : List Call) → lampValid l ≡ true → InRangeLamp l → InRangeCalls xs → InRangeLamp (after l xs)
 unfolding after
-typed-after l [] f t c = t
-typed-after l (x ∷ xs) f t c = typed-after (next l x) xs (form-kept l x f) (typed-kept l x f t (c .0)) (c .1)
+in-range-after l [] f t c = t
+in-range-after l (x ∷ xs) f t c = in-range-after (next l x) xs (valid-kept l x f) (in-range-kept l x f t (c .0)) (c .1)
 
 pub bounds-after : (l : Lamp) (xs : List Call) → after l xs .bounds ≡ l .bounds
 unfolding after

@@ -14,7 +14,7 @@ use Rattle.tasks.specs.declared.HueSaturationRun.{HueSaturationRun}
 use Rattle.tasks.specs.declared.Running.{Running}
 use Rattle.lamp.specs.declared.Lamp.{Lamp}
 use Rattle.lamp.specs.Passes.{Effect, hueSaturationPass}
-use Rattle.schedule.specs.Schedule.{target, wayFrom, time, Fed, Shown, over, shownAt}
+use Rattle.schedule.specs.Schedule.{target, deltaFrom, time, Fed, Shown, over, shownAt}
 use Rattle.matter.proofs.Laws.{and-left, or-left}
 use Rattle.schedule.proofs.Tests.{either}
 use Rattle.schedule.proofs.Arithmetic.{whole-arrives, at-end, tenths-fit}
@@ -29,7 +29,7 @@ runFrom f hue saturation =
       saturation = saturation;
       task =
           record {
-            delta = HueDelta.By (wayFrom (f .fade) (f .found));
+            delta = HueDelta.By (deltaFrom (f .fade) (f .found));
             saturation = TargetSaturation.Keep;
             ms = time (f .fade);
             enhanced = f .fade .enhanced;

@@ -8,7 +8,7 @@ use Rattle.matter.specs.Causes.{accepted}
 use Rattle.tasks.specs.Runs.{runs}
 use Rattle.lamp.specs.declared.Lamp.{Lamp}
 use Rattle.lamp.specs.declared.Call.{Call}
-use Rattle.lamp.specs.Typed.{TypedCall}
+use Rattle.lamp.specs.InRange.{InRangeCall}
 use Rattle.commands.specs.Commands.{crossed}
 use Rattle.commands.specs.Answers.{answer, clockOf, isLoopSet}
 
@@ -27,9 +27,9 @@ accepts l x = eqb (answer l x .number) accepted
 abbrev pub idle : Lamp → Bool
 idle l = not (runs (l .running))
 
-abbrev pub TypedCalls : List Call → Type 0
-TypedCalls [] = Unit
-TypedCalls (x ∷ xs) = TypedCall x × TypedCalls xs
+abbrev pub InRangeCalls : List Call → Type 0
+InRangeCalls [] = Unit
+InRangeCalls (x ∷ xs) = InRangeCall x × InRangeCalls xs
 
 abbrev pub isStep : Call → Bool
 isStep (Call.Command c onOff clock) = false

@@ -1,6 +1,6 @@
--- The claim about every list of commands, starts, steps and halts, refused ones too, from any lamp in form: each move to a hue
--- that is accepted with leave to run gives its task and, once a start of that task is accepted, keeps its schedule. One statement
--- over a lamp and a whole list. Premises: the lamp is in form; lamp and calls are typed; the demand's own.
+-- The claim about every list of commands, starts, steps and halts, refused ones too, from any lamp valid: each move to a hue
+-- that is accepted with leave to execute gives its task and, once a start of that task is accepted, keeps its schedule. One statement
+-- over a lamp and a whole list. Premises: the lamp is valid; lamp and calls are typed; the demand's own.
 use Prim.Native.Nat.{ℕ, _+_, _≤_}
 use mathlib.Core.Bool.{true, cond, _||_}
 use mathlib.Core.List.{List, [], _∷_, _++_}
@@ -14,19 +14,19 @@ use Rattle.hue.specs.Hue.{distance}
 use Rattle.tasks.specs.declared.GivenTask.{GivenTask}
 use Rattle.lamp.specs.declared.Lamp.{Lamp}
 use Rattle.lamp.specs.declared.Answer.{Answer}
-use Rattle.lamp.specs.Form.{lampForm}
+use Rattle.lamp.specs.Valid.{lampValid}
 use Rattle.lamp.specs.declared.Call.{Call}
-use Rattle.lamp.specs.Typed.{TypedLamp}
+use Rattle.lamp.specs.InRange.{InRangeLamp}
 use Rattle.commands.specs.Answers.{answer, allowed}
-use Rattle.schedule.specs.Calls.{next, after, accepts, idle, TypedCalls, quiet, acceptedStep, steps, reached, paced}
-use Rattle.schedule.specs.Schedule.{HueCommand, asCommand, target, wayFrom, time, taskOf, Fed, Shown, takes, scheduled}
+use Rattle.schedule.specs.Calls.{next, after, accepts, idle, InRangeCalls, quiet, acceptedStep, steps, reached, paced}
+use Rattle.schedule.specs.Schedule.{HueCommand, asCommand, target, deltaFrom, time, taskOf, Fed, Shown, takes, scheduled}
 
 -- the way travelled, read off a hue: how far it is from the one found, on the side of the way's sign
 abbrev pub travelled : Fed → Lamp → ℕ
-travelled f l = cond (leZ (pos 0) (wayFrom (f .fade) (f .found))) (distance (f .found) (l .color .hue)) (distance (l .color .hue) (f .found))
+travelled f l = cond (leZ (pos 0) (deltaFrom (f .fade) (f .found))) (distance (f .found) (l .color .hue)) (distance (l .color .hue) (f .found))
 
-abbrev pub wholeWay : Fed → ℕ
-wholeWay f = natAbs (wayFrom (f .fade) (f .found))
+abbrev pub wholeDelta : Fed → ℕ
+wholeDelta f = natAbs (deltaFrom (f .fade) (f .found))
 
 -- the lamp shows what the schedule says
 pub record Agrees (l : Lamp) (s : Shown) : Type 0 where
@@ -39,12 +39,12 @@ pub record Keeps (a : Answer) (f : Fed) (ys : List Call) : Type 0 where
   -- (b) the same hue, remaining time and done
   pub agrees : Agrees (after (a .lamp) ys) (scheduled f ys)
   -- (d) "done exactly at the first accepted step at or after its time, or at its start if time or way is zero"
-  pub done : idle (after (a .lamp) ys) ≡ (eqb (time (f .fade)) 0 || eqb (wholeWay f) 0 || reached (f .start + time (f .fade)) (a .lamp) ys)
+  pub done : idle (after (a .lamp) ys) ≡ (eqb (time (f .fade)) 0 || eqb (wholeDelta f) 0 || reached (f .start + time (f .fade)) (a .lamp) ys)
   -- (e) "Where each accepted step also comes at or after the wait [..] asked, at most d steps are accepted after the start of a
   -- fade of d tenths, and once d are, it is done"
   pub pace : paced (f .start + a .wait) (a .lamp) ys ≡ true → (steps (a .lamp) ys ≤ f .fade .tenths) × (steps (a .lamp) ys ≡ f .fade .tenths → idle (after (a .lamp) ys) ≡ true)
   -- (f) "no hue lies off the chosen arc"
-  pub arc : travelled f (after (a .lamp) ys) ≤ wholeWay f
+  pub arc : travelled f (after (a .lamp) ys) ≤ wholeDelta f
   -- (g) "At done, the hue is the target and the remaining time 0"
   pub end : idle (after (a .lamp) ys) ≡ true → (after (a .lamp) ys .color .hue ≡ target (f .fade)) × (after (a .lamp) ys .remaining .tenths ≡ 0)
 
@@ -96,10 +96,10 @@ pub record Kept (l : Lamp) (h : HueCommand) (onOff : OnOff) (clock : ℕ) (rest 
   -- every start of that task that follows, after the calls `between`
   pub fades : (between calls : List Call) (at : ℕ) → rest ≡ between ++ (startOf h l at ∷ calls) → FadeFrom h l (after (next l (moveTo h onOff clock)) between) at calls
 
--- every move to a hue in the list, on the lamp that the calls before it left, that is accepted with leave to run
+-- every move to a hue in the list, on the lamp that the calls before it left, that is accepted with leave to execute
 abbrev pub Everywhere : Lamp → List Call → Type 0
 Everywhere l calls = (before rest : List Call) (h : HueCommand) (onOff : OnOff) (clock : ℕ) → calls ≡ before ++ (moveTo h onOff clock ∷ rest) → accepts (after l before) (moveTo h onOff clock) ≡ true → allowed (after l before) (asCommand h) onOff ≡ true → Kept (after l before) h onOff clock rest
 
--- the claim: from any lamp in form, for every list of calls
+-- the claim: from any lamp valid, for every list of calls
 abbrev pub Claim : Type 0
-Claim = (l : Lamp) (calls : List Call) → lampForm l ≡ true → TypedLamp l → TypedCalls calls → Everywhere l calls
+Claim = (l : Lamp) (calls : List Call) → lampValid l ≡ true → InRangeLamp l → InRangeCalls calls → Everywhere l calls

@@ -7,11 +7,11 @@ use mathlib.Core.Path.{_≡_}
 use Rattle.matter.specs.declared.enums.OnOff.{OnOff}
 use Rattle.lamp.specs.declared.Lamp.{Lamp}
 use Rattle.lamp.specs.declared.Answer.{Answer}
-use Rattle.lamp.specs.Form.{lampForm}
+use Rattle.lamp.specs.Valid.{lampValid}
 use Rattle.lamp.specs.declared.Call.{Call}
-use Rattle.lamp.specs.Typed.{TypedLamp}
+use Rattle.lamp.specs.InRange.{InRangeLamp}
 use Rattle.commands.specs.Answers.{answer, allowed}
-use Rattle.schedule.specs.Calls.{next, after, accepts, idle, TypedCalls, quiet, steps, paced}
+use Rattle.schedule.specs.Calls.{next, after, accepts, idle, InRangeCalls, quiet, steps, paced}
 use Rattle.schedule.specs.Schedule.{HueCommand, asCommand}
 use Rattle.schedule.specs.Claim.{moveTo, startOf}
 
@@ -59,14 +59,14 @@ listOf e = e .before ++ (commandCall e ∷ (e .between ++ (startCall e ∷ e .ca
 
 -- ---- the claim's premises
 
--- but for the hue at the start: lamp in form, lamp and calls typed, the command accepted with leave to run, the start accepted,
+-- but for the hue at the start: lamp valid, lamp and calls typed, the command accepted with leave to execute, the start accepted,
 -- and no other accepted start, halt or colour-loop command after it
 pub record PremisedButHue (e : Fade) : Type 0 where
-  pub form : lampForm (e .lamp) ≡ true
-  pub typedLamp : TypedLamp (e .lamp)
-  pub typedCalls : TypedCalls (listOf e)
+  pub valid : lampValid (e .lamp) ≡ true
+  pub inRangeLamp : InRangeLamp (e .lamp)
+  pub inRangeCalls : InRangeCalls (listOf e)
   pub accepted : accepts (finds e) (commandCall e) ≡ true
-  pub leave : allowed (finds e) (asCommand (e .move)) (e .onOff) ≡ true
+  pub mayExecute : allowed (finds e) (asCommand (e .move)) (e .onOff) ≡ true
   pub started : accepts (ready e) (startCall e) ≡ true
   pub undisturbed : quiet (begun e .lamp) (e .calls) ≡ true
 
@@ -81,25 +81,25 @@ waitsKept e = paced (e .start + begun e .wait) (begun e .lamp) (e .calls)
 
 -- ---- what its lamp shows
 
-pub record Look : Type 0 where
+pub record Observation : Type 0 where
   pub hue : ℕ
   pub remaining : ℕ
   pub idle : Bool
 
-abbrev pub look : Lamp → Look
-look l = record { hue = l .color .hue; remaining = l .remaining .tenths; idle = idle l }
+abbrev pub observation : Lamp → Observation
+observation l = record { hue = l .color .hue; remaining = l .remaining .tenths; idle = idle l }
 
-abbrev pub seen : ℕ → ℕ → Bool → Look
+abbrev pub seen : ℕ → ℕ → Bool → Observation
 seen hue remaining idle = record { hue = hue; remaining = remaining; idle = idle }
 
 -- at first, and after each call
-unfoldable pub looks : Lamp → List Call → List Look
-looks l [] = look l ∷ []
-looks l (x ∷ xs) = look l ∷ looks (next l x) xs
+unfoldable pub observations : Lamp → List Call → List Observation
+observations l [] = observation l ∷ []
+observations l (x ∷ xs) = observation l ∷ observations (next l x) xs
 
 -- from the start on
-abbrev pub shown : Fade → List Look
-shown e = looks (begun e .lamp) (e .calls)
+abbrev pub shown : Fade → List Observation
+shown e = observations (begun e .lamp) (e .calls)
 
 -- how many steps are accepted after the start
 abbrev pub stepsTaken : Fade → ℕ

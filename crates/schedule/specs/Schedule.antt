@@ -11,13 +11,13 @@ use Rattle.matter.specs.declared.commands.Command.{Command}
 use Rattle.matter.specs.declared.commands.CommandOptions.{CommandOptions}
 use Rattle.matter.specs.declared.enums.DirectionEnum.{DirectionEnum}
 use Rattle.matter.specs.Limits.{clockLimit}
-use Rattle.matter.specs.Rules.{leave}
+use Rattle.matter.specs.Rules.{mayExecute}
 use Rattle.hue.specs.Hue.{pathDelta, movedHue}
 use Rattle.progress.specs.Progress.{permilleOf, partOf, tenthsOf}
 use Rattle.tasks.specs.declared.HueDelta.{HueDelta}
 use Rattle.tasks.specs.declared.TargetSaturation.{TargetSaturation}
 use Rattle.tasks.specs.declared.Task.{Task}
-use Rattle.tasks.specs.Form.{taskForm}
+use Rattle.tasks.specs.Valid.{taskValid}
 use Rattle.lamp.specs.declared.Call.{Call}
 use Rattle.commands.specs.Commands.{optionsOf, stopMode, numberCause, crossed}
 use Rattle.commands.specs.Answers.{clockOf}
@@ -40,8 +40,8 @@ abbrev pub target : HueCommand → ℕ
 target h = cond (h .enhanced) (h .hue) (h .hue * 256)
 
 -- "Way: leaf 1's answer from the hue found to the target"
-abbrev pub wayFrom : HueCommand → ℕ → ℤ
-wayFrom h found = pathDelta found (target h) (h .direction)
+abbrev pub deltaFrom : HueCommand → ℕ → ℤ
+deltaFrom h found = pathDelta found (target h) (h .direction)
 
 -- "Time: tenths × 100"
 abbrev pub time : HueCommand → ℕ
@@ -51,7 +51,7 @@ time h = h .tenths * 100
 abbrev pub taskOf : HueCommand → ℕ → Task
 taskOf h found =
     Task.HueSaturationMoveTo
-    (record { delta = HueDelta.By (wayFrom h found); saturation = TargetSaturation.Keep; ms = time h; enhanced = h .enhanced })
+    (record { delta = HueDelta.By (deltaFrom h found); saturation = TargetSaturation.Keep; ms = time h; enhanced = h .enhanced })
 
 -- what the schedule is fed before the calls
 pub record Fed : Type 0 where
@@ -76,7 +76,7 @@ pub record Shown : Type 0 where
 
 -- "With e at or past the time, or way 0, it is done"
 abbrev pub over : Fed → ℕ → Bool
-over f e = leb (time (f .fade)) e || eqb (natAbs (wayFrom (f .fade) (f .found))) 0
+over f e = leb (time (f .fade)) e || eqb (natAbs (deltaFrom (f .fade) (f .found))) 0
 
 -- "At the accepted start and each accepted step, at elapsed e, its hue is the hue found plus the part [..], wrapped, its
 -- remaining time is time − e in tenths, rounded up, and its wait is time − e, at most 100"; done: "target, 0, 0, idle"
@@ -86,7 +86,7 @@ shownAt f clock =
     cond (over f e) (record { clock = clock; hue = target (f .fade); remaining = 0; wait = 0; done = true })
     (record {
       clock = clock;
-      hue = movedHue (f .found) (partOf (wayFrom (f .fade) (f .found)) (permilleOf e (time (f .fade))));
+      hue = movedHue (f .found) (partOf (deltaFrom (f .fade) (f .found)) (permilleOf e (time (f .fade))));
       remaining = tenthsOf (time (f .fade) - e);
       wait = min 100 (time (f .fade) - e);
       done = false;
@@ -97,8 +97,8 @@ shownAt f clock =
 abbrev pub own : Fed → Call → Bool → Bool
 own f (Call.Command c onOff clock) done =
     stopMode c
-    || (eqb (numberCause c) 0 && not (leave onOff (cond (f .executeIfOff) 1 0) (optionsOf c .mask) (optionsOf c .over) && crossed (f .bounds) c))
-own f (Call.Start task clock) done = taskForm task
+    || (eqb (numberCause c) 0 && not (mayExecute onOff (cond (f .executeIfOff) 1 0) (optionsOf c .mask) (optionsOf c .over) && crossed (f .bounds) c))
+own f (Call.Start task clock) done = taskValid task
 own f (Call.Step clock) done = not done
 own f (Call.Halt clock) done = true
 

@@ -1,3 +1,3 @@
-pub mod Form
+pub mod Valid
 pub mod Runs
-pub mod Typed
+pub mod InRange

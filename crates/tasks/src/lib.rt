@@ -5,7 +5,7 @@ use matter::Bounds;
 use matter::ColorLoopDirectionEnum;
 use matter::MoveModeEnum;
 ghost use mathlib.Core.Path.{_≡_};
-ghost use Rattle.tasks.specs.Form.{timeForm, deltaForm, deltaGiven, saturationForm, saturationGiven, moves, withinBounds, rateForm, moveToForm, hueMoveForm, saturationMoveForm, taskForm, runningForm};
+ghost use Rattle.tasks.specs.Valid.{timeValid, deltaValid, deltaGiven, saturationValid, saturationGiven, moves, withinBounds, rateValid, moveToValid, hueMoveValid, saturationMoveValid, taskValid, runningValid};
 ghost use Rattle.tasks.specs.Runs.{runs};
 
 // The signed way of the hue, where a task moves it (hue_delta, an Option<i32>, in the source).
@@ -20,7 +20,7 @@ pub enum TargetSaturation {
     To(u8),
 }
 
-// To a hue, a saturation or both: the way of the hue, the target, the time in milliseconds, and whether the hue is told
+// To a hue, a saturation or both: the way of the hue, the target, the time in milliseconds, and whether the hue is reported
 // as an enhanced one.
 pub struct HueSaturationMoveTo {
     pub delta: HueDelta,
@@ -123,15 +123,15 @@ pub enum Running {
 }
 
 // Whole tenths of a second, of which there are at most 65,535.
-fn time_in_form(ms: u32) -> bool
-    ensures { λ r. ⌜ r ≡ timeForm ms ⌝ }
+fn is_valid_time(ms: u32) -> bool
+    ensures { λ r. ⌜ r ≡ timeValid ms ⌝ }
 {
     (ms % 100 == 0) & (ms <= 6553500)
 }
 
 // A signed rate of mireds that moves, within 65,535.
-fn rate_in_form(rate: i64) -> bool
-    ensures { λ r. ⌜ r ≡ rateForm rate ⌝ }
+fn is_valid_rate(rate: i64) -> bool
+    ensures { λ r. ⌜ r ≡ rateValid rate ⌝ }
 {
     ((rate < 0) | (0 < rate)) & ((-65535 <= rate) & (rate <= 65535))
 }
@@ -163,8 +163,8 @@ impl HueDelta {
         }
     }
 
-    fn in_form(self) -> bool
-        ensures { λ r. ⌜ r ≡ deltaForm self ⌝ }
+    fn is_valid(self) -> bool
+        ensures { λ r. ⌜ r ≡ deltaValid self ⌝ }
     {
         match self {
             HueDelta::Keep => true,
@@ -183,8 +183,8 @@ impl TargetSaturation {
         }
     }
 
-    fn in_form(self) -> bool
-        ensures { λ r. ⌜ r ≡ saturationForm self ⌝ }
+    fn is_valid(self) -> bool
+        ensures { λ r. ⌜ r ≡ saturationValid self ⌝ }
     {
         match self {
             TargetSaturation::Keep => true,
@@ -194,21 +194,21 @@ impl TargetSaturation {
 }
 
 impl HueSaturationMoveTo {
-    fn in_form(self) -> bool
-        ensures { λ r. ⌜ r ≡ moveToForm self ⌝ }
+    fn is_valid(self) -> bool
+        ensures { λ r. ⌜ r ≡ moveToValid self ⌝ }
     {
         let delta = self.delta;
         let saturation = self.saturation;
-        time_in_form(self.ms)
-            & delta.in_form()
-            & saturation.in_form()
+        is_valid_time(self.ms)
+            & delta.is_valid()
+            & saturation.is_valid()
             & (delta.given() | saturation.given())
     }
 }
 
 impl HueMove {
-    fn in_form(self) -> bool
-        ensures { λ r. ⌜ r ≡ hueMoveForm self ⌝ }
+    fn is_valid(self) -> bool
+        ensures { λ r. ⌜ r ≡ hueMoveValid self ⌝ }
     {
         let direction = self.direction;
         (0 < self.rate) & (self.rate <= 65535) & moving(direction)
@@ -216,8 +216,8 @@ impl HueMove {
 }
 
 impl SaturationMove {
-    fn in_form(self) -> bool
-        ensures { λ r. ⌜ r ≡ saturationMoveForm self ⌝ }
+    fn is_valid(self) -> bool
+        ensures { λ r. ⌜ r ≡ saturationMoveValid self ⌝ }
     {
         let direction = self.direction;
         (0 < self.rate) & (self.rate <= 255) & moving(direction)
@@ -225,15 +225,15 @@ impl SaturationMove {
 }
 
 impl Task {
-    pub fn in_form(self) -> bool
-        ensures { λ r. ⌜ r ≡ taskForm self ⌝ }
+    pub fn is_valid(self) -> bool
+        ensures { λ r. ⌜ r ≡ taskValid self ⌝ }
     {
         match self {
-            Task::HueSaturationMoveTo(t) => t.in_form(),
-            Task::HueMove(t) => t.in_form(),
-            Task::SaturationMove(t) => t.in_form(),
-            Task::ColorTemperatureMoveTo(t) => time_in_form(t.ms),
-            Task::ColorTemperatureMove(t) => rate_in_form(t.rate),
+            Task::HueSaturationMoveTo(t) => t.is_valid(),
+            Task::HueMove(t) => t.is_valid(),
+            Task::SaturationMove(t) => t.is_valid(),
+            Task::ColorTemperatureMoveTo(t) => is_valid_time(t.ms),
+            Task::ColorTemperatureMove(t) => is_valid_rate(t.rate),
             Task::ColorLoop(_) => true,
             Task::Stop => false,
         }
@@ -256,34 +256,34 @@ impl Running {
         }
     }
 
-    // Whether a lamp with these bounds and this clock can be in form with this record.
-    pub fn in_form(self, bounds: Bounds, clock: u64) -> bool
-        ensures { λ r. ⌜ r ≡ runningForm self bounds clock ⌝ }
+    // Whether a lamp with these bounds and this clock can be valid with this record.
+    pub fn is_valid(self, bounds: Bounds, clock: u64) -> bool
+        ensures { λ r. ⌜ r ≡ runningValid self bounds clock ⌝ }
     {
         match self {
             Running::Idle => true,
             Running::HueSaturationMoveTo(run) => {
                 let task = run.task;
-                task.in_form() & (0 < task.ms) & (run.saturation <= 254) & (run.start <= clock)
+                task.is_valid() & (0 < task.ms) & (run.saturation <= 254) & (run.start <= clock)
             }
             Running::HueMove(run) => {
                 let task = run.task;
-                task.in_form() & (run.start <= clock)
+                task.is_valid() & (run.start <= clock)
             }
             Running::SaturationMove(run) => {
                 let task = run.task;
-                task.in_form() & (run.saturation <= 254) & (run.start <= clock)
+                task.is_valid() & (run.saturation <= 254) & (run.start <= clock)
             }
             Running::ColorTemperatureMoveTo(run) => {
                 let task = run.task;
-                time_in_form(task.ms)
+                is_valid_time(task.ms)
                     & (0 < task.ms)
                     & within_bounds(bounds, run.mireds)
                     & within_bounds(bounds, task.target)
                     & (run.start <= clock)
             }
             Running::ColorTemperatureMove(run) => {
-                rate_in_form(run.rate)
+                is_valid_rate(run.rate)
                     & within_bounds(bounds, run.mireds)
                     & (run.lo < run.hi)
                     & within_bounds(bounds, run.lo)

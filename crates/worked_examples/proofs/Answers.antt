@@ -6,23 +6,23 @@ use Rattle.matter.specs.Rules.{defaultColorMode}
 use Rattle.notices.specs.Notices.{filled}
 use Rattle.hue.specs.Hue.{distance, pathDelta, movedHue}
 use Rattle.progress.specs.Progress.{permilleOf, clamp}
-use Rattle.remaining_time.specs.RemainingTime.{told}
-use Rattle.color.specs.Setters.{hueSet, hueTold, saturationSet, saturationTold}
-use Rattle.color.specs.Form.{colorForm}
-use Rattle.tasks.specs.Form.{moveToForm, taskForm, runningForm}
-use Rattle.lamp.specs.Answers.{formOrClock}
-use Rattle.lamp.specs.Form.{lampForm}
+use Rattle.remaining_time.specs.RemainingTime.{reported}
+use Rattle.color.specs.Setters.{hueSet, hueReported, saturationSet, saturationReported}
+use Rattle.color.specs.Valid.{colorValid}
+use Rattle.tasks.specs.Valid.{moveToValid, taskValid, runningValid}
+use Rattle.lamp.specs.Answers.{firstCause}
+use Rattle.lamp.specs.Valid.{lampValid}
 use Rattle.lamp.specs.Passes.{hueSaturationPass}
 use Rattle.lamp.specs.Calls.{hueSaturationStart, started, stepped, startAnswer, stepAnswer}
 use Rattle.commands.specs.Commands.{activated, loopSet, commandEffect}
 use Rattle.commands.specs.Answers.{commandCause, commandAnswer}
 use Rattle.worked_examples.specs.Cases.{next}
-use Rattle.worked_examples.specs.Answers.{CommandsTold, FlagTold}
+use Rattle.worked_examples.specs.Answers.{CommandsReported, FlagReported}
 
-commands-told : CommandsTold
-unfolding hasFlag defaultColorMode allTrue colorForm moveToForm taskForm runningForm lampForm formOrClock clamp distance pathDelta movedHue permilleOf told filled hueSet hueTold saturationSet saturationTold hueSaturationPass hueSaturationStart started stepped startAnswer stepAnswer activated loopSet commandEffect commandCause commandAnswer next
-commands-told = (refl, refl)
+commands-reported : CommandsReported
+unfolding hasFlag defaultColorMode allTrue colorValid moveToValid taskValid runningValid lampValid firstCause clamp distance pathDelta movedHue permilleOf reported filled hueSet hueReported saturationSet saturationReported hueSaturationPass hueSaturationStart started stepped startAnswer stepAnswer activated loopSet commandEffect commandCause commandAnswer next
+commands-reported = (refl, refl)
 
-flag-told : FlagTold
-unfolding hasFlag defaultColorMode allTrue colorForm runningForm lampForm formOrClock clamp filled hueSet hueTold activated loopSet commandEffect commandCause commandAnswer
-flag-told = refl
+flag-reported : FlagReported
+unfolding hasFlag defaultColorMode allTrue colorValid runningValid lampValid firstCause clamp filled hueSet hueReported activated loopSet commandEffect commandCause commandAnswer
+flag-reported = refl

@@ -6,46 +6,46 @@ use Rattle.matter.specs.Rules.{defaultColorMode}
 use Rattle.notices.specs.Notices.{filled}
 use Rattle.hue.specs.Hue.{distance, pathDelta, movedHue}
 use Rattle.progress.specs.Progress.{permilleOf, clamp, snapped}
-use Rattle.remaining_time.specs.RemainingTime.{told}
-use Rattle.color.specs.Setters.{hueSet, hueTold, saturationSet, saturationTold}
-use Rattle.color.specs.Form.{colorForm}
-use Rattle.tasks.specs.Form.{moveToForm, taskForm, runningForm}
-use Rattle.lamp.specs.Answers.{formOrClock}
-use Rattle.lamp.specs.Form.{lampForm}
+use Rattle.remaining_time.specs.RemainingTime.{reported}
+use Rattle.color.specs.Setters.{hueSet, hueReported, saturationSet, saturationReported}
+use Rattle.color.specs.Valid.{colorValid}
+use Rattle.tasks.specs.Valid.{moveToValid, taskValid, runningValid}
+use Rattle.lamp.specs.Answers.{firstCause}
+use Rattle.lamp.specs.Valid.{lampValid}
 use Rattle.lamp.specs.Passes.{hueSaturationPass}
 use Rattle.lamp.specs.Calls.{hueSaturationStart, started, stepped, startAnswer, stepAnswer}
 use Rattle.commands.specs.Commands.{deactivated, activated, loopSet, commandEffect}
 use Rattle.commands.specs.Answers.{commandCause, commandAnswer}
 use Rattle.worked_examples.specs.Cases.{next, stepsAt}
-use Rattle.worked_examples.specs.Lists.{FadeCommand, FadeTold, FadeWaits, StartTold, AtOnceTold, LoopTold, NoFlagTold, SnapAt}
+use Rattle.worked_examples.specs.Lists.{FadeCommand, FadeReported, FadeWaits, StartReported, AtOnceReported, LoopReported, NoFlagReported, SnapAt}
 
 fade-command : FadeCommand
-unfolding hasFlag defaultColorMode allTrue colorForm runningForm lampForm formOrClock clamp distance pathDelta commandEffect commandCause commandAnswer
+unfolding hasFlag defaultColorMode allTrue colorValid runningValid lampValid firstCause clamp distance pathDelta commandEffect commandCause commandAnswer
 fade-command = refl
 
-fade-told : FadeTold
-unfolding hasFlag defaultColorMode allTrue colorForm moveToForm taskForm runningForm lampForm formOrClock clamp distance pathDelta movedHue permilleOf told filled hueSet hueTold hueSaturationPass hueSaturationStart started stepped startAnswer stepAnswer commandEffect commandCause commandAnswer next stepsAt
-fade-told = refl
+fade-reported : FadeReported
+unfolding hasFlag defaultColorMode allTrue colorValid moveToValid taskValid runningValid lampValid firstCause clamp distance pathDelta movedHue permilleOf reported filled hueSet hueReported hueSaturationPass hueSaturationStart started stepped startAnswer stepAnswer commandEffect commandCause commandAnswer next stepsAt
+fade-reported = refl
 
 fade-waits : FadeWaits
-unfolding hasFlag defaultColorMode allTrue colorForm moveToForm taskForm runningForm lampForm formOrClock clamp distance pathDelta movedHue permilleOf told filled hueSet hueTold hueSaturationPass hueSaturationStart started stepped startAnswer stepAnswer commandEffect commandCause commandAnswer next stepsAt
+unfolding hasFlag defaultColorMode allTrue colorValid moveToValid taskValid runningValid lampValid firstCause clamp distance pathDelta movedHue permilleOf reported filled hueSet hueReported hueSaturationPass hueSaturationStart started stepped startAnswer stepAnswer commandEffect commandCause commandAnswer next stepsAt
 fade-waits = refl
 
-start-told : StartTold
-unfolding hasFlag defaultColorMode allTrue colorForm moveToForm taskForm runningForm lampForm formOrClock clamp movedHue permilleOf told filled hueSet hueTold saturationSet saturationTold hueSaturationPass hueSaturationStart started stepped startAnswer stepAnswer
-start-told = refl
+start-reported : StartReported
+unfolding hasFlag defaultColorMode allTrue colorValid moveToValid taskValid runningValid lampValid firstCause clamp movedHue permilleOf reported filled hueSet hueReported saturationSet saturationReported hueSaturationPass hueSaturationStart started stepped startAnswer stepAnswer
+start-reported = refl
 
-at-once-told : AtOnceTold
-unfolding hasFlag defaultColorMode allTrue colorForm moveToForm taskForm runningForm lampForm formOrClock clamp movedHue permilleOf told filled hueSet hueTold hueSaturationPass hueSaturationStart started stepped startAnswer stepAnswer
-at-once-told = (refl, refl)
+at-once-reported : AtOnceReported
+unfolding hasFlag defaultColorMode allTrue colorValid moveToValid taskValid runningValid lampValid firstCause clamp movedHue permilleOf reported filled hueSet hueReported hueSaturationPass hueSaturationStart started stepped startAnswer stepAnswer
+at-once-reported = (refl, refl)
 
-loop-told : LoopTold
-unfolding hasFlag defaultColorMode allTrue colorForm runningForm lampForm formOrClock clamp filled hueSet hueTold deactivated activated loopSet commandEffect commandCause commandAnswer
-loop-told = refl
+loop-reported : LoopReported
+unfolding hasFlag defaultColorMode allTrue colorValid runningValid lampValid firstCause clamp filled hueSet hueReported deactivated activated loopSet commandEffect commandCause commandAnswer
+loop-reported = refl
 
-no-flag-told : NoFlagTold
-unfolding hasFlag defaultColorMode allTrue colorForm runningForm lampForm formOrClock clamp filled loopSet commandEffect commandCause commandAnswer
-no-flag-told = refl
+no-flag-reported : NoFlagReported
+unfolding hasFlag defaultColorMode allTrue colorValid runningValid lampValid firstCause clamp filled loopSet commandEffect commandCause commandAnswer
+no-flag-reported = refl
 
 snap-at : SnapAt
 unfolding snapped

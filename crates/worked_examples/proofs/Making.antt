@@ -4,8 +4,8 @@ use Rattle.matter.specs.Flags.{hasFlag}
 use Rattle.matter.specs.Rules.{defaultColorMode}
 use Rattle.progress.specs.Progress.{clamp}
 use Rattle.lamp.specs.Making.{making}
-use Rattle.worked_examples.specs.Making.{MakingTold}
+use Rattle.worked_examples.specs.Making.{MakingReported}
 
-making-told : MakingTold
+making-reported : MakingReported
 unfolding hasFlag defaultColorMode clamp making
-making-told = refl
+making-reported = refl

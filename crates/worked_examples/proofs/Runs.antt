@@ -6,19 +6,19 @@ use Rattle.matter.specs.Rules.{defaultColorMode}
 use Rattle.notices.specs.Notices.{filled}
 use Rattle.hue.specs.Hue.{distance, pathDelta, movedHue}
 use Rattle.progress.specs.Progress.{permilleOf, clamp, snapped, loopTurn}
-use Rattle.remaining_time.specs.RemainingTime.{told}
-use Rattle.color.specs.Setters.{hueSet, hueTold, saturationSet, saturationTold, miredsSet, miredsTold}
-use Rattle.color.specs.Form.{colorForm}
-use Rattle.tasks.specs.Form.{moveToForm, hueMoveForm, saturationMoveForm, taskForm, runningForm}
-use Rattle.lamp.specs.Answers.{formOrClock}
-use Rattle.lamp.specs.Form.{lampForm}
+use Rattle.remaining_time.specs.RemainingTime.{reported}
+use Rattle.color.specs.Setters.{hueSet, hueReported, saturationSet, saturationReported, miredsSet, miredsReported}
+use Rattle.color.specs.Valid.{colorValid}
+use Rattle.tasks.specs.Valid.{moveToValid, hueMoveValid, saturationMoveValid, taskValid, runningValid}
+use Rattle.lamp.specs.Answers.{firstCause}
+use Rattle.lamp.specs.Valid.{lampValid}
 use Rattle.lamp.specs.Passes.{hueSaturationPass, huePass, saturationPass, temperatureToPass, temperaturePass, loopPass}
 use Rattle.lamp.specs.Calls.{hueSaturationStart, temperatureToStart, temperatureStart, started, stepped, startAnswer, stepAnswer}
 use Rattle.commands.specs.Commands.{activated, loopSet, commandEffect}
 use Rattle.commands.specs.Answers.{commandCause, commandAnswer}
 use Rattle.worked_examples.specs.Cases.{next, stepsAt}
-use Rattle.worked_examples.specs.Runs.{TransitionsTold}
+use Rattle.worked_examples.specs.Runs.{TransitionsReported}
 
-transitions-told : TransitionsTold
-unfolding hasFlag defaultColorMode allTrue colorForm moveToForm hueMoveForm saturationMoveForm taskForm runningForm lampForm formOrClock clamp distance pathDelta movedHue permilleOf snapped loopTurn told filled hueSet hueTold saturationSet saturationTold miredsSet miredsTold hueSaturationPass huePass saturationPass temperatureToPass temperaturePass loopPass hueSaturationStart temperatureToStart temperatureStart started stepped startAnswer stepAnswer activated loopSet commandEffect commandCause commandAnswer next stepsAt
-transitions-told = refl
+transitions-reported : TransitionsReported
+unfolding hasFlag defaultColorMode allTrue colorValid moveToValid hueMoveValid saturationMoveValid taskValid runningValid lampValid firstCause clamp distance pathDelta movedHue permilleOf snapped loopTurn reported filled hueSet hueReported saturationSet saturationReported miredsSet miredsReported hueSaturationPass huePass saturationPass temperatureToPass temperaturePass loopPass hueSaturationStart temperatureToStart temperatureStart started stepped startAnswer stepAnswer activated loopSet commandEffect commandCause commandAnswer next stepsAt
+transitions-reported = refl

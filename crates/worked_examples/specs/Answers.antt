@@ -57,7 +57,7 @@ gave task l =
       wait = 0;
     }
 
--- a task and 17; off, the same; off, passed over: no task, the clock set; refused: the lamp as it was
+-- a task and 17; off, the same; off, skipped: no task, the clock set; refused: the lamp as it was
 abbrev pub gives : Command → Task → Row
 gives c task = record { command = c; onOff = OnOff.On; answer = gave task }
 
@@ -127,7 +127,7 @@ commands =
     ∷ gives (Command.EnhancedMoveHue MoveModeEnum.Down 1000 noOptions) (hueMove MoveModeEnum.Down 1000 true)
     ∷ gives (Command.EnhancedStepHue StepModeEnum.Up 1000 7 noOptions) (toHue (pos 1000) true)
     ∷ gives (Command.StopMoveStep noOptions) Task.Stop
-    -- the target brought within the bounds; a move's own limits with only 0 replaced, crossed ones too
+    -- the target clamped to the bounds; a move's own limits with only 0 replaced, crossed ones too
     ∷ gives (Command.MoveToColorTemperature 10 7 noOptions) (toMireds 153)
     ∷ gives (Command.MoveToColorTemperature 600 7 noOptions) (toMireds 500)
     ∷ gives (Command.MoveColorTemperature MoveModeEnum.Down 30 0 600 noOptions) (miredsMove (negℤ (pos 30)) 153 600)
@@ -170,8 +170,8 @@ busyCommands =
     ∷ gives (Command.StepSaturation StepModeEnum.Down 60 7 noOptions) (toSaturation 0)
     ∷ []
 
-abbrev pub CommandsTold : Type 0
-CommandsTold = Says lamp commands × Says busy busyCommands
+abbrev pub CommandsReported : Type 0
+CommandsReported = Says lamp commands × Says busy busyCommands
 
 -- ---- the colour loop's command: one flag alone, and one with the action
 
@@ -221,7 +221,7 @@ withFlags flags seconds =
     seconds 100 noOptions)
     OnOff.On now
 
-abbrev pub FlagTold : Type 0
-FlagTold =
+abbrev pub FlagReported : Type 0
+FlagReported =
     map (λ (r : LoopRow). loopSaid (withFlags (r .flags) (r .seconds))) flagRows
     ≡ map (λ (r : LoopRow). (0, r .list, r .task, r .looping, 0)) flagRows

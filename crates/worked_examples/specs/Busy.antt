@@ -20,7 +20,7 @@ use Rattle.lamp.specs.Calls.{stepAnswer, haltAnswer}
 use Rattle.commands.specs.Answers.{commandAnswer}
 use Rattle.worked_examples.specs.Cases.{noOptions, started, next, listed, idled, bare, loop, upBetween, busy}
 use Rattle.worked_examples.specs.Answers.{now, later}
-use Rattle.worked_examples.specs.Runs.{Run, run, Told, going, done, hue, enhanced, warmth}
+use Rattle.worked_examples.specs.Runs.{Run, run, RunsReported, going, done, hue, enhanced, warmth}
 
 -- ---- the busy lamp: its hue, saturation and remaining tenths, and that it runs and its loop is active
 
@@ -63,8 +63,8 @@ busyTransitions =
     ∷ done warmth 16384 50 153 0 (5 ∷ 6 ∷ 7 ∷ 14 ∷ 16 ∷ 1 ∷ []) ∷ [])
     ∷ []
 
-abbrev pub BusyTold : Type 0
-BusyTold = Told busyTransitions
+abbrev pub BusyReported : Type 0
+BusyReported = RunsReported busyTransitions
 
 -- ---- a halt: the lamp idle at its clock, all else as it was
 

@@ -14,10 +14,10 @@ use Rattle.matter.specs.declared.commands.CommandOptions.{CommandOptions}
 use Rattle.matter.specs.declared.enums.DirectionEnum.{DirectionEnum}
 use Rattle.matter.specs.declared.enums.MoveModeEnum.{MoveModeEnum}
 use Rattle.matter.specs.declared.enums.OnOff.{OnOff}
-use Rattle.matter.specs.Causes.{accepted, taskOutOfForm}
+use Rattle.matter.specs.Causes.{accepted, invalidTask}
 use Rattle.hue.specs.Hue.{pathDelta}
 use Rattle.progress.specs.Progress.{permilleOf, partOf, tenthsOf}
-use Rattle.remaining_time.specs.RemainingTime.{told}
+use Rattle.remaining_time.specs.RemainingTime.{reported}
 use Rattle.tasks.specs.declared.GivenTask.{GivenTask}
 use Rattle.tasks.specs.declared.Running.{Running}
 use Rattle.tasks.specs.Runs.{runs}
@@ -48,7 +48,7 @@ next a call = cond (eqb (a .number) accepted) (call (a .lamp)) a
 
 -- a start of the task that was given; where none was, no start is accepted
 abbrev startOf : GivenTask → Lamp → Answer
-startOf GivenTask.Nothing l = refusal l taskOutOfForm
+startOf GivenTask.Nothing l = refusal l invalidTask
 startOf (GivenTask.Given task) l = startAnswer l task (l .clock)
 
 -- a command to a lamp, and its task started
@@ -149,10 +149,10 @@ pub data Case : Type 0 where
   mireds : Command → ℕ × Bool → List EndPoint → Case
   -- a command: the remaining tenths at its start, and at the times of steps
   left : Command → ℕ → List Point → Case
-  -- the old tenths and the new, and whether a transition starts: whether it is told
+  -- the old tenths and the new, and whether a transition starts: whether it is reported
   remaining : ℕ → ℕ → Bool → Bool → Case
   -- fades of so many tenths, started one behind the other: the notices of the last start
-  startTells : List ℕ → List ℕ → Case
+  startReports : List ℕ → List ℕ → Case
   -- milliseconds: tenths
   tenths : ℕ → ℕ → Case
   -- a command to a lamp, started: nothing changes, and the lamp is idle
@@ -175,8 +175,8 @@ Holds (mireds c start points) =
     ≡ ((0, start .0, start .1) ∷ map (λ (p : EndPoint). (0, p .1, p .2)) points)
 Holds (left c start points) =
     map tenthsSeen (answers c (map (λ (p : Point). p .0) points)) ≡ ((0, start) ∷ map (λ (p : Point). (0, p .1)) points)
-Holds (remaining old new start answer) = told old new start ≡ answer
-Holds (startTells times list) = listSeen (fades (bare 0 lamp) times) ≡ (0, list)
+Holds (remaining old new start answer) = reported old new start ≡ answer
+Holds (startReports times list) = listSeen (fades (bare 0 lamp) times) ≡ (0, list)
 Holds (tenths ms answer) = tenthsOf ms ≡ answer
 Holds (stays l c) = startedOn l c ≡ bare 0 (idled l)
 
@@ -220,14 +220,14 @@ cases =
     -- K7: the first two at a start or not
     ∷ remaining 0 10 false false
     ∷ remaining 0 10 true false
-    ∷ startTells (10 ∷ []) (15 ∷ [])
+    ∷ startReports (10 ∷ []) (15 ∷ [])
     ∷ remaining 0 11 false true
     ∷ remaining 0 11 true true
-    ∷ startTells (11 ∷ []) (1 ∷ 15 ∷ [])
+    ∷ startReports (11 ∷ []) (1 ∷ 15 ∷ [])
     ∷ remaining 50 60 true false
-    ∷ startTells (50 ∷ 60 ∷ []) (15 ∷ [])
+    ∷ startReports (50 ∷ 60 ∷ []) (15 ∷ [])
     ∷ remaining 50 61 true true
-    ∷ startTells (50 ∷ 61 ∷ []) (1 ∷ 15 ∷ [])
+    ∷ startReports (50 ∷ 61 ∷ []) (1 ∷ 15 ∷ [])
     -- K8: of 40 tenths, after 1 ms
     ∷ tenths 3999 40
     ∷ left (Command.MoveToHue 128 DirectionEnum.Shortest 40 noOptions) 40 ((1, 40) ∷ [])

@@ -4,5 +4,5 @@ pub mod Lists
 pub mod Answers
 pub mod Runs
 pub mod Busy
-pub mod Forms
+pub mod Validity
 pub mod Making

@@ -40,8 +40,8 @@ FadeCommand =
     ≡ GivenTask.Given (Task.HueSaturationMoveTo
     (record { delta = HueDelta.By (pos 32768); saturation = TargetSaturation.Keep; ms = 200; enhanced = false }))
 
-abbrev pub FadeTold : Type 0
-FadeTold =
+abbrev pub FadeReported : Type 0
+FadeReported =
     map listed (answers fade (100 ∷ 200 ∷ []))
     ≡ ((15 ∷ []) ∷ (13 ∷ 2 ∷ 6 ∷ 7 ∷ 14 ∷ 15 ∷ []) ∷ (13 ∷ 2 ∷ 6 ∷ 7 ∷ 14 ∷ 15 ∷ 1 ∷ []) ∷ [])
 
@@ -51,8 +51,8 @@ FadeWaits =
 
 -- ---- the full time first: way 1 in 1100 ms; and the longest list, no way and saturation 0, enhanced
 
-abbrev pub StartTold : Type 0
-StartTold =
+abbrev pub StartReported : Type 0
+StartReported =
     map listed
     (begun (HueDelta.By (pos 1)) TargetSaturation.Keep 1100 false
     ∷ begun (HueDelta.By (pos 0)) (TargetSaturation.To 0) 1100 true
@@ -64,8 +64,8 @@ StartTold =
 abbrev pub fiveLeft : Lamp
 fiveLeft = begun (HueDelta.By (pos 1)) TargetSaturation.Keep 500 false .lamp
 
-abbrev pub AtOnceTold : Type 0
-AtOnceTold =
+abbrev pub AtOnceReported : Type 0
+AtOnceReported =
     (fiveLeft .remaining .tenths ≡ 5)
     × (listed (begunOn fiveLeft (HueDelta.By (pos 1)) TargetSaturation.Keep 0 false)
     ≡ (1 ∷ 13 ∷ 2 ∷ 6 ∷ 7 ∷ 14 ∷ 15 ∷ []))
@@ -85,8 +85,8 @@ on = looped ColorLoopActionEnum.ActivateFromColorLoopStartEnhancedHue lamp
 abbrev pub off : Answer
 off = looped ColorLoopActionEnum.Deactivate (on .lamp)
 
-abbrev pub LoopTold : Type 0
-LoopTold =
+abbrev pub LoopReported : Type 0
+LoopReported =
     map listed
     (on ∷ looped ColorLoopActionEnum.ActivateFromEnhancedCurrentHue (on .lamp) ∷ off
     ∷ looped ColorLoopActionEnum.Deactivate (off .lamp)
@@ -97,8 +97,8 @@ LoopTold =
     ∷ (9 ∷ 10 ∷ 11 ∷ 13 ∷ [])
     ∷ [])
 
-abbrev pub NoFlagTold : Type 0
-NoFlagTold =
+abbrev pub NoFlagReported : Type 0
+NoFlagReported =
     listed (loopFlags 0 ColorLoopActionEnum.ActivateFromEnhancedCurrentHue lamp) ≡ (13 ∷ [])
 
 -- ---- the snap at its numbers: a turn's part of 65,152 and more goes up, one of 384 and less goes down, but in the first turn

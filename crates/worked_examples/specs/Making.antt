@@ -74,7 +74,7 @@ rows =
     ∷ refused 400 300 1_099_511_627_777 4
     ∷ []
 
-abbrev pub MakingTold : Type 0
-MakingTold =
+abbrev pub MakingReported : Type 0
+MakingReported =
     map (λ (r : Row). making (record { min = r .min; max = r .max }) (r .features) (r .options) (r .clock)) rows
     ≡ map (λ (r : Row). r .made) rows

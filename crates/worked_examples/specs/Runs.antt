@@ -1,5 +1,5 @@
 -- Each transition, pass by pass: its start, where nothing has moved and the modes stay; on its way; within a second of a
--- notice; later; at its end, which tells within a second too. Document 01, leaves 5 and 6 and "The arithmetic of a step";
+-- notice; later; at its end, which reports within a second too. Document 01, leaves 5 and 6 and "The arithmetic of a step";
 -- docs/DECISIONS.md, points 11 and 14.
 use Prim.Native.Nat.{ℕ}
 use mathlib.Core.Bool.{Bool, true, false}
@@ -80,7 +80,7 @@ enhanced = (ColorModeEnum.CurrentHueAndCurrentSaturation, EnhancedColorModeEnum.
 abbrev pub warmth : Modes
 warmth = (ColorModeEnum.ColorTemperatureMireds, EnhancedColorModeEnum.ColorTemperatureMireds)
 
--- a pass that tells of one attribute; the others are written out
+-- a pass that reports of one attribute; the others are written out
 abbrev pub ofHue : List ℕ
 ofHue = 13 ∷ 2 ∷ 6 ∷ 7 ∷ 14 ∷ 15 ∷ []
 
@@ -101,8 +101,8 @@ pub record Run : Type 0 where
 abbrev pub run : Lamp → Command → List ℕ → List Pass → Run
 run l c times passes = record { lamp = l; command = c; times = times; passes = passes }
 
-abbrev pub Told : List Run → Type 0
-Told runs =
+abbrev pub RunsReported : List Run → Type 0
+RunsReported runs =
     map (λ (r : Run). map seen (answersOn (r .lamp) (r .command) (r .times))) runs ≡ map (λ (r : Run). r .passes) runs
 
 -- the lamp of the cases brought at once to saturation 100; to hue 1280, enhanced; to 300 mireds
@@ -126,7 +126,7 @@ transitions =
     ∷ done warmth 0 0 153 0 (13 ∷ 5 ∷ 6 ∷ 7 ∷ 14 ∷ 16 ∷ 1 ∷ []) ∷ [])
     ∷ run lamp (Command.MoveToColorTemperature 153 11 noOptions) [] (going xy 0 0 250 11 (1 ∷ 16 ∷ []) 100 ∷ [])
     ∷ run lamp (Command.MoveToColorTemperature 250 11 noOptions) [] (done warmth 0 0 250 0 (1 ∷ 13 ∷ 5 ∷ 6 ∷ 7 ∷ 14 ∷ 16 ∷ 1 ∷ []) ∷ [])
-    -- mireds up at 100 a second from 250 to 500, told a second after the last notice, not after the last change; and down
+    -- mireds up at 100 a second from 250 to 500, reported a second after the last notice, not after the last change; and down
     -- to 153
     ∷ run lamp (upBetween 0 0) (100 ∷ 200 ∷ 1100 ∷ 2500 ∷ [])
     (going xy 0 0 250 0 (16 ∷ []) 100
@@ -204,7 +204,7 @@ transitions =
     (going xy 0 0 250 0 (15 ∷ []) 100
     ∷ going enhanced 65436 0 250 0 (13 ∷ 2 ∷ 3 ∷ 6 ∷ 7 ∷ 14 ∷ 15 ∷ []) 100
     ∷ going enhanced 65336 0 250 0 (13 ∷ 14 ∷ 15 ∷ []) 100 ∷ [])
-    -- the colour loop up, a second a turn, which tells at its command
+    -- the colour loop up, a second a turn, which reports at its command
     ∷ run lamp (loop ColorLoopDirectionEnum.Increment) (5 ∷ 995 ∷ 1005 ∷ 1006 ∷ [])
     (going enhanced 0 0 250 0 (15 ∷ []) 100
     ∷ going enhanced 327 0 250 0 (14 ∷ 15 ∷ []) 100
@@ -227,5 +227,5 @@ transitions =
     ∷ run warmed (Command.MoveToSaturation 0 10 noOptions) [] (done hue 0 0 300 0 (13 ∷ 4 ∷ 6 ∷ 7 ∷ 14 ∷ 15 ∷ 1 ∷ []) ∷ [])
     ∷ []
 
-abbrev pub TransitionsTold : Type 0
-TransitionsTold = Told transitions
+abbrev pub TransitionsReported : Type 0
+TransitionsReported = RunsReported transitions

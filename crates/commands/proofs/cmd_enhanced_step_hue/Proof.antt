@@ -11,8 +11,8 @@ use Rattle.commands.proofs.cmd_enhanced_step_hue.Tie as tie
 number-if-requires : tie.Need-number-if-requires
 number-if-requires c κs = search needs
 
-step-way-requires : tie.Need-step-way-requires
-step-way-requires c κs = search needs
+step-delta-requires : tie.Need-step-delta-requires
+step-delta-requires c κs = search needs
 
 hue-task-requires : tie.Need-hue-task-requires
 hue-task-requires c κs = search needs
@@ -23,11 +23,11 @@ answer-with-requires c κs = search needs
 returns : tie.Need-returns
 unfolding commandAnswer commandCause commandEffect taskAnswer
 returns c =
-    let at-step-way = c .before .before in
-    let at-number-if = at-step-way .before in
-    simp (c .answer-with .ensures, c .before .hue-task .ensures, toZ-ofZ w64 (at-step-way .step-way .result) (sfits-of (at-step-way .step-way .ok)), at-number-if .number-if .ensures) (simp (at-step-way .step-way .ensures))
+    let at-step-delta = c .before .before in
+    let at-number-if = at-step-delta .before in
+    simp (c .answer-with .ensures, c .before .hue-task .ensures, toZ-ofZ w64 (at-step-delta .step-delta .result) (sfits-of (at-step-delta .step-delta .ok)), at-number-if .number-if .ensures) (simp (at-step-delta .step-delta .ensures))
 
 pub cmd-enhanced-step-hue-spec : {M : Type 1} → statement M
 cmd-enhanced-step-hue-spec =
     tie.close
-    (tie.spec number-if-requires step-way-requires hue-task-requires answer-with-requires returns)
+    (tie.spec number-if-requires step-delta-requires hue-task-requires answer-with-requires returns)

@@ -23,11 +23,11 @@ limit-asked-requires-2 c κs = search needs
 upper-limit-requires : tie.Need-upper-limit-requires
 upper-limit-requires c κs = search needs
 
-step-way-requires : tie.Need-step-way-requires
-step-way-requires c κs = search needs
+step-delta-requires : tie.Need-step-delta-requires
+step-delta-requires c κs = search needs
 
-brought-within-requires : tie.Need-brought-within-requires
-brought-within-requires c κs = search needs
+clamped-sum-requires : tie.Need-clamped-sum-requires
+clamped-sum-requires c κs = search needs
 
 temperature-task-requires : tie.Need-temperature-task-requires
 temperature-task-requires c κs = search needs
@@ -38,14 +38,14 @@ answer-with-requires c κs = search needs
 returns : tie.Need-returns
 unfolding commandAnswer commandCause commandEffect taskAnswer
 returns c =
-    let at-brought-within = c .before .before in
-    let at-step-way = at-brought-within .before in
-    let at-upper-limit = at-step-way .before in
+    let at-clamped-sum = c .before .before in
+    let at-step-delta = at-clamped-sum .before in
+    let at-upper-limit = at-step-delta .before in
     let at-limit-asked2 = at-upper-limit .before in
     let at-lower-limit = at-limit-asked2 .before in
     let at-limit-asked = at-lower-limit .before in
     let at-number-if = at-limit-asked .before .before in
-    simp (c .answer-with .ensures, c .before .temperature-task .ensures, at-brought-within .brought-within .ensures, toZ-ofZ w64 (at-step-way .step-way .result) (sfits-of (at-step-way .step-way .ok)), at-upper-limit .upper-limit .ensures, at-limit-asked2 .limit-asked2 .ensures, at-lower-limit .lower-limit .ensures, at-limit-asked .limit-asked .ensures, at-number-if .number-if .ensures) (simp (at-step-way .step-way .ensures))
+    simp (c .answer-with .ensures, c .before .temperature-task .ensures, at-clamped-sum .clamped-sum .ensures, toZ-ofZ w64 (at-step-delta .step-delta .result) (sfits-of (at-step-delta .step-delta .ok)), at-upper-limit .upper-limit .ensures, at-limit-asked2 .limit-asked2 .ensures, at-lower-limit .lower-limit .ensures, at-limit-asked .limit-asked .ensures, at-number-if .number-if .ensures) (simp (at-step-delta .step-delta .ensures))
 
 pub cmd-step-color-temperature-spec : {M : Type 1} → statement M
 cmd-step-color-temperature-spec =
@@ -56,8 +56,8 @@ cmd-step-color-temperature-spec =
     lower-limit-requires
     limit-asked-requires-2
     upper-limit-requires
-    step-way-requires
-    brought-within-requires
+    step-delta-requires
+    clamped-sum-requires
     temperature-task-requires
     answer-with-requires
     returns)

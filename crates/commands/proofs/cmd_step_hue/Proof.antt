@@ -14,8 +14,8 @@ number-if-requires c κs = search needs
 stored-hue-requires : tie.Need-stored-hue-requires
 stored-hue-requires c κs = search needs
 
-step-way-requires : tie.Need-step-way-requires
-step-way-requires c κs = search needs
+step-delta-requires : tie.Need-step-delta-requires
+step-delta-requires c κs = search needs
 
 hue-task-requires : tie.Need-hue-task-requires
 hue-task-requires c κs = search needs
@@ -26,10 +26,10 @@ answer-with-requires c κs = search needs
 returns : tie.Need-returns
 unfolding commandAnswer commandCause commandEffect taskAnswer
 returns c =
-    let at-step-way = c .before .before in
-    let at-stored-hue = at-step-way .before in
+    let at-step-delta = c .before .before in
+    let at-stored-hue = at-step-delta .before in
     let at-number-if = at-stored-hue .before in
-    simp (c .answer-with .ensures, c .before .hue-task .ensures, toZ-ofZ w64 (at-step-way .step-way .result) (sfits-of (at-step-way .step-way .ok)), at-number-if .number-if .ensures) (simp (at-step-way .step-way .ensures, at-stored-hue .stored-hue .ensures))
+    simp (c .answer-with .ensures, c .before .hue-task .ensures, toZ-ofZ w64 (at-step-delta .step-delta .result) (sfits-of (at-step-delta .step-delta .ok)), at-number-if .number-if .ensures) (simp (at-step-delta .step-delta .ensures, at-stored-hue .stored-hue .ensures))
 
 pub cmd-step-hue-spec : {M : Type 1} → statement M
 cmd-step-hue-spec =
@@ -37,7 +37,7 @@ cmd-step-hue-spec =
     (tie.spec
     number-if-requires
     stored-hue-requires
-    step-way-requires
+    step-delta-requires
     hue-task-requires
     answer-with-requires
     returns)

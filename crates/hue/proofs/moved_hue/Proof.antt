@@ -34,7 +34,7 @@ negated c = small w64 _ (rw abs-neg (omega (arith, turn-size c)))
 read : (c : tie.Start) → toZ w64 (ofZ w64 (remZ (toZ w64 (ofZ w64 (c .args .part))) (pos 65536))) ≡ turn c
 read c = rw (toZ-ofZ w64 _ (c .fits .part), toZ-ofZ w64 _ (turn-fits c))
 
--- what each arm's test tells: the hue moved by the turn
+-- what each arm's test reports: the hue moved by the turn
 up-taken : (c : tie.Then1) → leZ (pos 0) (turn (c .before)) ≡ true
 up-taken c = rw (read (c .before)) at (c .if1 .taken)
 

@@ -1,4 +1,4 @@
--- The stored hue and the loop are told unless it is active; then the setter, the device and the task.
+-- The stored hue and the loop are reported unless it is active; then the setter, the device and the task.
 use Rattle.commands.proofs.Laws.{on-pushes}
 use Rattle.commands.specs.Commands.{activated}
 use Rattle.notices.specs.declared.Notices.{Notices}

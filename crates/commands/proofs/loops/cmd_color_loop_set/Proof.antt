@@ -6,15 +6,15 @@ use borrow.Author.Needs.{needs}
 use Rattle.commands.proofs.loops.cmd_color_loop_set.Statement.{statement}
 use Rattle.commands.proofs.loops.cmd_color_loop_set.Tie as tie
 
-form-or-clock-requires : tie.Need-form-or-clock-requires
-form-or-clock-requires c κs = search needs
+first-cause-requires : tie.Need-first-cause-requires
+first-cause-requires c κs = search needs
 
 refused-requires : tie.Need-refused-requires
 refused-requires c κs = search needs
 
 returns : tie.Need-returns
 unfolding commandAnswer commandCause commandEffect
-returns c = simp (← c .before .before .form-or-clock .ensures, ne-eqb _ 0 (c .before .if1 .taken)) (c .refused .ensures)
+returns c = simp (← c .before .before .first-cause .ensures, ne-eqb _ 0 (c .before .if1 .taken)) (c .refused .ensures)
 
 at-clock-requires : tie.Need-at-clock-requires
 at-clock-requires c κs = search needs
@@ -22,8 +22,8 @@ at-clock-requires c κs = search needs
 should-continue-requires : tie.Need-should-continue-requires
 should-continue-requires c κs = search needs
 
-passed-over-requires : tie.Need-passed-over-requires
-passed-over-requires c κs = search needs
+skipped-requires : tie.Need-skipped-requires
+skipped-requires c κs = search needs
 
 returns-2 : tie.Need-returns-2
 unfolding commandAnswer commandCause commandEffect
@@ -31,8 +31,8 @@ returns-2 c =
     let at-should-continue = c .before .before in
     let at-clock = at-should-continue .before in
     let at-if1 = at-clock .before in
-    let at-form-or-clock = at-if1 .before in
-    simp (← at-form-or-clock .form-or-clock .ensures, eq-eqb _ 0 (at-if1 .if1 .left), ← at-should-continue .should-continue .ensures, not-true (at-should-continue .should-continue .result) (c .before .if2 .taken), c .passed-over .ensures, at-clock .at-clock .ensures)
+    let at-first-cause = at-if1 .before in
+    simp (← at-first-cause .first-cause .ensures, eq-eqb _ 0 (at-if1 .if1 .left), ← at-should-continue .should-continue .ensures, not-true (at-should-continue .should-continue .result) (c .before .if2 .taken), c .skipped .ensures, at-clock .at-clock .ensures)
 
 set-loop-requires : tie.Need-set-loop-requires
 set-loop-requires c κs = search needs
@@ -43,19 +43,19 @@ returns-3 c =
     let at-should-continue = c .before .before in
     let at-clock = at-should-continue .before in
     let at-if1 = at-clock .before in
-    let at-form-or-clock = at-if1 .before in
-    simp (← at-form-or-clock .form-or-clock .ensures, eq-eqb _ 0 (at-if1 .if1 .left), ← at-should-continue .should-continue .ensures, not-false (at-should-continue .should-continue .result) (c .before .if2 .left), c .set-loop .ensures, at-clock .at-clock .ensures)
+    let at-first-cause = at-if1 .before in
+    simp (← at-first-cause .first-cause .ensures, eq-eqb _ 0 (at-if1 .if1 .left), ← at-should-continue .should-continue .ensures, not-false (at-should-continue .should-continue .result) (c .before .if2 .left), c .set-loop .ensures, at-clock .at-clock .ensures)
 
 pub cmd-color-loop-set-spec : {M : Type 1} → statement M
 cmd-color-loop-set-spec =
     tie.close
     (tie.spec
-    form-or-clock-requires
+    first-cause-requires
     refused-requires
     returns
     at-clock-requires
     should-continue-requires
-    passed-over-requires
+    skipped-requires
     returns-2
     set-loop-requires
     returns-3)

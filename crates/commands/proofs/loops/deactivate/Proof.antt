@@ -1,4 +1,4 @@
--- Where the loop is active: the task, the loop, the setter and the device are told in their order.
+-- Where the loop is active: the task, the loop, the setter and the device are reported in their order.
 use Rattle.commands.proofs.Laws.{off-pushes}
 use Rattle.commands.specs.Commands.{withLoop, activity, deactivated}
 use Rattle.tasks.specs.declared.Task.{Task}

@@ -1,7 +1,7 @@
 -- The flags first, then the action where its flag is set.
 use Rattle.commands.proofs.Kept.{updated-few}
 use Rattle.commands.proofs.Laws.{acted-behind, few}
-use Rattle.commands.specs.Commands.{withLoop, updated, updatedTold, loopSet}
+use Rattle.commands.specs.Commands.{withLoop, updated, updatedReported, loopSet}
 use Rattle.notices.proofs.Laws.{pushed-all-noted}
 use mathlib.Core.List.{[]}
 use mathlib.Core.Path.{_∙_}
@@ -32,7 +32,7 @@ returns c =
     let at-updated-settings = at-updated-notices .before in
     let at-start = at-updated-settings .before .before in
     let called = at-start .args in
-    simp (← at-contains .contains .ensures, c .before .if1 .taken) (c .act .ensures ∙ simp (at-updated-notices .updated-notices .ensures, at-updated-settings .updated-settings .ensures) (acted-behind (withLoop (called .lamp) (called .lamp .color) (updated (called .lamp .looping) (called .flags) (called .direction) (called .time) (called .start-hue))) (updatedTold (called .flags)) (updated-few (called .flags)) (called .action)))
+    simp (← at-contains .contains .ensures, c .before .if1 .taken) (c .act .ensures ∙ simp (at-updated-notices .updated-notices .ensures, at-updated-settings .updated-settings .ensures) (acted-behind (withLoop (called .lamp) (called .lamp .color) (updated (called .lamp .looping) (called .flags) (called .direction) (called .time) (called .start-hue))) (updatedReported (called .flags)) (updated-few (called .flags)) (called .action)))
 
 returns-2 : tie.Need-returns-2
 unfolding loopSet
@@ -41,7 +41,7 @@ returns-2 c =
     let at-updated-notices = at-contains .before .before .before .before in
     let at-updated-settings = at-updated-notices .before in
     let at-start = at-updated-settings .before .before in
-    simp (← at-contains .contains .ensures, c .before .if1 .left, c .answer-of .ensures, at-updated-notices .updated-notices .ensures, at-updated-settings .updated-settings .ensures, pushed-all-noted [] (updatedTold (at-start .args .flags)) (few (at-start .args .flags)))
+    simp (← at-contains .contains .ensures, c .before .if1 .left, c .answer-of .ensures, at-updated-notices .updated-notices .ensures, at-updated-settings .updated-settings .ensures, pushed-all-noted [] (updatedReported (at-start .args .flags)) (few (at-start .args .flags)))
 
 pub set-loop-spec : {M : Type 1} → statement M
 set-loop-spec =

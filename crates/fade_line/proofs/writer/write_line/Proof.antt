@@ -47,8 +47,8 @@ returns-2 : tie.Need-returns-2
 unfolding lineText
 returns-2 c =
     let made = c .before .before in
-    let told = made .before .before .before .before in
-    let state = told .before .before .before .before in
+    let reported = made .before .before .before .before in
+    let state = reported .before .before .before .before in
     let test = state .before .before .before in
     let start = test .before .before .before in
     let out = start .args .out .now in
@@ -58,7 +58,7 @@ returns-2 c =
     let notices = spacedAll (numbers (line .notices)) in
     wrote-fitting out at (lineText line) (fits test)
     (wrote-more out at (stateText line ++ notices) (10 ∷ []) (omega arith)
-    (wrote-more out at (stateText line) notices (omega arith) (state .state .ensures) (told .notices .ensures))
+    (wrote-more out at (stateText line) notices (omega arith) (state .state .ensures) (reported .notices .ensures))
     (made .put .ensures))
 
 pub write-line-spec : {M : Type 1} → statement M

@@ -1,6 +1,6 @@
 -- `Lamp::begin`: the definition's case is the one matched, and the task's form is what the pass asks for.
 use Rattle.notices.specs.Notices.{pushedAll}
-use Rattle.tasks.specs.Form.{taskForm}
+use Rattle.tasks.specs.Valid.{taskValid}
 use Rattle.lamp.specs.Calls.{started}
 use borrow.Author.Needs.{needs}
 use Rattle.lamp.proofs.Lamp.begin.Statement.{statement}
@@ -10,7 +10,7 @@ enum-known-task : tie.Need-enum-known-task
 enum-known-task c = search needs
 
 start-hue-saturation-requires : tie.Need-start-hue-saturation-requires
-unfolding taskForm
+unfolding taskValid
 start-hue-saturation-requires c κs = rw (c .before .task .given .1) at (c .before .before .before .pre)
 
 enum-known-task-2 : tie.Need-enum-known-task-2
@@ -20,7 +20,7 @@ new-requires : tie.Need-new-requires
 new-requires c κs = search needs
 
 hue-move-transition-requires : tie.Need-hue-move-transition-requires
-unfolding taskForm
+unfolding taskValid
 hue-move-transition-requires c κs =
     let k1 = c .before .before in
     let k2 = k1 .before .before in
@@ -33,7 +33,7 @@ new-requires-2 : tie.Need-new-requires-2
 new-requires-2 c κs = search needs
 
 saturation-move-transition-requires : tie.Need-saturation-move-transition-requires
-unfolding taskForm
+unfolding taskValid
 saturation-move-transition-requires c κs =
     let k1 = c .before .before in
     let k2 = k1 .before .before in
@@ -49,7 +49,7 @@ enum-known-task-5 : tie.Need-enum-known-task-5
 enum-known-task-5 c = search needs
 
 start-color-temperature-requires : tie.Need-start-color-temperature-requires
-unfolding taskForm
+unfolding taskValid
 start-color-temperature-requires c κs = rw (c .before .task5 .given .1) at (c .before .before .before .pre)
 
 enum-known-task-6 : tie.Need-enum-known-task-6

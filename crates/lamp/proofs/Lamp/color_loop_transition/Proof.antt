@@ -11,8 +11,8 @@ use Rattle.lamp.proofs.Lamp.color_loop_transition.Tie as tie
 elapsed-requires : tie.Need-elapsed-requires
 elapsed-requires c κs = search needs
 
-loop-way-requires : tie.Need-loop-way-requires
-loop-way-requires c κs = search needs
+loop-delta-requires : tie.Need-loop-delta-requires
+loop-delta-requires c κs = search needs
 
 moved-hue-requires : tie.Need-moved-hue-requires
 moved-hue-requires c κs = search needs
@@ -34,14 +34,14 @@ returns c =
     let k3 = k2 .before .before in
     let k4 = k3 .before in
     let k5 = k4 .before in
-    rw (c .wait-for-turn .ensures, k1 .push .ensures, k2 .set-hue .ensures, k3 .moved-hue .ensures, toZ-ofZ w64 (k4 .loop-way .result) (sfits-of (k4 .loop-way .ok)), k4 .loop-way .ensures, k5 .elapsed .ensures, pushed-behind)
+    rw (c .wait-for-turn .ensures, k1 .push .ensures, k2 .set-hue .ensures, k3 .moved-hue .ensures, toZ-ofZ w64 (k4 .loop-delta .result) (sfits-of (k4 .loop-delta .ok)), k4 .loop-delta .ensures, k5 .elapsed .ensures, pushed-behind)
 
 pub color-loop-transition-spec : {M : Type 1} → statement M
 color-loop-transition-spec =
     tie.close
     (tie.spec
     elapsed-requires
-    loop-way-requires
+    loop-delta-requires
     moved-hue-requires
     set-hue-requires
     push-requires

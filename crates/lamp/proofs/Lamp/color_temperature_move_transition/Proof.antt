@@ -1,4 +1,4 @@
--- `Lamp::color_temperature_move_transition`: each call's contract is its part of the definition; a rate in form is within ±65,535, so
+-- `Lamp::color_temperature_move_transition`: each call's contract is its part of the definition; a rate valid is within ±65,535, so
 -- that it is read as it is.
 use mathlib.Core.Path.{_≡_, ap, _∙_}
 use mir.Syntax.{w64}
@@ -13,7 +13,7 @@ use borrow.Author.Needs.{needs}
 use Rattle.lamp.proofs.Lamp.color_temperature_move_transition.Statement.{statement}
 use Rattle.lamp.proofs.Lamp.color_temperature_move_transition.Tie as tie
 
--- the rate that is handed over, as it is read and as `way_at_rate` limits it
+-- the rate that is handed over, as it is read and as `delta_at_rate` limits it
 module _ (c : tie.After-struct-told) where
   read : toZ w64 (ofZ w64 (c .before .before .args .run .rate)) ≡ c .before .before .args .run .rate
   read = search needs
@@ -24,11 +24,11 @@ module _ (c : tie.After-struct-told) where
 elapsed-requires : tie.Need-elapsed-requires
 elapsed-requires c κs = search needs
 
-way-at-rate-requires : tie.Need-way-at-rate-requires
-way-at-rate-requires c κs = search needs
+delta-at-rate-requires : tie.Need-delta-at-rate-requires
+delta-at-rate-requires c κs = search needs
 
-brought-within-requires : tie.Need-brought-within-requires
-brought-within-requires c κs = search needs
+clamped-sum-requires : tie.Need-clamped-sum-requires
+clamped-sum-requires c κs = search needs
 
 mireds-done-requires : tie.Need-mireds-done-requires
 mireds-done-requires c κs = search needs
@@ -56,15 +56,15 @@ returns c =
     let k6 = k5 .before in
     let k7 = k6 .before in
     let k8 = k7 .before in
-    rw (c .wait-unless .ensures, k1 .push .ensures, k2 .running-unless .ensures, k3 .set-color-temperature .ensures, k4 .mireds-done .ensures, k5 .brought-within .ensures, toZ-ofZ w64 (k6 .way-at-rate .result) (sfits-of (k6 .way-at-rate .ok)), k6 .way-at-rate .ensures, rate k7, read k7, k8 .elapsed .ensures, pushed-behind)
+    rw (c .wait-unless .ensures, k1 .push .ensures, k2 .running-unless .ensures, k3 .set-color-temperature .ensures, k4 .mireds-done .ensures, k5 .clamped-sum .ensures, toZ-ofZ w64 (k6 .delta-at-rate .result) (sfits-of (k6 .delta-at-rate .ok)), k6 .delta-at-rate .ensures, rate k7, read k7, k8 .elapsed .ensures, pushed-behind)
 
 pub color-temperature-move-transition-spec : {M : Type 1} → statement M
 color-temperature-move-transition-spec =
     tie.close
     (tie.spec
     elapsed-requires
-    way-at-rate-requires
-    brought-within-requires
+    delta-at-rate-requires
+    clamped-sum-requires
     mireds-done-requires
     set-color-temperature-requires
     running-unless-requires

@@ -1,9 +1,9 @@
--- `Lamp::hue_move_transition`: each call's contract is its part of the definition; a rate in form is read as it is.
+-- `Lamp::hue_move_transition`: each call's contract is its part of the definition; a rate valid is read as it is.
 use Prim.Native.Nat.{_≤_}
 use native.Mathlib.Omega.{arith}
 use borrow.Author.Tests.{leb-true}
 use Rattle.matter.proofs.Laws.{each}
-use Rattle.tasks.specs.Form.{hueMoveForm}
+use Rattle.tasks.specs.Valid.{hueMoveValid}
 use mir.Syntax.{w64}
 use mir.ValLaws.{toZ-ofZ}
 use borrow.Author.Needs.{sfits-of}
@@ -15,7 +15,7 @@ use Rattle.lamp.proofs.Lamp.hue_move_transition.Statement.{statement}
 use Rattle.lamp.proofs.Lamp.hue_move_transition.Tie as tie
 
 small-rate : (c : tie.Start) → c .args .run .task .rate ≤ 65535
-unfolding hueMoveForm
+unfolding hueMoveValid
 small-rate c = leb-true (c .args .run .task .rate) _ (each _ (c .pre) .1 .0)
 
 signed-requires : tie.Need-signed-requires
@@ -24,8 +24,8 @@ signed-requires c κs = search needs
 elapsed-requires : tie.Need-elapsed-requires
 elapsed-requires c κs = search needs
 
-way-at-rate-requires : tie.Need-way-at-rate-requires
-way-at-rate-requires c κs = search needs
+delta-at-rate-requires : tie.Need-delta-at-rate-requires
+delta-at-rate-requires c κs = search needs
 
 moved-hue-requires : tie.Need-moved-hue-requires
 moved-hue-requires c κs = search needs
@@ -45,7 +45,7 @@ returns c =
     let k4 = k3 .before in
     let k5 = k4 .before in
     let run = k5 .before .before .args .run in
-    rw (c .push .ensures, k1 .set-hue .ensures, k2 .moved-hue .ensures, toZ-ofZ w64 (k3 .way-at-rate .result) (sfits-of (k3 .way-at-rate .ok)), k3 .way-at-rate .ensures, k4 .elapsed .ensures, toZ-ofZ w64 (k5 .signed .result) (sfits-of (k5 .signed .ok)), k5 .signed .ensures, signed-same (run .task .direction) (run .task .rate) (omega (arith, small-rate (k5 .before .before))), pushed-behind)
+    rw (c .push .ensures, k1 .set-hue .ensures, k2 .moved-hue .ensures, toZ-ofZ w64 (k3 .delta-at-rate .result) (sfits-of (k3 .delta-at-rate .ok)), k3 .delta-at-rate .ensures, k4 .elapsed .ensures, toZ-ofZ w64 (k5 .signed .result) (sfits-of (k5 .signed .ok)), k5 .signed .ensures, signed-same (run .task .direction) (run .task .rate) (omega (arith, small-rate (k5 .before .before))), pushed-behind)
 
 pub hue-move-transition-spec : {M : Type 1} → statement M
 hue-move-transition-spec =
@@ -53,7 +53,7 @@ hue-move-transition-spec =
     (tie.spec
     signed-requires
     elapsed-requires
-    way-at-rate-requires
+    delta-at-rate-requires
     moved-hue-requires
     set-hue-requires
     push-requires

@@ -1,6 +1,6 @@
--- `Lamp::move_to_hue_saturation_transition`: each call's contract is its part of the definition; a task in form has a way in form.
+-- `Lamp::move_to_hue_saturation_transition`: each call's contract is its part of the definition; a task valid has a way valid.
 use Rattle.matter.proofs.Laws.{each}
-use Rattle.tasks.specs.Form.{moveToForm}
+use Rattle.tasks.specs.Valid.{moveToValid}
 use Rattle.lamp.specs.Passes.{hueSaturationPass}
 use Rattle.lamp.proofs.Shared.{two-setters}
 use borrow.Author.Needs.{needs}
@@ -8,7 +8,7 @@ use Rattle.lamp.proofs.Lamp.move_to_hue_saturation_transition.Statement
 use Rattle.lamp.proofs.Lamp.move_to_hue_saturation_transition.Tie as tie
 
 move-hue-requires : tie.Need-move-hue-requires
-unfolding moveToForm
+unfolding moveToValid
 move-hue-requires c κs = each _ (c .before .before .pre) .1 .0
 
 move-saturation-requires : tie.Need-move-saturation-requires

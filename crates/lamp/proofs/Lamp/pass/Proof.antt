@@ -1,7 +1,7 @@
 -- `Lamp::pass`: the definition's case is the one matched, and the running record's form is what the pass asks for.
 use Rattle.matter.proofs.Laws.{each}
 use Rattle.notices.specs.Notices.{pushedAll}
-use Rattle.tasks.specs.Form.{runningForm}
+use Rattle.tasks.specs.Valid.{runningValid}
 use Rattle.lamp.specs.Calls.{stepped}
 use borrow.Author.Needs.{needs}
 use Rattle.lamp.proofs.Lamp.pass.Statement.{statement}
@@ -26,12 +26,12 @@ new-requires-2 : tie.Need-new-requires-2
 new-requires-2 c κs = search needs
 
 move-to-hue-saturation-transition-requires : tie.Need-move-to-hue-saturation-transition-requires
-unfolding runningForm
+unfolding runningValid
 move-to-hue-saturation-transition-requires c κs =
     let k1 = c .before .before .before .before .before in
     let k2 = k1 .before .before in
-    let form = rw (k1 .running .given .1) at (k2 .pre) in
-    each _ form .0
+    let valid = rw (k1 .running .given .1) at (k2 .pre) in
+    each _ valid .0
 
 enum-known-running-2 : tie.Need-enum-known-running-2
 enum-known-running-2 c = search needs
@@ -40,12 +40,12 @@ new-requires-3 : tie.Need-new-requires-3
 new-requires-3 c κs = search needs
 
 hue-move-transition-requires : tie.Need-hue-move-transition-requires
-unfolding runningForm
+unfolding runningValid
 hue-move-transition-requires c κs =
     let k1 = c .before .before in
     let k2 = k1 .before .before in
-    let form = rw (k1 .running2 .given .1) at (k2 .pre) in
-    each _ form .0
+    let valid = rw (k1 .running2 .given .1) at (k2 .pre) in
+    each _ valid .0
 
 enum-known-running-3 : tie.Need-enum-known-running-3
 enum-known-running-3 c = search needs
@@ -54,12 +54,12 @@ new-requires-4 : tie.Need-new-requires-4
 new-requires-4 c κs = search needs
 
 saturation-move-transition-requires : tie.Need-saturation-move-transition-requires
-unfolding runningForm
+unfolding runningValid
 saturation-move-transition-requires c κs =
     let k1 = c .before .before in
     let k2 = k1 .before .before in
-    let form = rw (k1 .running3 .given .1) at (k2 .pre) in
-    each _ form .0
+    let valid = rw (k1 .running3 .given .1) at (k2 .pre) in
+    each _ valid .0
 
 enum-known-running-4 : tie.Need-enum-known-running-4
 enum-known-running-4 c = search needs
@@ -84,12 +84,12 @@ new-requires-6 : tie.Need-new-requires-6
 new-requires-6 c κs = search needs
 
 color-temperature-move-transition-requires : tie.Need-color-temperature-move-transition-requires
-unfolding runningForm
+unfolding runningValid
 color-temperature-move-transition-requires c κs =
     let k1 = c .before .before in
     let k2 = k1 .before .before in
-    let form = rw (k1 .running5 .given .1) at (k2 .pre) in
-    each _ form .0
+    let valid = rw (k1 .running5 .given .1) at (k2 .pre) in
+    each _ valid .0
 
 enum-known-running-6 : tie.Need-enum-known-running-6
 enum-known-running-6 c = search needs

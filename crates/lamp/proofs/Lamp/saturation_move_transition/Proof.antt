@@ -1,9 +1,9 @@
--- `Lamp::saturation_move_transition`: each call's contract is its part of the definition; a rate in form is read as it is.
+-- `Lamp::saturation_move_transition`: each call's contract is its part of the definition; a rate valid is read as it is.
 use Prim.Native.Nat.{_≤_}
 use native.Mathlib.Omega.{arith}
 use borrow.Author.Tests.{leb-true}
 use Rattle.matter.proofs.Laws.{each}
-use Rattle.tasks.specs.Form.{saturationMoveForm}
+use Rattle.tasks.specs.Valid.{saturationMoveValid}
 use mir.Syntax.{w64}
 use mir.ValLaws.{toZ-ofZ}
 use borrow.Author.Needs.{sfits-of}
@@ -15,7 +15,7 @@ use Rattle.lamp.proofs.Lamp.saturation_move_transition.Statement.{state
 use Rattle.lamp.proofs.Lamp.saturation_move_transition.Tie as tie
 
 small-rate : (c : tie.Start) → c .args .run .task .rate ≤ 255
-unfolding saturationMoveForm
+unfolding saturationMoveValid
 small-rate c = leb-true (c .args .run .task .rate) _ (each _ (c .pre) .1 .0)
 
 signed-requires : tie.Need-signed-requires
@@ -24,8 +24,8 @@ signed-requires c κs = search needs
 elapsed-requires : tie.Need-elapsed-requires
 elapsed-requires c κs = search needs
 
-way-at-rate-requires : tie.Need-way-at-rate-requires
-way-at-rate-requires c κs = search needs
+delta-at-rate-requires : tie.Need-delta-at-rate-requires
+delta-at-rate-requires c κs = search needs
 
 moved-saturation-requires : tie.Need-moved-saturation-requires
 moved-saturation-requires c κs = search needs
@@ -57,7 +57,7 @@ returns c =
     let k7 = k6 .before in
     let k8 = k7 .before in
     let run = k8 .before .before .args .run in
-    rw (c .wait-unless .ensures, k1 .push .ensures, k2 .running-unless .ensures, k3 .set-saturation .ensures, k4 .saturation-done .ensures, k5 .moved-saturation .ensures, toZ-ofZ w64 (k6 .way-at-rate .result) (sfits-of (k6 .way-at-rate .ok)), k6 .way-at-rate .ensures, k7 .elapsed .ensures, toZ-ofZ w64 (k8 .signed .result) (sfits-of (k8 .signed .ok)), k8 .signed .ensures, signed-same (run .task .direction) (run .task .rate) (omega (arith, small-rate (k8 .before .before))), pushed-behind)
+    rw (c .wait-unless .ensures, k1 .push .ensures, k2 .running-unless .ensures, k3 .set-saturation .ensures, k4 .saturation-done .ensures, k5 .moved-saturation .ensures, toZ-ofZ w64 (k6 .delta-at-rate .result) (sfits-of (k6 .delta-at-rate .ok)), k6 .delta-at-rate .ensures, k7 .elapsed .ensures, toZ-ofZ w64 (k8 .signed .result) (sfits-of (k8 .signed .ok)), k8 .signed .ensures, signed-same (run .task .direction) (run .task .rate) (omega (arith, small-rate (k8 .before .before))), pushed-behind)
 
 pub saturation-move-transition-spec : {M : Type 1} → statement M
 saturation-move-transition-spec =
@@ -65,7 +65,7 @@ saturation-move-transition-spec =
     (tie.spec
     signed-requires
     elapsed-requires
-    way-at-rate-requires
+    delta-at-rate-requires
     moved-saturation-requires
     saturation-done-requires
     set-saturation-requires

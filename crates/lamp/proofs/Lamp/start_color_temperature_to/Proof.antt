@@ -1,4 +1,4 @@
--- `Lamp::start_color_temperature_to`: each call's contract is its part of the definition; what is told before the pass stands before it.
+-- `Lamp::start_color_temperature_to`: each call's contract is its part of the definition; what is reported before the pass stands before it.
 use Prim.Native.Nat.{_+_}
 use mathlib.Core.Path.{_≡_}
 use native.Mathlib.Omega.{arith}
@@ -20,8 +20,8 @@ new-requires c κs = search needs
 push-if-requires : tie.Need-push-if-requires
 push-if-requires c κs = search needs
 
-brought-within-requires : tie.Need-brought-within-requires
-brought-within-requires c κs = search needs
+clamped-sum-requires : tie.Need-clamped-sum-requires
+clamped-sum-requires c κs = search needs
 
 start-permille-requires : tie.Need-start-permille-requires
 start-permille-requires c κs = search needs
@@ -41,7 +41,7 @@ returns c =
     let k6 = k5 .before .before .before in
     let t = k6 .args .task .target in
     let e : t + 0 ≡ t = omega arith in
-    rw (c .move-to-color-temperature-transition .ensures, k1 .start-permille .ensures, k2 .brought-within .ensures, k3 .push-if .ensures, k4 .new .ensures, k5 .write-remaining-time-quietly .ensures, e, pushed-append)
+    rw (c .move-to-color-temperature-transition .ensures, k1 .start-permille .ensures, k2 .clamped-sum .ensures, k3 .push-if .ensures, k4 .new .ensures, k5 .write-remaining-time-quietly .ensures, e, pushed-append)
 
 pub start-color-temperature-to-spec : {M : Type 1} → statement M
 start-color-temperature-to-spec =
@@ -51,7 +51,7 @@ start-color-temperature-to-spec =
     write-remaining-time-quietly-requires
     new-requires
     push-if-requires
-    brought-within-requires
+    clamped-sum-requires
     start-permille-requires
     move-to-color-temperature-transition-requires
     returns)

@@ -1,4 +1,4 @@
--- `Lamp::start_hue_saturation`: each call's contract is its part of the definition; what is told before the pass stands before it.
+-- `Lamp::start_hue_saturation`: each call's contract is its part of the definition; what is reported before the pass stands before it.
 use Rattle.notices.proofs.Laws.{pushed-append}
 use Rattle.lamp.specs.Calls.{hueSaturationStart}
 use borrow.Author.Needs.{needs}
@@ -17,11 +17,11 @@ new-requires c κs = search needs
 push-if-requires : tie.Need-push-if-requires
 push-if-requires c κs = search needs
 
-no-hue-way-requires : tie.Need-no-hue-way-requires
-no-hue-way-requires c κs = search needs
+no-hue-delta-requires : tie.Need-no-hue-delta-requires
+no-hue-delta-requires c κs = search needs
 
-no-saturation-way-requires : tie.Need-no-saturation-way-requires
-no-saturation-way-requires c κs = search needs
+no-saturation-delta-requires : tie.Need-no-saturation-delta-requires
+no-saturation-delta-requires c κs = search needs
 
 start-permille-requires : tie.Need-start-permille-requires
 start-permille-requires c κs = search needs
@@ -38,7 +38,7 @@ returns c =
     let k4 = k3 .before .before in
     let k5 = k4 .before in
     let k6 = k5 .before in
-    rw (c .move-to-hue-saturation-transition .ensures, k1 .start-permille .ensures, k2 .no-saturation-way .ensures, k3 .no-hue-way .ensures, k4 .push-if .ensures, k5 .new .ensures, k6 .write-remaining-time-quietly .ensures, pushed-append)
+    rw (c .move-to-hue-saturation-transition .ensures, k1 .start-permille .ensures, k2 .no-saturation-delta .ensures, k3 .no-hue-delta .ensures, k4 .push-if .ensures, k5 .new .ensures, k6 .write-remaining-time-quietly .ensures, pushed-append)
 
 pub start-hue-saturation-spec : {M : Type 1} → statement M
 start-hue-saturation-spec =
@@ -48,8 +48,8 @@ start-hue-saturation-spec =
     write-remaining-time-quietly-requires
     new-requires
     push-if-requires
-    no-hue-way-requires
-    no-saturation-way-requires
+    no-hue-delta-requires
+    no-saturation-delta-requires
     start-permille-requires
     move-to-hue-saturation-transition-requires
     returns)

@@ -1,11 +1,11 @@
--- `Lamp::step`: the cause picks the definition's case. What runs stays in form as the clock goes on, and a step tells at most fourteen
+-- `Lamp::step`: the cause picks the definition's case. What runs stays valid as the clock goes on, and a step reports at most fourteen
 -- notices, so that the list holds them all.
 use native.Mathlib.Omega.{arith}
 use mathlib.Core.List.{[]}
 use borrow.Author.Tests.{ltb-false, not-true, not-false}
 use Rattle.notices.proofs.Laws.{pushed-all-noted}
 use Rattle.lamp.specs.Answers.{atClock}
-use Rattle.lamp.specs.Form.{lampForm}
+use Rattle.lamp.specs.Valid.{lampValid}
 use Rattle.lamp.specs.Calls.{stepped, stepAnswer}
 use Rattle.lamp.proofs.Kept.{running-later, stepped-few}
 use Rattle.matter.proofs.Laws.{each, or-left}
@@ -13,15 +13,15 @@ use borrow.Author.Needs.{needs}
 use Rattle.lamp.proofs.Lamp.step.Statement.{statement}
 use Rattle.lamp.proofs.Lamp.step.Tie as tie
 
-in-form-requires : tie.Need-in-form-requires
-in-form-requires c κs = search needs
+is-valid-requires : tie.Need-is-valid-requires
+is-valid-requires c κs = search needs
 
 refused-requires : tie.Need-refused-requires
 refused-requires c κs = search needs
 
 returns : tie.Need-returns
 unfolding stepAnswer
-returns c = rw (c .refused .ensures, ← c .before .before .in-form .ensures, not-true (c .before .before .in-form .result) (c .before .if1 .taken))
+returns c = rw (c .refused .ensures, ← c .before .before .is-valid .ensures, not-true (c .before .before .is-valid .result) (c .before .if1 .taken))
 
 is-running-requires : tie.Need-is-running-requires
 is-running-requires c κs = search needs
@@ -36,7 +36,7 @@ returns-2 c =
     let k2 = k1 .before in
     let k3 = k2 .before in
     let k4 = k3 .before in
-    rw (c .refused2 .ensures, ← k4 .in-form .ensures, not-false (k4 .in-form .result) (k3 .if1 .left), ← k2 .is-running .ensures, not-true (k2 .is-running .result) (k1 .if2 .taken))
+    rw (c .refused2 .ensures, ← k4 .is-valid .ensures, not-false (k4 .is-valid .result) (k3 .if1 .left), ← k2 .is-running .ensures, not-true (k2 .is-running .result) (k1 .if2 .taken))
 
 refused-requires-3 : tie.Need-refused-requires-3
 refused-requires-3 c κs = search needs
@@ -49,21 +49,21 @@ returns-3 c =
     let k3 = k2 .before in
     let k4 = k3 .before in
     let k5 = k4 .before in
-    rw (c .refused3 .ensures, ← k5 .in-form .ensures, not-false (k5 .in-form .result) (k4 .if1 .left), ← k3 .is-running .ensures, not-false (k3 .is-running .result) (k2 .if2 .left), k1 .if3 .taken)
+    rw (c .refused3 .ensures, ← k5 .is-valid .ensures, not-false (k5 .is-valid .result) (k4 .if1 .left), ← k3 .is-running .ensures, not-false (k3 .is-running .result) (k2 .if2 .left), k1 .if3 .taken)
 
 at-clock-requires : tie.Need-at-clock-requires
 at-clock-requires c κs = search needs
 
 pass-requires : tie.Need-pass-requires
-unfolding lampForm
+unfolding lampValid
 pass-requires c κs =
     let k1 = c .before in
     let k2 = k1 .before .before .before .before in
     let k3 = k2 .before in
     let k4 = k3 .before in
-    let form = rw (k3 .in-form .ensures) at (not-false (k3 .in-form .result) (k2 .if1 .left)) in
+    let valid = rw (k3 .is-valid .ensures) at (not-false (k3 .is-valid .result) (k2 .if1 .left)) in
     rw (c .at-clock .ensures)
-    (running-later (k4 .args .self .running) (k4 .args .self .bounds) (k4 .args .self .clock) (k4 .args .clock) (each _ form .1 .1 .0) (ltb-false _ _ (or-left _ _ (k1 .if3 .left))))
+    (running-later (k4 .args .self .running) (k4 .args .self .bounds) (k4 .args .self .clock) (k4 .args .clock) (each _ valid .1 .1 .0) (ltb-false _ _ (or-left _ _ (k1 .if3 .left))))
 
 accepted-requires : tie.Need-accepted-requires
 accepted-requires c κs = search needs
@@ -80,13 +80,13 @@ returns-4 c =
     let k7 = k6 .before in
     let k8 = k7 .before in
     let few = stepped-few (atClock (k8 .args .self) (k8 .args .clock)) (k8 .args .self .running) in
-    rw (c .accepted .ensures, k1 .pass .ensures, k2 .at-clock .ensures, ← k7 .in-form .ensures, not-false (k7 .in-form .result) (k6 .if1 .left), ← k5 .is-running .ensures, not-false (k5 .is-running .result) (k4 .if2 .left), k3 .if3 .left, pushed-all-noted [] (stepped (atClock (k8 .args .self) (k8 .args .clock)) (k8 .args .self .running) .told) (omega arith))
+    rw (c .accepted .ensures, k1 .pass .ensures, k2 .at-clock .ensures, ← k7 .is-valid .ensures, not-false (k7 .is-valid .result) (k6 .if1 .left), ← k5 .is-running .ensures, not-false (k5 .is-running .result) (k4 .if2 .left), k3 .if3 .left, pushed-all-noted [] (stepped (atClock (k8 .args .self) (k8 .args .clock)) (k8 .args .self .running) .reported) (omega arith))
 
 pub step-spec : {M : Type 1} → statement M
 step-spec =
     tie.close
     (tie.spec
-    in-form-requires
+    is-valid-requires
     refused-requires
     returns
     is-running-requires

@@ -1,4 +1,4 @@
--- `passes::move_hue`: the definition's case is the one matched; a way in form is within ±65,535, so that it is read as it is.
+-- `passes::move_hue`: the definition's case is the one matched; a way valid is within ±65,535, so that it is read as it is.
 use mathlib.Core.Path.{_≡_, ap, _∙_}
 use mir.Syntax.{w64}
 use mir.Val.{toZ, ofZ}

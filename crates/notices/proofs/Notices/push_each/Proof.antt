@@ -19,15 +19,15 @@ use Rattle.notices.proofs.Notices.push_each.Tie as tie
 abbrev left : List Bool → List ℕ → ℕ → List ℕ
 left tests numbers i = chosen (drop i tests) (drop i numbers)
 
--- one turn: where the notice is told it is pushed, and else nothing is
+-- one turn: where the notice is reported it is pushed, and else nothing is
 module _ (tests : List Bool) (numbers : List ℕ) (i : ℕ) (h : i < length tests) (k : i < length numbers) (n : Notices) where
-  told : getD tests i false ≡ true → pushedAll (pushed n (getD numbers i 0)) (left tests numbers (i + 1)) ≡ pushedAll n (left tests numbers i)
+  reported : getD tests i false ≡ true → pushedAll (pushed n (getD numbers i 0)) (left tests numbers (i + 1)) ≡ pushedAll n (left tests numbers i)
   unfolding chosen pushedAll
-  told e = rw (drop-cons tests i false h, drop-cons numbers i 0 k, add-one i, e) refl
+  reported e = rw (drop-cons tests i false h, drop-cons numbers i 0 k, add-one i, e) refl
 
-  untold : getD tests i false ≡ false → pushedAll n (left tests numbers (i + 1)) ≡ pushedAll n (left tests numbers i)
+  unreported : getD tests i false ≡ false → pushedAll n (left tests numbers (i + 1)) ≡ pushedAll n (left tests numbers i)
   unfolding chosen pushedAll
-  untold e = rw (drop-cons tests i false h, drop-cons numbers i 0 k, add-one i, e) refl
+  unreported e = rw (drop-cons tests i false h, drop-cons numbers i 0 k, add-one i, e) refl
 
 -- a push where there is a place, and where there is none
 placed : (places : List ℕ) (len x : ℕ) → len < 16 → record { places = set places len x; len = len + 1 } ≡ pushed (record { places = places; len = len }) x
@@ -85,10 +85,10 @@ loop-again c =
       add-one-le (c .before .loop-test .taken),
       ⊎-elim (λ w. simp (w .2, length-set) same) (⊎-elim (λ w. simp (w .2) same) (λ w. simp (w .1) same)) (c .if1 .came),
       ⊎-elim
-          (λ w. rw (w .2, w .3) (ap onto (placed _ _ _ (w .1 .taken)) ∙ told tests numbers i (search needs) (search needs) n (w .0 .taken) ∙ kept))
+          (λ w. rw (w .2, w .3) (ap onto (placed _ _ _ (w .1 .taken)) ∙ reported tests numbers i (search needs) (search needs) n (w .0 .taken) ∙ kept))
           (⊎-elim
-          (λ w. rw (w .2, w .3) (ap onto (full _ _ _ (w .1 .left)) ∙ told tests numbers i (search needs) (search needs) n (w .0 .taken) ∙ kept))
-          (λ w. rw (w .1, w .2) (untold tests numbers i (search needs) (search needs) n (w .0 .left) ∙ kept)))
+          (λ w. rw (w .2, w .3) (ap onto (full _ _ _ (w .1 .left)) ∙ reported tests numbers i (search needs) (search needs) n (w .0 .taken) ∙ kept))
+          (λ w. rw (w .1, w .2) (unreported tests numbers i (search needs) (search needs) n (w .0 .left) ∙ kept)))
           (c .if1 .came),
     )
 

@@ -44,7 +44,7 @@ use denote.Exit.{yes}
 use Rattle.remaining_time.specs.RemainingTime.{writtenQuietly}
 use Rattle.remaining_time.specs.declared.RemainingTime.{RemainingTime}
 use Rattle.remaining_time.specs.declared.Written.{Written}
-use Rattle.remaining_time.proofs.Owned.{NumberVals, number-vals, tenths-fit, record-typed, own-record, own-numbers, own-all}
+use Rattle.remaining_time.proofs.Owned.{NumberVals, number-vals, tenths-fit, record-in-range, own-record, own-numbers, own-all}
 use Rattle.remaining_time.proofs.RemainingTime as T
 use Rattle.remaining_time.proofs.RemainingTime.Laws as T′
 use Rattle.remaining_time.proofs.Written as S
@@ -100,19 +100,19 @@ module _ {M : Type 1} (𝓤 : URA M) (H : Heap 𝓤) (A : Atoms 𝓤) (W : Given
   answer-fits : (r : Written) (vs : List Val) → Is S.the-row r vs → r .remaining .tenths < 2 ^ 16
   answer-fits r vs is = LL.owed S.the-type S′.the-laws r vs is .1 .0 .1 .1 .0 .1
 
-  -- at exit the rule's record stands behind the reference, and whether it is told is answered
+  -- at exit the rule's record stands behind the reference, and whether it is reported is answered
   exits : (r : Written) → Said r
-      → ent 𝓤 (⋆ 𝓤 H A (‵ (fobs γ (T.the-row .coded .code (r .remaining))) ∷ ‵ (fbor κ (Body (mem T.the-row) b o γ)) ∷ ‵ (flft κ q) ∷ [])) (Post (vbool (r .told)))
+      → ent 𝓤 (⋆ 𝓤 H A (‵ (fobs γ (T.the-row .coded .code (r .remaining))) ∷ ‵ (fbor κ (Body (mem T.the-row) b o γ)) ∷ ‵ (flft κ q) ∷ [])) (Post (vbool (r .reported)))
   exits r e =
       qed W (‵ (fobs γ (T.the-row .coded .code (r .remaining))) ∷ ‵ (fbor κ (Body (mem T.the-row) b o γ)) ∷ ‵ (flft κ q) ∷ []) ∵
       suffices ! _ (ends-at 𝓤 H A write.ended stayed (write.clauses 𝓤 H A at-mem run) W (((κ, tt), (q, tt), tt, x, at), tt)
-      (vbool (r .told)) (r .told) (r .remaining, (tt, (tt, tt))) (tt, (tt, (tt, tt)))) $
-      says ! (ap (λ (w : Written). w .remaining) e, ap (λ (w : Written). w .told) e) $
+      (vbool (r .reported)) (r .reported) (r .remaining, (tt, (tt, tt))) (tt, (tt, (tt, tt)))) $
+      says ! (ap (λ (w : Written). w .remaining) e, ap (λ (w : Written). w .reported) e) $
       -- the token; the reference and the numbers; the result
       nothing ! $ move ! (3 ∷ 0 ∷ []) $ join ! $ frame ! $
       feqI ! (List Val) (vptr b o ∷ []) (vptr b o ∷ []) refl $ fjoin3 ! $
       use0 W (‵ (owns (u64 ∷ bool ∷ []) (ms, (start, tt)) (number-vals ms start))) (own-numbers 𝓤 H A W ms start ms-fits) $ move ! (1 ∷ 0 ∷ []) $ fjoin ! $
-      feqI ! (List Val) (vbool (r .told) ∷ []) (vbool (r .told) ∷ []) refl $ move ! (1 ∷ 0 ∷ []) $ done !
+      feqI ! (List Val) (vbool (r .reported) ∷ []) (vbool (r .reported) ∷ []) refl $ move ! (1 ∷ 0 ∷ []) $ done !
 
   module _ (C : Calls 𝓤 H) (Λ : Loops 𝓤 H) (fm : FmC 𝓤 H (W .laws) C) (known : Triple 𝓤 (C #rule) (Rule 𝓤 H A at-mem run)) where
     walk : ent 𝓤 (onEntry 𝓤 H A write.signature (κ, tt) (q, tt) x at) (WpFn 𝓤 H C Λ code.function (vptr b o ∷ vint w64 ms ∷ vbool start ∷ []) Post)
@@ -128,7 +128,7 @@ module _ {M : Type 1} (𝓤 : URA M) (H : Heap 𝓤) (A : Atoms 𝓤) (W : Given
         move ! (1 ∷ []) $ peeks ! T.the-row (Is T.the-row) (shows 𝓤 H A T.the-row) old _ (λ was. drop ! $
         -- [the record's cell; the open borrow; obs; auth; true; the numbers'; room for _5; …; for _4; …; _3; …; _2; …; _1; …; room for _0; …]
         -- the record is copied, and the rule is called on the copy
-        assigns ! (of-opd ! (load ! (from ! (hop ! (look ! 14 refl) (stop !))) (look-raw ! 0 refl))) (from ! (stop !)) (init ! 6 refl (record-typed old (tenths-fit _ _ was))) $
+        assigns ! (of-opd ! (load ! (from ! (hop ! (look ! 14 refl) (stop !))) (look-raw ! 0 refl))) (from ! (stop !)) (init ! 6 refl (record-in-range old (tenths-fit _ _ was))) $
         use0 W (raw (Rule 𝓤 H A at-mem run .pre to-rule)) (goes-rule (tenths-fit _ _ was)) $
         calls-at ! fm (Rule 𝓤 H A at-mem run) known to-rule
         (and-then ! (load ! (from ! (stop !)) (look ! 7 refl)) (and-then ! (load ! (from ! (stop !)) (look ! 13 refl))
@@ -140,9 +140,9 @@ module _ {M : Type 1} (𝓤 : URA M) (H : Heap 𝓤) (A : Atoms 𝓤) (W : Given
         peeks ! S.the-row (Is S.the-row) (shows 𝓤 H A S.the-row) r (v ∷ []) (λ is. drop ! $
         land ! (from ! (stop !)) (init ! 8 refl (LL.lawful S.the-type S′.the-laws 𝓤 H A W .typed r _ is .0)) $
         rewrite ! 8 (λ (u : Val). ‵ (fat fullShare S′.mir l₄ 0 u)) (ap only (LL.tells S.the-type S′.the-laws r _ is)) refl $
-        -- its record is stored behind the reference, and whether it is told is the result
+        -- its record is stored behind the reference, and whether it is reported is the result
         assigns ! (of-opd ! (load ! (from ! (fld ! refl (stop !))) (look-in ! 8 (sub ! 1 refl (whole !))))) (from ! (hop ! (look ! 14 refl) (stop !)))
-        (store-raw ! 0 refl (record-typed (r .remaining) (answer-fits r _ is))) $
+        (store-raw ! 0 refl (record-in-range (r .remaining) (answer-fits r _ is))) $
         assigns ! (of-opd ! (load ! (from ! (fld ! refl (stop !))) (look-in ! 8 (sub ! 0 refl (whole !))))) (from ! (stop !)) (init ! 16 refl (tt, tt)) $
         -- the borrow is closed at the new record, and the locals are freed
         use0 W (‵ (T.the-row .own (r .remaining) (T′.lowered (r .remaining) ∷ []))) (own-record 𝓤 H A W (r .remaining) (answer-fits r _ is)) $ move ! (1 ∷ 0 ∷ []) $

@@ -46,7 +46,7 @@ use borrow.Table.OneValue.{part-in, part-out}
 use Rattle.remaining_time.specs.RemainingTime.{writtenQuietly}
 use Rattle.remaining_time.specs.declared.RemainingTime.{RemainingTime}
 use Rattle.remaining_time.specs.declared.Written.{Written}
-use Rattle.remaining_time.proofs.Owned.{NumberVals, number-vals, tenths-fit, record-typed, own-record, own-numbers, own-all}
+use Rattle.remaining_time.proofs.Owned.{NumberVals, number-vals, tenths-fit, record-in-range, own-record, own-numbers, own-all}
 use Rattle.remaining_time.proofs.RemainingTime as T
 use Rattle.remaining_time.proofs.RemainingTime.Laws as T′
 use Rattle.remaining_time.proofs.Written as S
@@ -101,11 +101,11 @@ module _ {M : Type 1} (𝓤 : URA M) (H : Heap 𝓤) (A : Atoms 𝓤) (W : Given
       nothing ! $ move ! (2 ∷ 0 ∷ []) $ join ! $ join ! $ frame ! $ done !
 
   abbrev Said : Bool → RemainingTime → Type 0
-  Said t z = (z ≡ writtenQuietly old ms start .remaining) × (t ≡ writtenQuietly old ms start .told)
+  Said t z = (z ≡ writtenQuietly old ms start .remaining) × (t ≡ writtenQuietly old ms start .reported)
 
   -- what is answered
   abbrev made : Bool → RemainingTime → Written
-  made t z = record { told = t; remaining = z }
+  made t z = record { reported = t; remaining = z }
 
   is-made : (t : Bool) (z : RemainingTime) → z .tenths < 2 ^ 16 → Is S.the-row (made t z) (S′.lowered (made t z) ∷ [])
   is-made t z z-fits = LL.owes S.the-type S′.the-laws (made t z) (refl, (((vint w16 (z .tenths) ∷ [], tt), (refl, ((refl, z-fits), tt))), tt))
@@ -124,10 +124,10 @@ module _ {M : Type 1} (𝓤 : URA M) (H : Heap 𝓤) (A : Atoms 𝓤) (W : Given
     walk =
         qed W (‵ ftrue ∷ ‵ (owns (T.the-row ∷ u64 ∷ bool ∷ []) x at) ∷ []) ∵ enter ! C Λ code.function (T′.lowered old ∷ vint w64 ms ∷ vbool start ∷ []) _ $
         alloc1 ! (λ l₀. alloc1 ! (λ l₁. alloc1 ! (λ l₂. alloc1 ! (λ l₃. alloc1 ! (λ l₄. alloc1 ! (λ l₅. alloc1 ! (λ l₆. alloc1 ! (λ l₇. alloc0 ! $ params1 ! $
-        pass1 ! (init ! 12 refl (record-typed old fits)) $ pass1 ! (init ! 10 refl (tt, record { fits = ms-fits })) $ pass1 ! (init ! 8 refl (tt, tt)) $ pass0 ! $
+        pass1 ! (init ! 12 refl (record-in-range old fits)) $ pass1 ! (init ! 10 refl (tt, record { fits = ms-fits })) $ pass1 ! (init ! 8 refl (tt, tt)) $ pass0 ! $
         -- [room for _7; …; for _6; …; for _5; …; for _4; …; _3; …; _2; …; _1; …; room for _0; …]
         -- the record is copied to the local, and the local's address is taken
-        assigns ! (of-opd ! (load ! (from ! (stop !)) (look ! 12 refl))) (from ! (stop !)) (init ! 6 refl (record-typed old fits)) $
+        assigns ! (of-opd ! (load ! (from ! (stop !)) (look ! 12 refl))) (from ! (stop !)) (init ! 6 refl (record-in-range old fits)) $
         assigns ! (addr ! (from ! (stop !))) (from ! (stop !)) (init ! 2 refl (tt, tt)) $
         -- the local is lent for a lifetime ν of the call
         lft-new ! tt (λ ν. use0 W (‵ (T.the-row .own old (T′.lowered old ∷ []))) (own-record 𝓤 H A W old fits) $ move ! (8 ∷ 0 ∷ []) $
@@ -155,9 +155,9 @@ module _ {M : Type 1} (𝓤 : URA M) (H : Heap 𝓤) (A : Atoms 𝓤) (W : Given
         rewrite ! 0 (λ (u : Val). ‵ (fat fullShare T′.mir l₄ 0 u)) (ap only (LL.tells T.the-type T′.the-laws (zs .0) _ is′)) refl $
         -- [_4; true; true; room for _7; …; _6; …; _5; …; … of _4; _3; …; _2; …; _1; …; room for _0; …]
         -- the answer is put together of t and a copy of the local, and the locals are freed
-        assigns ! (of-opd ! (load ! (from ! (stop !)) (look ! 0 refl))) (from ! (stop !)) (init ! 3 refl (record-typed (zs .0) (tenths-fit _ _ is′))) $
+        assigns ! (of-opd ! (load ! (from ! (stop !)) (look ! 0 refl))) (from ! (stop !)) (init ! 3 refl (record-in-range (zs .0) (tenths-fit _ _ is′))) $
         assigns ! (agg ! (and-then ! (load ! (from ! (stop !)) (look ! 7 refl)) (and-then ! (load ! (from ! (stop !)) (look ! 3 refl)) (no-more !)))) (from ! (stop !))
-        (init ! 16 refl (tt, (tt, (record-typed (zs .0) (tenths-fit _ _ is′) .1, tt)))) $
+        (init ! 16 refl (tt, (tt, (record-in-range (zs .0) (tenths-fit _ _ is′) .1, tt)))) $
         returns ! (look ! 16 refl) $
         forget ! 0 refl $ forget ! 3 refl $ forget ! 5 refl $ forget ! 7 refl $ forget ! 10 refl $ forget ! 12 refl $ forget ! 14 refl $ forget ! 16 refl $
         move ! (16 ∷ 17 ∷ []) $ free1 ! $ move ! (14 ∷ 15 ∷ []) $ free1 ! $ move ! (12 ∷ 13 ∷ []) $ free1 ! $ move ! (10 ∷ 11 ∷ []) $ free1 ! $

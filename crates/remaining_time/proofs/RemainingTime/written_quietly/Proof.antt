@@ -1,4 +1,4 @@
--- What is stored is the new number in tenths, and what is told is the rule on it and the old number.
+-- What is stored is the new number in tenths, and what is reported is the rule on it and the old number.
 use borrow.Author.Needs.{needs}
 use Rattle.remaining_time.proofs.RemainingTime.written_quietly.Statement.{
   statement,
@@ -11,12 +11,12 @@ tenths-requires c κs = search needs
 cast-new-ds : tie.Need-cast-new-ds
 cast-new-ds c = search needs
 
-is-told-requires : tie.Need-is-told-requires
-is-told-requires c κs = search needs
+is-reported-requires : tie.Need-is-reported-requires
+is-reported-requires c κs = search needs
 
 returns : tie.Need-returns
-returns c = simp (c .is-told .ensures, c .before .tenths .ensures)
+returns c = simp (c .is-reported .ensures, c .before .tenths .ensures)
 
 pub written-quietly-spec : {M : Type 1} → statement M
 written-quietly-spec =
-    tie.close (tie.spec tenths-requires cast-new-ds is-told-requires returns)
+    tie.close (tie.spec tenths-requires cast-new-ds is-reported-requires returns)

@@ -1,0 +1,19 @@
+-- Each arm gives what the definition gives for its case.
+use borrow.Author.Needs.{needs}
+use Rattle.tasks.proofs.TargetSaturation.is_valid.Statement.{statement}
+use Rattle.tasks.proofs.TargetSaturation.is_valid.Tie as tie
+
+enum-told : tie.Need-enum-told
+enum-told c = search needs
+
+enum-known-self : tie.Need-enum-known-self
+enum-known-self c = search needs
+
+returns : tie.Need-returns
+returns c = search needs
+
+returns-2 : tie.Need-returns-2
+returns-2 c = simp (c .before .self .given .1)
+
+pub is-valid-spec : {M : Type 1} → statement M
+is-valid-spec = tie.close (tie.spec enum-told enum-known-self returns returns-2)
