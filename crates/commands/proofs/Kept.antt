@@ -8,7 +8,7 @@ use native.Mathlib.Nat.{le-trans}
 use native.Mathlib.Omega.{arith}
 use lib.ListN.{length, length-append}
 use Rattle.matter.specs.declared.commands.Command.{Command}
-use Rattle.matter.specs.declared.commands.CommandOptions.{CommandOptions}
+use Rattle.matter.specs.declared.commands.Request.{Request}
 use Rattle.matter.specs.declared.enums.ColorLoopActionEnum.{ColorLoopActionEnum}
 use Rattle.matter.specs.declared.enums.ColorLoopDirectionEnum.{ColorLoopDirectionEnum}
 use Rattle.matter.specs.declared.enums.OnOff.{OnOff}
@@ -35,7 +35,7 @@ use Rattle.lamp.specs.declared.Call.{Call}
 use Rattle.lamp.specs.InRange.{InRangeLamp, InRangeCall}
 use Rattle.lamp.proofs.InRangeKept.{changed, started-any, stepped-any, in-range-of, clock-in-range, changed-in-range, started-in-range, stepped-in-range}
 use Rattle.commands.specs.Answers.{afterClock, allowed, commandCause, commandDone, commandAnswer, cause, answer, granted, clockOf, isLoopSet}
-use Rattle.commands.specs.Commands.{CommandEffect, skip, giving, stopMode, withLoop, updated, updatedReported, acted, deactivated, activated, loopSet, commandEffect}
+use Rattle.commands.specs.Commands.{CommandEffect, skip, giving, checks, withLoop, updated, updatedReported, acted, deactivated, activated, loopSet, commandEffect}
 
 -- ---- an answer is a refusal with its cause, or what is granted where there is none
 
@@ -43,14 +43,14 @@ module _ (l : Lamp) where
   -- what holds of both holds of the answer
   pub answer-both : (P : Answer → Type 0) (x : Call) → (cause l x ≡ 0 → P (granted l x)) → ((cause l x ≡ 0 → ⊥) → P (refusal l (cause l x))) → P (answer l x)
   unfolding cause answer commandAnswer startAnswer stepAnswer haltAnswer
-  answer-both P (Call.Command c onOff clock) h k = choose-both P (commandCause l c onOff clock) l _ h k
+  answer-both P (Call.Command r onOff clock) h k = choose-both P (commandCause l r onOff clock) l _ h k
   answer-both P (Call.Start task clock) h k = choose-both P (startCause l task clock) l _ h k
   answer-both P (Call.Step clock) h k = choose-both P (stepCause l clock) l _ h k
   answer-both P (Call.Halt clock) h k = choose-both P (firstCause l clock) l _ h k
 
   -- what is granted has number 0
   granted-number : (x : Call) → granted l x .number ≡ 0
-  granted-number (Call.Command c onOff clock) = refl
+  granted-number (Call.Command r onOff clock) = refl
   granted-number (Call.Start task clock) = refl
   granted-number (Call.Step clock) = refl
   granted-number (Call.Halt clock) = refl
@@ -66,7 +66,7 @@ module _ (l : Lamp) where
   -- where a call is accepted, the lamp at its clock is valid
   pub granted-ready : (x : Call) → cause l x ≡ 0 → lampValid (atClock l (clockOf x)) ≡ true
   unfolding cause commandCause
-  granted-ready (Call.Command c onOff clock) e = ready l clock (no-cause (firstCause l clock) (afterClock l c onOff) e .0)
+  granted-ready (Call.Command r onOff clock) e = ready l clock (no-cause (firstCause l clock) (afterClock l r onOff) e .0)
   granted-ready (Call.Start task clock) e = start-ready l clock task e .0
   granted-ready (Call.Step clock) e = step-ready l clock e
   granted-ready (Call.Halt clock) e = ready l clock e
@@ -75,38 +75,38 @@ module _ (l : Lamp) where
 
 module _ (l : Lamp) (P : CommandEffect → Type 0) (gives : (task : Task) → P (giving l task)) where
   -- what holds of the first and the last holds of a command that runs
-  effect-by : (c : Command) → ((flags : ℕ) (action : ColorLoopActionEnum) (direction : ColorLoopDirectionEnum) (time hue : ℕ) (options : CommandOptions) → c ≡ Command.ColorLoopSet flags action direction time hue options → P (loopSet l flags action direction time hue)) → P (commandEffect l c)
+  effect-by : (c : Command) → ((flags : ℕ) (action : ColorLoopActionEnum) (direction : ColorLoopDirectionEnum) (time hue : ℕ) → c ≡ Command.ColorLoopSet flags action direction time hue → P (loopSet l flags action direction time hue)) → P (commandEffect l c)
   unfolding commandEffect
-  effect-by (Command.MoveToHue hue direction time options) loops = gives _
-  effect-by (Command.MoveHue mode rate enhanced options) loops = gives _
-  effect-by (Command.StepHue mode size time options) loops = gives _
-  effect-by (Command.MoveToSaturation saturation time options) loops = gives _
-  effect-by (Command.MoveSaturation mode rate options) loops = gives _
-  effect-by (Command.StepSaturation mode size time options) loops = gives _
-  effect-by (Command.MoveToHueAndSaturation hue saturation time enhanced enhancedHue options) loops = gives _
-  effect-by (Command.EnhancedMoveToHue hue direction time options) loops = gives _
-  effect-by (Command.EnhancedMoveHue mode rate options) loops = gives _
-  effect-by (Command.EnhancedStepHue mode size time options) loops = gives _
-  effect-by (Command.MoveToColorTemperature mireds time options) loops = gives _
-  effect-by (Command.MoveColorTemperature mode rate min max options) loops = gives _
-  effect-by (Command.StepColorTemperature mode size time min max options) loops = gives _
-  effect-by (Command.ColorLoopSet flags action direction time hue options) loops = loops flags action direction time hue options refl
-  effect-by (Command.StopMoveStep options) loops = gives _
+  effect-by (Command.MoveToHue hue direction time) loops = gives _
+  effect-by (Command.MoveHue mode rate enhanced) loops = gives _
+  effect-by (Command.StepHue mode size time) loops = gives _
+  effect-by (Command.MoveToSaturation saturation time) loops = gives _
+  effect-by (Command.MoveSaturation mode rate) loops = gives _
+  effect-by (Command.StepSaturation mode size time) loops = gives _
+  effect-by (Command.MoveToHueAndSaturation hue saturation time enhanced enhancedHue) loops = gives _
+  effect-by (Command.EnhancedMoveToHue hue direction time) loops = gives _
+  effect-by (Command.EnhancedMoveHue mode rate) loops = gives _
+  effect-by (Command.EnhancedStepHue mode size time) loops = gives _
+  effect-by (Command.MoveToColorTemperature mireds time) loops = gives _
+  effect-by (Command.MoveColorTemperature mode rate min max) loops = gives _
+  effect-by (Command.StepColorTemperature mode size time min max) loops = gives _
+  effect-by (Command.ColorLoopSet flags action direction time hue) loops = loops flags action direction time hue refl
+  effect-by Command.StopMoveStep loops = gives _
 
   -- and with the second, of any
-  done-by : (c : Command) (onOff : OnOff) → P (skip l) → ((flags : ℕ) (action : ColorLoopActionEnum) (direction : ColorLoopDirectionEnum) (time hue : ℕ) (options : CommandOptions) → c ≡ Command.ColorLoopSet flags action direction time hue options → P (loopSet l flags action direction time hue)) → P (commandDone l c onOff)
-  done-by c onOff passes loops =
-      cond-both P (stopMode c) _ _ (λ e. gives Task.Stop) (λ e. cond-both P (allowed l c onOff) _ _ (λ t. effect-by c loops) (λ t. passes))
+  done-by : (r : Request) (onOff : OnOff) → P (skip l) → ((flags : ℕ) (action : ColorLoopActionEnum) (direction : ColorLoopDirectionEnum) (time hue : ℕ) → r .command ≡ Command.ColorLoopSet flags action direction time hue → P (loopSet l flags action direction time hue)) → P (commandDone l r onOff)
+  done-by r onOff passes loops =
+      cond-both P (checks (r .command) .stop) _ _ (λ e. gives Task.Stop) (λ e. cond-both P (allowed l r onOff) _ _ (λ t. effect-by (r .command) loops) (λ t. passes))
 
 -- a command other than the colour loop's leaves the lamp
-quiet-done : (l : Lamp) (c : Command) (onOff : OnOff) → isLoopSet c ≡ false → commandDone l c onOff .lamp ≡ l
-quiet-done l c onOff h =
-    done-by l (λ (e : CommandEffect). e .lamp ≡ l) (λ t. refl) c onOff refl (λ flags action direction time hue options e. absurd (true≢false (sym (ap isLoopSet e) ∙ h)))
+quiet-done : (l : Lamp) (r : Request) (onOff : OnOff) → isLoopSet (r .command) ≡ false → commandDone l r onOff .lamp ≡ l
+quiet-done l r onOff h =
+    done-by l (λ (e : CommandEffect). e .lamp ≡ l) (λ t. refl) r onOff refl (λ flags action direction time hue e. absurd (true≢false (sym (ap isLoopSet e) ∙ h)))
 
 -- accepted, it sets the clock alone
-pub quiet-command : (l : Lamp) (c : Command) (onOff : OnOff) (clock : ℕ) → isLoopSet c ≡ false → cause l (Call.Command c onOff clock) ≡ 0 → answer l (Call.Command c onOff clock) .lamp ≡ atClock l clock
-quiet-command l c onOff clock h z =
-    answer-both l (λ a. a .lamp ≡ atClock l clock) (Call.Command c onOff clock) (λ e. quiet-done (atClock l clock) c onOff h) (λ n. absurd (n z))
+pub quiet-command : (l : Lamp) (r : Request) (onOff : OnOff) (clock : ℕ) → isLoopSet (r .command) ≡ false → cause l (Call.Command r onOff clock) ≡ 0 → answer l (Call.Command r onOff clock) .lamp ≡ atClock l clock
+quiet-command l r onOff clock h z =
+    answer-both l (λ a. a .lamp ≡ atClock l clock) (Call.Command r onOff clock) (λ e. quiet-done (atClock l clock) r onOff h) (λ n. absurd (n z))
 
 -- ---- the colour loop's command
 
@@ -132,24 +132,24 @@ module _ (l : Lamp) (Q : ℕ → Type 0) (hue : Q (l .color .hue)) (time : Q (l 
       cond-both (λ (e : CommandEffect). P (e .lamp)) (hasFlag flags updateAction) _ _ (λ e. acted-by (updatedReported flags) action u ut uf stored) (λ e. kept u ut uf stored)
 
 -- what holds whatever colour and settings of the loop are left holds after any command
-pub done-any : (l : Lamp) (P : Lamp → Type 0) → ((c : Color) (s : LoopSettings) → P (withLoop l c s)) → (c : Command) (onOff : OnOff) → P (commandDone l c onOff .lamp)
-done-any l P any c onOff =
-    done-by l (λ (e : CommandEffect). P (e .lamp)) (λ t. any (l .color) (l .looping)) c onOff (any (l .color) (l .looping))
-    (λ flags action direction time hue options e. loop-by l (λ n. Unit) tt tt tt tt P (λ s t f u. any _ s) (λ new s n t f u. any _ s) flags action direction time hue tt tt)
+pub done-any : (l : Lamp) (P : Lamp → Type 0) → ((c : Color) (s : LoopSettings) → P (withLoop l c s)) → (r : Request) (onOff : OnOff) → P (commandDone l r onOff .lamp)
+done-any l P any r onOff =
+    done-by l (λ (e : CommandEffect). P (e .lamp)) (λ t. any (l .color) (l .looping)) r onOff (any (l .color) (l .looping))
+    (λ flags action direction time hue e. loop-by l (λ n. Unit) tt tt tt tt P (λ s t f u. any _ s) (λ new s n t f u. any _ s) flags action direction time hue tt tt)
 
 -- a command keeps form
-done-valid : (l : Lamp) (c : Command) (onOff : OnOff) → lampValid l ≡ true → lampValid (commandDone l c onOff .lamp) ≡ true
+done-valid : (l : Lamp) (r : Request) (onOff : OnOff) → lampValid l ≡ true → lampValid (commandDone l r onOff .lamp) ≡ true
 unfolding lampValid
-done-valid l c onOff validity =
-    done-by l (λ (e : CommandEffect). lampValid (e .lamp) ≡ true) (λ t. validity) c onOff validity
-    (λ flags action direction time hue options e. loop-by l (λ n. Unit) tt tt tt tt (λ m. lampValid m ≡ true) (λ s t f u. validity) (λ new s n t f u. valid-of (withLoop l (hueSet (l .color) new true true (l .clock)) s) (valid-clock l validity) (hue-kept _ _ _ (valid-color l validity) new true true) (valid-running l validity)) flags action direction time hue tt tt)
+done-valid l r onOff validity =
+    done-by l (λ (e : CommandEffect). lampValid (e .lamp) ≡ true) (λ t. validity) r onOff validity
+    (λ flags action direction time hue e. loop-by l (λ n. Unit) tt tt tt tt (λ m. lampValid m ≡ true) (λ s t f u. validity) (λ new s n t f u. valid-of (withLoop l (hueSet (l .color) new true true (l .clock)) s) (valid-clock l validity) (hue-kept _ _ _ (valid-color l validity) new true true) (valid-running l validity)) flags action direction time hue tt tt)
 
 -- and widths
-done-in-range : (l : Lamp) (c : Command) (onOff : OnOff) → InRangeLamp l → InRangeCommand c → lampValid (commandDone l c onOff .lamp) ≡ true → InRangeLamp (commandDone l c onOff .lamp)
-done-in-range l c onOff inRange t =
-    done-by l (λ (e : CommandEffect). lampValid (e .lamp) ≡ true → InRangeLamp (e .lamp)) (λ task f. inRange) c onOff (λ f. inRange)
-    (λ flags action direction time hue options e.
-    let t' : InRangeCommand (Command.ColorLoopSet flags action direction time hue options) = rw e at t in
+done-in-range : (l : Lamp) (r : Request) (onOff : OnOff) → InRangeLamp l → InRangeCommand (r .command) → lampValid (commandDone l r onOff .lamp) ≡ true → InRangeLamp (commandDone l r onOff .lamp)
+done-in-range l r onOff inRange t =
+    done-by l (λ (e : CommandEffect). lampValid (e .lamp) ≡ true → InRangeLamp (e .lamp)) (λ task f. inRange) r onOff (λ f. inRange)
+    (λ flags action direction time hue e.
+    let t' : InRangeCommand (Command.ColorLoopSet flags action direction time hue) = rw e at t in
     loop-by l Short (inRange .hue) (inRange .loopTime) (inRange .loopStart) (inRange .loopStored) (λ m. lampValid m ≡ true → InRangeLamp m)
     (λ s t f u validity. in-range-of _ validity (inRange .bounds) (inRange .hue) t f u (inRange .remaining) (inRange .options) (inRange .running))
     (λ new s n t f u validity. in-range-of _ validity (inRange .bounds) (hue-word _ new true _ true (inRange .hue) n) t f u (inRange .remaining) (inRange .options) (inRange .running))
@@ -159,7 +159,7 @@ done-in-range l c onOff inRange t =
 
 -- what holds at the call's clock with the same bounds and options holds of what is granted
 granted-any : (l : Lamp) (x : Call) (P : Lamp → Type 0) → ((m : Lamp) → P (record { clock = clockOf x; bounds = l .bounds; color = m .color; looping = m .looping; remaining = m .remaining; options = l .options; running = m .running })) → P (granted l x .lamp)
-granted-any l (Call.Command c onOff clock) P any = done-any (atClock l clock) P (λ d s. any (withLoop l d s)) c onOff
+granted-any l (Call.Command r onOff clock) P any = done-any (atClock l clock) P (λ d s. any (withLoop l d s)) r onOff
 granted-any l (Call.Start task clock) P any = started-any (atClock l clock) P (λ c r t. any (changed l c r t)) task
 granted-any l (Call.Step clock) P any = stepped-any (atClock l clock) P (λ c r t. any (changed l c r t)) (l .running)
 granted-any l (Call.Halt clock) P any = any (moved l (l .color) Running.Idle)
@@ -182,15 +182,15 @@ module _ (l : Lamp) (x : Call) where
 -- every call keeps form
 pub valid-kept : (l : Lamp) (x : Call) → lampValid l ≡ true → lampValid (answer l x .lamp) ≡ true
 unfolding answer
-valid-kept l (Call.Command c onOff clock) validity =
-    answer-both l (λ a. lampValid (a .lamp) ≡ true) (Call.Command c onOff clock) (λ e. done-valid (atClock l clock) c onOff (granted-ready l (Call.Command c onOff clock) e)) (λ n. validity)
+valid-kept l (Call.Command r onOff clock) validity =
+    answer-both l (λ a. lampValid (a .lamp) ≡ true) (Call.Command r onOff clock) (λ e. done-valid (atClock l clock) r onOff (granted-ready l (Call.Command r onOff clock) e)) (λ n. validity)
 valid-kept l (Call.Start task clock) validity = start-valid l clock validity task
 valid-kept l (Call.Step clock) validity = step-valid l clock validity
 valid-kept l (Call.Halt clock) validity = halt-valid l clock validity
 
 -- what is granted keeps widths
 granted-in-range : (l : Lamp) (x : Call) → lampValid (atClock l (clockOf x)) ≡ true → InRangeLamp l → InRangeCall x → lampValid (granted l x .lamp) ≡ true → InRangeLamp (granted l x .lamp)
-granted-in-range l (Call.Command c onOff clock) before inRange t validity = done-in-range _ c onOff (clock-in-range l inRange clock before) (t .0) validity
+granted-in-range l (Call.Command r onOff clock) before inRange t validity = done-in-range _ r onOff (clock-in-range l inRange clock before) (t .0 .command) validity
 granted-in-range l (Call.Start task clock) before inRange t validity = started-in-range _ task before validity (clock-in-range l inRange clock before) (t .0)
 granted-in-range l (Call.Step clock) before inRange t validity = stepped-in-range _ (clock-in-range l inRange clock before) (l .running) (inRange .running) validity
 granted-in-range l (Call.Halt clock) before inRange t validity =
@@ -238,7 +238,7 @@ loop-few l flags action direction time hue =
     acts ColorLoopActionEnum.ActivateFromEnhancedCurrentHue = activated-few _ _ _ (updated-few flags)
 
 -- and so does every command
-pub commands-few : (l : Lamp) (c : Command) (onOff : OnOff) → length (commandDone l c onOff .reported) ≤ 14
-commands-few l c onOff =
-    done-by l (λ (e : CommandEffect). length (e .reported) ≤ 14) (λ t. omega arith) c onOff (omega arith)
-    (λ flags action direction time hue options e. loop-few l flags action direction time hue)
+pub commands-few : (l : Lamp) (r : Request) (onOff : OnOff) → length (commandDone l r onOff .reported) ≤ 14
+commands-few l r onOff =
+    done-by l (λ (e : CommandEffect). length (e .reported) ≤ 14) (λ t. omega arith) r onOff (omega arith)
+    (λ flags action direction time hue e. loop-few l flags action direction time hue)

@@ -26,7 +26,7 @@ use Rattle.lamp.specs.declared.Lamp.{Lamp}
 use Rattle.commands.specs.Commands.{CommandEffect, withLoop, activity, updatedReported, deactivated, activated, acted}
 use Rattle.commands.specs.Answers.{commandAccepted}
 use Rattle.commands.proofs.Kept.{updated-few}
-use Rattle.commands.specs.Shared.{pushedAnswer}
+use Rattle.commands.specs.Outcomes.{pushedAnswer}
 
 -- sixteen bits and their negation, in 64
 pub plus-back : (n : ℕ) → n < 65536 → toZ w64 n ≡ pos n

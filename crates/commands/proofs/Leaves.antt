@@ -60,14 +60,14 @@ module _ (l : Lamp) where
         bounds = bounds-kept l;
         options = options-kept l;
         command-running =
-            λ c onOff clock.
-            lamp-both (λ m. m .running ≡ l .running) (Call.Command c onOff clock)
-            (done-any (atClock l clock) (λ m. m .running ≡ l .running) (λ d s. refl) c onOff) refl;
+            λ r onOff clock.
+            lamp-both (λ m. m .running ≡ l .running) (Call.Command r onOff clock)
+            (done-any (atClock l clock) (λ m. m .running ≡ l .running) (λ d s. refl) r onOff) refl;
         command-remaining =
-            λ c onOff clock.
-            lamp-both (λ m. m .remaining ≡ l .remaining) (Call.Command c onOff clock)
-            (done-any (atClock l clock) (λ m. m .remaining ≡ l .remaining) (λ d s. refl) c onOff) refl;
-        command-wait = λ c onOff clock. answer-both l (λ a. a .wait ≡ 0) (Call.Command c onOff clock) (λ e. refl) (λ n. refl);
+            λ r onOff clock.
+            lamp-both (λ m. m .remaining ≡ l .remaining) (Call.Command r onOff clock)
+            (done-any (atClock l clock) (λ m. m .remaining ≡ l .remaining) (λ d s. refl) r onOff) refl;
+        command-wait = λ r onOff clock. answer-both l (λ a. a .wait ≡ 0) (Call.Command r onOff clock) (λ e. refl) (λ n. refl);
         start-looping =
             λ task clock.
             lamp-both (λ m. m .looping ≡ l .looping) (Call.Start task clock)

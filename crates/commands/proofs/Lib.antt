@@ -3,3 +3,4 @@ pub mod Kept
 pub mod TaskValid
 pub mod Table
 pub mod Leaves
+pub mod Built

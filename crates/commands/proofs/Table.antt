@@ -7,6 +7,7 @@ use native.Mathlib.Omega.{arith}
 use lib.Dec.{eqb, ltb}
 use lib.ListN.{length}
 use Rattle.matter.specs.declared.commands.Command.{Command}
+use Rattle.matter.specs.declared.commands.Request.{Request}
 use Rattle.matter.specs.declared.enums.OnOff.{OnOff}
 use Rattle.matter.proofs.Laws.{cond-both}
 use Rattle.matter.specs.Limits.{hueLimit, saturationLimit}
@@ -21,7 +22,7 @@ use Rattle.lamp.specs.Valid.{lampValid}
 use Rattle.lamp.specs.Calls.{started, stepped, startAnswer, stepAnswer, haltAnswer, choose, startCause, stepCause}
 use Rattle.lamp.proofs.Kept.{started-few, stepped-few}
 use Rattle.lamp.specs.declared.Call.{Call}
-use Rattle.commands.specs.Commands.{stopMode, causeIf, numberCause, crossed}
+use Rattle.commands.specs.Commands.{causeIf, checks, crossed}
 use Rattle.commands.specs.Table.{StepCauses, HaltCauses, StartCauses, CommandCauses, Few, TableOfCauses}
 use Rattle.commands.specs.Answers.{allowed, afterClock, commandCause, commandDone, commandAnswer, cause, answer}
 use Rattle.commands.proofs.Kept.{commands-few}
@@ -76,33 +77,33 @@ module _ (l : Lamp) (clock : ℕ) where
     unfolding cause firstCause
     start-0 f b t = simp (f, b, t)
 
-  module _ (c : Command) (onOff : OnOff) where
+  module _ (r : Request) (onOff : OnOff) where
     -- ---- a command: 8, 4, Stop mode, its own numbers (1 or 2), off, 3
-    pub command-8 : lampValid l ≡ false → cause l (Call.Command c onOff clock) ≡ 8
+    pub command-8 : lampValid l ≡ false → cause l (Call.Command r onOff clock) ≡ 8
     unfolding cause commandCause firstCause
     command-8 f = simp f
 
-    pub command-4 : lampValid l ≡ true → badClock l clock ≡ true → cause l (Call.Command c onOff clock) ≡ 4
+    pub command-4 : lampValid l ≡ true → badClock l clock ≡ true → cause l (Call.Command r onOff clock) ≡ 4
     unfolding cause commandCause firstCause
     command-4 f b = simp (f, b)
 
-    pub command-stop : lampValid l ≡ true → badClock l clock ≡ false → stopMode c ≡ true → cause l (Call.Command c onOff clock) ≡ 0
+    pub command-stop : lampValid l ≡ true → badClock l clock ≡ false → checks (r .command) .stop ≡ true → cause l (Call.Command r onOff clock) ≡ 0
     unfolding cause commandCause firstCause
     command-stop f b s = simp (f, b, s)
 
-    pub command-number : lampValid l ≡ true → badClock l clock ≡ false → stopMode c ≡ false → eqb (numberCause c) 0 ≡ false → cause l (Call.Command c onOff clock) ≡ numberCause c
+    pub command-number : lampValid l ≡ true → badClock l clock ≡ false → checks (r .command) .stop ≡ false → eqb (checks (r .command) .cause) 0 ≡ false → cause l (Call.Command r onOff clock) ≡ checks (r .command) .cause
     unfolding cause commandCause firstCause
     command-number f b s n = simp (f, b, s, n)
 
-    pub command-off : lampValid l ≡ true → badClock l clock ≡ false → stopMode c ≡ false → eqb (numberCause c) 0 ≡ true → allowed l c onOff ≡ false → cause l (Call.Command c onOff clock) ≡ 0
+    pub command-off : lampValid l ≡ true → badClock l clock ≡ false → checks (r .command) .stop ≡ false → eqb (checks (r .command) .cause) 0 ≡ true → allowed l r onOff ≡ false → cause l (Call.Command r onOff clock) ≡ 0
     unfolding cause commandCause firstCause
     command-off f b s n a = simp (f, b, s, n, a)
 
-    pub command-3 : lampValid l ≡ true → badClock l clock ≡ false → stopMode c ≡ false → eqb (numberCause c) 0 ≡ true → allowed l c onOff ≡ true → crossed (l .bounds) c ≡ true → cause l (Call.Command c onOff clock) ≡ 3
+    pub command-3 : lampValid l ≡ true → badClock l clock ≡ false → checks (r .command) .stop ≡ false → eqb (checks (r .command) .cause) 0 ≡ true → allowed l r onOff ≡ true → crossed (l .bounds) (r .command) ≡ true → cause l (Call.Command r onOff clock) ≡ 3
     unfolding cause commandCause firstCause
     command-3 f b s n a x = simp (f, b, s, n, a, x)
 
-    pub command-0 : lampValid l ≡ true → badClock l clock ≡ false → stopMode c ≡ false → eqb (numberCause c) 0 ≡ true → allowed l c onOff ≡ true → crossed (l .bounds) c ≡ false → cause l (Call.Command c onOff clock) ≡ 0
+    pub command-0 : lampValid l ≡ true → badClock l clock ≡ false → checks (r .command) .stop ≡ false → eqb (checks (r .command) .cause) 0 ≡ true → allowed l r onOff ≡ true → crossed (l .bounds) (r .command) ≡ false → cause l (Call.Command r onOff clock) ≡ 0
     unfolding cause commandCause firstCause
     command-0 f b s n a x = simp (f, b, s, n, a, x)
 
@@ -112,23 +113,23 @@ small : {most : ℕ} (test : Bool) (number : ℕ) → number ≤ most → causeI
 small {most} test number h = cond-both (λ n. n ≤ most) test number 0 (λ e. h) (λ e. omega arith)
 
 -- a command's own numbers give 1, 2 or no cause
-pub own-small : (c : Command) → numberCause c ≤ 2
-own-small (Command.MoveToHue hue direction time options) = small (ltb hueLimit hue) 1 (omega arith)
-own-small (Command.MoveHue mode rate enhanced options) = small (eqb rate 0) 2 (omega arith)
-own-small (Command.StepHue mode size time options) = small (eqb size 0) 2 (omega arith)
-own-small (Command.MoveToSaturation saturation time options) = small (ltb saturationLimit saturation) 1 (omega arith)
-own-small (Command.MoveSaturation mode rate options) = small (eqb rate 0) 2 (omega arith)
-own-small (Command.StepSaturation mode size time options) = small (eqb size 0) 2 (omega arith)
-own-small (Command.MoveToHueAndSaturation hue saturation time enhanced enhancedHue options) =
+pub own-small : (c : Command) → checks c .cause ≤ 2
+own-small (Command.MoveToHue hue direction time) = small (ltb hueLimit hue) 1 (omega arith)
+own-small (Command.MoveHue mode rate enhanced) = small (eqb rate 0) 2 (omega arith)
+own-small (Command.StepHue mode size time) = small (eqb size 0) 2 (omega arith)
+own-small (Command.MoveToSaturation saturation time) = small (ltb saturationLimit saturation) 1 (omega arith)
+own-small (Command.MoveSaturation mode rate) = small (eqb rate 0) 2 (omega arith)
+own-small (Command.StepSaturation mode size time) = small (eqb size 0) 2 (omega arith)
+own-small (Command.MoveToHueAndSaturation hue saturation time enhanced enhancedHue) =
     small ((not enhanced && ltb hueLimit hue) || ltb saturationLimit saturation) 1 (omega arith)
-own-small (Command.EnhancedMoveToHue hue direction time options) = omega arith
-own-small (Command.EnhancedMoveHue mode rate options) = small (eqb rate 0) 2 (omega arith)
-own-small (Command.EnhancedStepHue mode size time options) = small (eqb size 0) 2 (omega arith)
-own-small (Command.MoveToColorTemperature mireds time options) = small (eqb mireds 0) 1 (omega arith)
-own-small (Command.MoveColorTemperature mode rate min max options) = small (eqb rate 0) 2 (omega arith)
-own-small (Command.StepColorTemperature mode size time min max options) = small (eqb size 0) 2 (omega arith)
-own-small (Command.ColorLoopSet flags action direction time startHue options) = omega arith
-own-small (Command.StopMoveStep options) = omega arith
+own-small (Command.EnhancedMoveToHue hue direction time) = omega arith
+own-small (Command.EnhancedMoveHue mode rate) = small (eqb rate 0) 2 (omega arith)
+own-small (Command.EnhancedStepHue mode size time) = small (eqb size 0) 2 (omega arith)
+own-small (Command.MoveToColorTemperature mireds time) = small (eqb mireds 0) 1 (omega arith)
+own-small (Command.MoveColorTemperature mode rate min max) = small (eqb rate 0) 2 (omega arith)
+own-small (Command.StepColorTemperature mode size time min max) = small (eqb size 0) 2 (omega arith)
+own-small (Command.ColorLoopSet flags action direction time startHue) = omega arith
+own-small Command.StopMoveStep = omega arith
 
 first-small : (l : Lamp) (clock : ℕ) → firstCause l clock ≤ 8
 unfolding firstCause
@@ -137,10 +138,10 @@ first-small l clock =
 
 pub cause-small : (l : Lamp) (x : Call) → cause l x ≤ 8
 unfolding cause commandCause
-cause-small l (Call.Command c onOff clock) =
-    cond-both (λ n. n ≤ 8) (eqb (firstCause l clock) 0) (afterClock l c onOff) (firstCause l clock)
-    (λ e. cond-both (λ n. n ≤ 8) (stopMode c) 0 _ (λ e. omega arith)
-    (λ e. cond-both (λ n. n ≤ 8) (eqb (numberCause c) 0) _ (numberCause c) (λ e. small (allowed l c onOff && crossed (l .bounds) c) 3 (omega arith)) (λ e. omega (arith, own-small c))))
+cause-small l (Call.Command r onOff clock) =
+    cond-both (λ n. n ≤ 8) (eqb (firstCause l clock) 0) (afterClock l r onOff) (firstCause l clock)
+    (λ e. cond-both (λ n. n ≤ 8) (checks (r .command) .stop) 0 _ (λ e. omega arith)
+    (λ e. cond-both (λ n. n ≤ 8) (eqb (checks (r .command) .cause) 0) _ (checks (r .command) .cause) (λ e. small (allowed l r onOff && crossed (l .bounds) (r .command)) 3 (omega arith)) (λ e. omega (arith, own-small (r .command)))))
     (λ e. first-small l clock)
 cause-small l (Call.Start task clock) =
     cond-both (λ n. n ≤ 8) (eqb (firstCause l clock) 0) _ (firstCause l clock)
@@ -158,9 +159,9 @@ chosen n l a f = cond-both Few (eqb n 0) a (refusal l n) (λ e. f) (λ e. record
 
 pub answer-few : (l : Lamp) (x : Call) → Few (answer l x)
 unfolding answer commandAnswer startAnswer stepAnswer haltAnswer
-answer-few l (Call.Command c onOff clock) =
-    chosen (commandCause l c onOff clock) l _
-    (record { reported = commandDone (atClock l clock) c onOff .reported; listed = refl; few = commands-few (atClock l clock) c onOff })
+answer-few l (Call.Command r onOff clock) =
+    chosen (commandCause l r onOff clock) l _
+    (record { reported = commandDone (atClock l clock) r onOff .reported; listed = refl; few = commands-few (atClock l clock) r onOff })
 answer-few l (Call.Start task clock) =
     chosen (startCause l task clock) l _
     (record { reported = started (atClock l clock) task .reported; listed = refl; few = started-few (atClock l clock) task })
@@ -184,14 +185,14 @@ table =
             start-0 = start-0 l clock task;
           };
       commands =
-          λ l clock c onOff. record {
-            command-8 = command-8 l clock c onOff;
-            command-4 = command-4 l clock c onOff;
-            command-stop = command-stop l clock c onOff;
-            command-number = command-number l clock c onOff;
-            command-off = command-off l clock c onOff;
-            command-3 = command-3 l clock c onOff;
-            command-0 = command-0 l clock c onOff;
+          λ l clock r onOff. record {
+            command-8 = command-8 l clock r onOff;
+            command-4 = command-4 l clock r onOff;
+            command-stop = command-stop l clock r onOff;
+            command-number = command-number l clock r onOff;
+            command-off = command-off l clock r onOff;
+            command-3 = command-3 l clock r onOff;
+            command-0 = command-0 l clock r onOff;
           };
       own = own-small;
       most = cause-small;

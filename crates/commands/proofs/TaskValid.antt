@@ -10,6 +10,7 @@ use lib.IntN.{ℤ, pos, negsuc, natAbs}
 use borrow.Author.Tests.{ltb-false, eqb-false, le-leb, lt-ltb, eq-eqb, ne-eqb}
 use Rattle.integers.proofs.Sizes.{abs-neg}
 use Rattle.matter.specs.declared.commands.Command.{Command}
+use Rattle.matter.specs.declared.commands.Request.{Request}
 use Rattle.matter.specs.declared.enums.ColorLoopActionEnum.{ColorLoopActionEnum}
 use Rattle.matter.specs.declared.enums.MoveModeEnum.{MoveModeEnum}
 use Rattle.matter.specs.declared.enums.OnOff.{OnOff}
@@ -17,7 +18,7 @@ use Rattle.matter.specs.declared.enums.StepModeEnum.{StepModeEnum}
 use Rattle.matter.specs.Flags.{hasFlag, updateAction}
 use Rattle.matter.proofs.Laws.{cond-both, or-right, all-of}
 use Rattle.matter.specs.Limits.{hueLimit}
-use Rattle.matter.specs.InRange.{Short, InRangeCommand}
+use Rattle.matter.specs.InRange.{Short, InRangeCommand, InRangeRequest}
 use Rattle.hue.proofs.Laws.{way-small}
 use Rattle.color.proofs.Kept.{valid-saturation}
 use Rattle.tasks.specs.declared.GivenTask.{GivenTask}
@@ -31,7 +32,7 @@ use Rattle.lamp.proofs.Kept.{valid-color, no-cause}
 use Rattle.matter.specs.Rules.{signed}
 use Rattle.lamp.specs.declared.Call.{Call}
 use Rattle.commands.specs.Answers.{allowed, afterClock, commandCause, cause, answer}
-use Rattle.commands.specs.Commands.{CommandEffect, causeIf, isStop, stopMode, numberCause, crossed, stored, ms, hueTask, saturationTask, hueMoveTask, stepDelta, saturationStep, acted, deactivated, activated, loopSet, commandEffect}
+use Rattle.commands.specs.Commands.{CommandEffect, causeIf, isStop, checks, crossed, stored, ms, hueTask, saturationTask, hueMoveTask, stepDelta, saturationStep, acted, deactivated, activated, loopSet, commandEffect}
 use Rattle.commands.proofs.Kept.{answer-both, granted-ready}
 use Rattle.commands.proofs.Table.{start-0}
 
@@ -105,70 +106,70 @@ stepped-saturation : (mode : StepModeEnum) (now size : ℕ) → now ≤ 254 → 
 stepped-saturation StepModeEnum.Up now size h = omega arith
 stepped-saturation StepModeEnum.Down now size h = omega arith
 
-effect-valid : (l : Lamp) (c : Command) → l .color .saturation ≤ 254 → InRangeCommand c → stopMode c ≡ false
-    → numberCause c ≡ 0 → Startable (commandEffect l c .task)
+effect-valid : (l : Lamp) (c : Command) → l .color .saturation ≤ 254 → InRangeCommand c → checks c .stop ≡ false
+    → checks c .cause ≡ 0 → Startable (commandEffect l c .task)
 unfolding commandEffect loopSet taskValid saturationMoveValid
-effect-valid l (Command.MoveToHue hue direction time options) s t m n =
+effect-valid l (Command.MoveToHue hue direction time) s t m n =
     λ o. hue-valid _ _ time false (way-small (l .color .hue) (stored hue) direction) refl (t .1)
-effect-valid l (Command.MoveHue mode rate enhanced options) s t m n =
+effect-valid l (Command.MoveHue mode rate enhanced) s t m n =
     λ o. hue-move-valid mode _ enhanced m
     (cond-both (λ r. 0 < r) enhanced rate (stored rate) (λ e. some-rate rate n) (λ e. omega (arith, some-rate rate n)))
     (cond-both (λ r. r ≤ 65535) enhanced rate (stored rate) (λ e. omega arith) (λ e. omega arith))
-effect-valid l (Command.StepHue mode size time options) s t m n =
+effect-valid l (Command.StepHue mode size time) s t m n =
     λ o. hue-valid _ _ time false (rw step-size (omega arith)) refl (t .1)
-effect-valid l (Command.MoveToSaturation saturation time options) s t m n =
+effect-valid l (Command.MoveToSaturation saturation time) s t m n =
     λ o. saturation-valid saturation time (ltb-false 254 saturation (no-test _ 0 n)) (t .1)
-effect-valid l (Command.MoveSaturation mode rate options) s t m n =
+effect-valid l (Command.MoveSaturation mode rate) s t m n =
     λ o. all-of _ (lt-ltb 0 rate (some-rate rate n), (le-leb rate 255 (omega arith), (mode-moves mode m, tt)))
-effect-valid l (Command.StepSaturation mode size time options) s t m n =
+effect-valid l (Command.StepSaturation mode size time) s t m n =
     λ o. saturation-valid _ time (stepped-saturation mode (l .color .saturation) size s) (t .1)
-effect-valid l (Command.MoveToHueAndSaturation hue saturation time enhanced enhancedHue options) s t m n =
+effect-valid l (Command.MoveToHueAndSaturation hue saturation time enhanced enhancedHue) s t m n =
     λ o. hue-valid _ (TargetSaturation.To saturation) time enhanced (way-small (l .color .hue) _ _)
     (le-leb saturation 254 (ltb-false 254 saturation (or-right (not enhanced && ltb hueLimit hue) _ (no-test _ 0 n))))
     (t .2)
-effect-valid l (Command.EnhancedMoveToHue hue direction time options) s t m n =
+effect-valid l (Command.EnhancedMoveToHue hue direction time) s t m n =
     λ o. hue-valid _ _ time true (way-small (l .color .hue) hue direction) refl (t .1)
-effect-valid l (Command.EnhancedMoveHue mode rate options) s t m n =
+effect-valid l (Command.EnhancedMoveHue mode rate) s t m n =
     λ o. hue-move-valid mode rate true m (some-rate rate n) (omega arith)
-effect-valid l (Command.EnhancedStepHue mode size time options) s t m n =
+effect-valid l (Command.EnhancedStepHue mode size time) s t m n =
     λ o. hue-valid _ _ time true (rw step-size (omega arith)) refl (t .1)
-effect-valid l (Command.MoveToColorTemperature mireds time options) s t m n = λ o. time-valid time (t .1)
-effect-valid l (Command.MoveColorTemperature mode rate min max options) s t m n =
+effect-valid l (Command.MoveToColorTemperature mireds time) s t m n = λ o. time-valid time (t .1)
+effect-valid l (Command.MoveColorTemperature mode rate min max) s t m n =
     λ o. rate-valid mode rate m (some-rate rate n) (omega arith)
-effect-valid l (Command.StepColorTemperature mode size time min max options) s t m n = λ o. time-valid time (t .1)
-effect-valid l (Command.ColorLoopSet flags action direction time startHue options) s t m n =
+effect-valid l (Command.StepColorTemperature mode size time min max) s t m n = λ o. time-valid time (t .1)
+effect-valid l (Command.ColorLoopSet flags action direction time startHue) s t m n =
     cond-both (λ (e : CommandEffect). Startable (e .task)) (hasFlag flags updateAction) _ _
     (λ e. acted-valid _ _ action)
     (λ e. tt)
-effect-valid l (Command.StopMoveStep options) s t m n = λ o. absurd (o refl)
+effect-valid l Command.StopMoveStep s t m n = λ o. absurd (o refl)
 
-module _ (l : Lamp) (c : Command) (onOff : OnOff) (clock : ℕ) (inRange : InRangeCommand c) where
+module _ (l : Lamp) (r : Request) (onOff : OnOff) (clock : ℕ) (inRange : InRangeRequest r) where
   -- an accepted command that is in no Stop mode has no cause of its own
-  own-none : cause l (Call.Command c onOff clock) ≡ 0 → stopMode c ≡ false → numberCause c ≡ 0
+  own-none : cause l (Call.Command r onOff clock) ≡ 0 → checks (r .command) .stop ≡ false → checks (r .command) .cause ≡ 0
   unfolding cause commandCause
   own-none e s =
-      no-cause (numberCause c) (causeIf (allowed l c onOff && crossed (l .bounds) c) 3)
-      (rw s at (no-cause (firstCause l clock) (afterClock l c onOff) e .1)) .0
+      no-cause (checks (r .command) .cause) (causeIf (allowed l r onOff && crossed (l .bounds) (r .command)) 3)
+      (rw s at (no-cause (firstCause l clock) (afterClock l r onOff) e .1)) .0
 
-  answer-valid : Startable (answer l (Call.Command c onOff clock) .task)
+  answer-valid : Startable (answer l (Call.Command r onOff clock) .task)
   answer-valid =
-      answer-both l (λ a. Startable (a .task)) (Call.Command c onOff clock)
+      answer-both l (λ a. Startable (a .task)) (Call.Command r onOff clock)
       (λ e.
       let at : Lamp = atClock l clock in
-      let validity : lampValid at ≡ true = granted-ready l (Call.Command c onOff clock) e in
-      cond-both (λ (x : CommandEffect). Startable (x .task)) (stopMode c) _ _ (λ s n. absurd (n refl))
-      (λ s. cond-both (λ (x : CommandEffect). Startable (x .task)) (allowed at c onOff) _ _
-      (λ a. effect-valid at c (valid-saturation _ _ _ (valid-color at validity)) inRange s (own-none e s))
+      let validity : lampValid at ≡ true = granted-ready l (Call.Command r onOff clock) e in
+      cond-both (λ (x : CommandEffect). Startable (x .task)) (checks (r .command) .stop) _ _ (λ s n. absurd (n refl))
+      (λ s. cond-both (λ (x : CommandEffect). Startable (x .task)) (allowed at r onOff) _ _
+      (λ a. effect-valid at (r .command) (valid-saturation _ _ _ (valid-color at validity)) (inRange .command) s (own-none e s))
       (λ a. tt)))
       (λ n. tt)
 
   -- a task that a command gives, other than Stop, is valid
-  pub given-valid : (task : Task) → answer l (Call.Command c onOff clock) .task ≡ GivenTask.Given task
+  pub given-valid : (task : Task) → answer l (Call.Command r onOff clock) .task ≡ GivenTask.Given task
       → (task ≡ Task.Stop → ⊥) → taskValid task ≡ true
   given-valid task e = rw e at answer-valid
 
   -- so a start of it is accepted on any lamp valid at a good clock
-  pub given-starts : (task : Task) → answer l (Call.Command c onOff clock) .task ≡ GivenTask.Given task
+  pub given-starts : (task : Task) → answer l (Call.Command r onOff clock) .task ≡ GivenTask.Given task
       → (task ≡ Task.Stop → ⊥) → (m : Lamp) (at : ℕ) → lampValid m ≡ true → badClock m at ≡ false
       → cause m (Call.Start task at) ≡ 0
   given-starts task e n m at f b = start-0 m at task f b (given-valid task e n)

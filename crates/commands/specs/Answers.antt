@@ -5,6 +5,7 @@ use mathlib.Core.Bool.{Bool, true, false, cond, _&&_}
 use mathlib.Core.List.{[]}
 use lib.Dec.{eqb}
 use Rattle.matter.specs.declared.commands.Command.{Command}
+use Rattle.matter.specs.declared.commands.Request.{Request}
 use Rattle.matter.specs.declared.enums.OnOff.{OnOff}
 use Rattle.matter.specs.Causes.{accepted, crossedLimits}
 use Rattle.matter.specs.Rules.{mayExecute}
@@ -17,46 +18,47 @@ use Rattle.lamp.specs.Answers.{atClock, firstCause}
 use Rattle.lamp.specs.Calls.{choose, done, started, stepped, startCause, stepCause, startAnswer, stepAnswer, haltAnswer}
 use Rattle.lamp.specs.Passes.{moved}
 use Rattle.lamp.specs.declared.Call.{Call}
-use Rattle.commands.specs.Commands.{CommandEffect, skip, giving, optionsOf, causeIf, stopMode, numberCause, crossed, commandEffect}
+use Rattle.commands.specs.Commands.{CommandEffect, skip, giving, causeIf, checks, crossed, commandEffect}
 
--- leave to execute, of a command on a lamp
-abbrev pub allowed : Lamp → Command → OnOff → Bool
-allowed l c onOff = mayExecute onOff (l .options) (optionsOf c .mask) (optionsOf c .over)
+-- whether a command may execute on a lamp
+abbrev pub allowed : Lamp → Request → OnOff → Bool
+allowed l r onOff = mayExecute onOff (l .options) (r .options .mask) (r .options .overrides)
 
 -- "commands 8, 4, then the order above": Stop mode, the cause of the command's own numbers, off, crossed limits
 abbrev pub inOrder : Bool → ℕ → Bool → Bool → ℕ
-inOrder stop number mayExecute crossed = cond stop accepted (cond (eqb number accepted) (causeIf (mayExecute && crossed) crossedLimits) number)
+inOrder stop own allowed crossed = cond stop accepted (cond (eqb own accepted) (causeIf (allowed && crossed) crossedLimits) own)
 
-abbrev pub afterClock : Lamp → Command → OnOff → ℕ
-afterClock l c onOff = inOrder (stopMode c) (numberCause c) (allowed l c onOff) (crossed (l .bounds) c)
+abbrev pub afterClock : Lamp → Request → OnOff → ℕ
+afterClock l r onOff =
+    inOrder (checks (r .command) .stop) (checks (r .command) .cause) (allowed l r onOff) (crossed (l .bounds) (r .command))
 
-unfoldable pub commandCause : Lamp → Command → OnOff → ℕ → ℕ
-commandCause l c onOff clock = cond (eqb (firstCause l clock) accepted) (afterClock l c onOff) (firstCause l clock)
+unfoldable pub commandCause : Lamp → Request → OnOff → ℕ → ℕ
+commandCause l r onOff clock = cond (eqb (firstCause l clock) accepted) (afterClock l r onOff) (firstCause l clock)
 
--- the Stop task in Stop mode; without leave a pass-over; else what the command does
+-- the Stop task in Stop mode; where it may not execute, a pass-over; else what the command does
 abbrev pub ranWith : Lamp → Bool → Bool → CommandEffect → CommandEffect
-ranWith l stop mayExecute effect = cond stop (giving l Task.Stop) (cond mayExecute effect (skip l))
+ranWith l stop allowed effect = cond stop (giving l Task.Stop) (cond allowed effect (skip l))
 
-abbrev pub commandDone : Lamp → Command → OnOff → CommandEffect
-commandDone l c onOff = ranWith l (stopMode c) (allowed l c onOff) (commandEffect l c)
+abbrev pub commandDone : Lamp → Request → OnOff → CommandEffect
+commandDone l r onOff = ranWith l (checks (r .command) .stop) (allowed l r onOff) (commandEffect l (r .command))
 
 -- an accepted command asks for no wait
 abbrev pub commandAccepted : CommandEffect → Answer
 commandAccepted e = record { number = accepted; lamp = e .lamp; notices = noted (e .reported); task = e .task; wait = 0 }
 
-unfoldable pub commandAnswer : Lamp → Command → OnOff → ℕ → Answer
-commandAnswer l c onOff clock = choose (commandCause l c onOff clock) l (commandAccepted (commandDone (atClock l clock) c onOff))
+unfoldable pub commandAnswer : Lamp → Request → OnOff → ℕ → Answer
+commandAnswer l r onOff clock = choose (commandCause l r onOff clock) l (commandAccepted (commandDone (atClock l clock) r onOff))
 
 -- ---- every call
 
 unfoldable pub cause : Lamp → Call → ℕ
-cause l (Call.Command c onOff clock) = commandCause l c onOff clock
+cause l (Call.Command r onOff clock) = commandCause l r onOff clock
 cause l (Call.Start task clock) = startCause l task clock
 cause l (Call.Step clock) = stepCause l clock
 cause l (Call.Halt clock) = firstCause l clock
 
 unfoldable pub answer : Lamp → Call → Answer
-answer l (Call.Command c onOff clock) = commandAnswer l c onOff clock
+answer l (Call.Command r onOff clock) = commandAnswer l r onOff clock
 answer l (Call.Start task clock) = startAnswer l task clock
 answer l (Call.Step clock) = stepAnswer l clock
 answer l (Call.Halt clock) = haltAnswer l clock
@@ -65,32 +67,32 @@ answer l (Call.Halt clock) = haltAnswer l clock
 
 -- its answer where it is accepted
 abbrev pub granted : Lamp → Call → Answer
-granted l (Call.Command c onOff clock) = commandAccepted (commandDone (atClock l clock) c onOff)
+granted l (Call.Command r onOff clock) = commandAccepted (commandDone (atClock l clock) r onOff)
 granted l (Call.Start task clock) = done (started (atClock l clock) task)
 granted l (Call.Step clock) = done (stepped (atClock l clock) (l .running))
 granted l (Call.Halt clock) = done (record { lamp = moved (atClock l clock) (l .color) Running.Idle; reported = []; wait = 0 })
 
 -- its clock
 abbrev pub clockOf : Call → ℕ
-clockOf (Call.Command c onOff clock) = clock
+clockOf (Call.Command r onOff clock) = clock
 clockOf (Call.Start task clock) = clock
 clockOf (Call.Step clock) = clock
 clockOf (Call.Halt clock) = clock
 
 -- whether a command is the colour loop's
 abbrev pub isLoopSet : Command → Bool
-isLoopSet (Command.MoveToHue hue direction time options) = false
-isLoopSet (Command.MoveHue mode rate enhanced options) = false
-isLoopSet (Command.StepHue mode size time options) = false
-isLoopSet (Command.MoveToSaturation saturation time options) = false
-isLoopSet (Command.MoveSaturation mode rate options) = false
-isLoopSet (Command.StepSaturation mode size time options) = false
-isLoopSet (Command.MoveToHueAndSaturation hue saturation time enhanced enhancedHue options) = false
-isLoopSet (Command.EnhancedMoveToHue hue direction time options) = false
-isLoopSet (Command.EnhancedMoveHue mode rate options) = false
-isLoopSet (Command.EnhancedStepHue mode size time options) = false
-isLoopSet (Command.MoveToColorTemperature mireds time options) = false
-isLoopSet (Command.MoveColorTemperature mode rate min max options) = false
-isLoopSet (Command.StepColorTemperature mode size time min max options) = false
-isLoopSet (Command.ColorLoopSet flags action direction time startHue options) = true
-isLoopSet (Command.StopMoveStep options) = false
+isLoopSet (Command.MoveToHue hue direction time) = false
+isLoopSet (Command.MoveHue mode rate enhanced) = false
+isLoopSet (Command.StepHue mode size time) = false
+isLoopSet (Command.MoveToSaturation saturation time) = false
+isLoopSet (Command.MoveSaturation mode rate) = false
+isLoopSet (Command.StepSaturation mode size time) = false
+isLoopSet (Command.MoveToHueAndSaturation hue saturation time enhanced enhancedHue) = false
+isLoopSet (Command.EnhancedMoveToHue hue direction time) = false
+isLoopSet (Command.EnhancedMoveHue mode rate) = false
+isLoopSet (Command.EnhancedStepHue mode size time) = false
+isLoopSet (Command.MoveToColorTemperature mireds time) = false
+isLoopSet (Command.MoveColorTemperature mode rate min max) = false
+isLoopSet (Command.StepColorTemperature mode size time min max) = false
+isLoopSet (Command.ColorLoopSet flags action direction time startHue) = true
+isLoopSet Command.StopMoveStep = false

@@ -6,7 +6,6 @@ use lib.Dec.{ltb, eqb}
 use lib.IntN.{ℤ, pos, negℤ, _+ℤ_}
 use Rattle.matter.specs.declared.limits.Bounds.{Bounds}
 use Rattle.matter.specs.declared.commands.Command.{Command}
-use Rattle.matter.specs.declared.commands.CommandOptions.{CommandOptions}
 use Rattle.matter.specs.declared.enums.DirectionEnum.{DirectionEnum}
 use Rattle.matter.specs.declared.enums.MoveModeEnum.{MoveModeEnum}
 use Rattle.matter.specs.declared.enums.StepModeEnum.{StepModeEnum}
@@ -29,6 +28,7 @@ use Rattle.lamp.specs.declared.Lamp.{Lamp}
 use Rattle.lamp.specs.declared.LoopSettings.{LoopSettings}
 use Rattle.matter.specs.Bounds.{lower, upper}
 use Rattle.matter.specs.Rules.{signed}
+use Rattle.commands.specs.declared.checks.Checks.{Checks}
 
 -- what an accepted command does: the lamp after it, what it reports, and the task it gives
 pub record CommandEffect : Type 0 where
@@ -44,74 +44,47 @@ skip l = record { lamp = l; reported = []; task = GivenTask.Nothing }
 abbrev pub giving : Lamp → Task → CommandEffect
 giving l task = record { lamp = l; reported = taskGiven ∷ []; task = GivenTask.Given task }
 
--- ---- what a command carries
-
-abbrev pub optionsOf : Command → CommandOptions
-optionsOf (Command.MoveToHue hue direction time options) = options
-optionsOf (Command.MoveHue mode rate enhanced options) = options
-optionsOf (Command.StepHue mode size time options) = options
-optionsOf (Command.MoveToSaturation saturation time options) = options
-optionsOf (Command.MoveSaturation mode rate options) = options
-optionsOf (Command.StepSaturation mode size time options) = options
-optionsOf (Command.MoveToHueAndSaturation hue saturation time enhanced enhancedHue options) = options
-optionsOf (Command.EnhancedMoveToHue hue direction time options) = options
-optionsOf (Command.EnhancedMoveHue mode rate options) = options
-optionsOf (Command.EnhancedStepHue mode size time options) = options
-optionsOf (Command.MoveToColorTemperature mireds time options) = options
-optionsOf (Command.MoveColorTemperature mode rate min max options) = options
-optionsOf (Command.StepColorTemperature mode size time min max options) = options
-optionsOf (Command.ColorLoopSet flags action direction time startHue options) = options
-optionsOf (Command.StopMoveStep options) = options
+-- ---- what is checked of a command by itself
 
 abbrev pub isStop : MoveModeEnum → Bool
 isStop MoveModeEnum.Stop = true
 isStop MoveModeEnum.Up = false
 isStop MoveModeEnum.Down = false
 
--- "Stop mode is answered with the Stop task before rate and off are looked at"
-abbrev pub stopMode : Command → Bool
-stopMode (Command.MoveToHue hue direction time options) = false
-stopMode (Command.MoveHue mode rate enhanced options) = isStop mode
-stopMode (Command.StepHue mode size time options) = false
-stopMode (Command.MoveToSaturation saturation time options) = false
-stopMode (Command.MoveSaturation mode rate options) = isStop mode
-stopMode (Command.StepSaturation mode size time options) = false
-stopMode (Command.MoveToHueAndSaturation hue saturation time enhanced enhancedHue options) = false
-stopMode (Command.EnhancedMoveToHue hue direction time options) = false
-stopMode (Command.EnhancedMoveHue mode rate options) = isStop mode
-stopMode (Command.EnhancedStepHue mode size time options) = false
-stopMode (Command.MoveToColorTemperature mireds time options) = false
-stopMode (Command.MoveColorTemperature mode rate min max options) = isStop mode
-stopMode (Command.StepColorTemperature mode size time min max options) = false
-stopMode (Command.ColorLoopSet flags action direction time startHue options) = false
-stopMode (Command.StopMoveStep options) = false
-
 -- a cause where the test holds, else none
 abbrev pub causeIf : Bool → ℕ → ℕ
 causeIf test number = cond test number accepted
 
--- "rate or step 0"
-abbrev pub zeroCause : ℕ → ℕ
-zeroCause n = causeIf (eqb n 0) invalidCommand
+-- "hue above 254 (plain only), saturation above 254, or mireds 0"
+abbrev pub constrained : Bool → Checks
+constrained bad = record { stop = false; cause = causeIf bad constraintError }
 
--- the cause that the command's own numbers give, or 0: "hue above 254 (plain only), saturation above 254, or mireds 0"; "rate or step 0"
-abbrev pub numberCause : Command → ℕ
-numberCause (Command.MoveToHue hue direction time options) = causeIf (ltb hueLimit hue) constraintError
-numberCause (Command.MoveHue mode rate enhanced options) = zeroCause rate
-numberCause (Command.StepHue mode size time options) = zeroCause size
-numberCause (Command.MoveToSaturation saturation time options) = causeIf (ltb saturationLimit saturation) constraintError
-numberCause (Command.MoveSaturation mode rate options) = zeroCause rate
-numberCause (Command.StepSaturation mode size time options) = zeroCause size
-numberCause (Command.MoveToHueAndSaturation hue saturation time enhanced enhancedHue options) =
-    causeIf ((not enhanced && ltb hueLimit hue) || ltb saturationLimit saturation) constraintError
-numberCause (Command.EnhancedMoveToHue hue direction time options) = accepted
-numberCause (Command.EnhancedMoveHue mode rate options) = zeroCause rate
-numberCause (Command.EnhancedStepHue mode size time options) = zeroCause size
-numberCause (Command.MoveToColorTemperature mireds time options) = causeIf (eqb mireds 0) constraintError
-numberCause (Command.MoveColorTemperature mode rate min max options) = zeroCause rate
-numberCause (Command.StepColorTemperature mode size time min max options) = zeroCause size
-numberCause (Command.ColorLoopSet flags action direction time startHue options) = accepted
-numberCause (Command.StopMoveStep options) = accepted
+-- "rate or step 0"
+abbrev pub nonzero : ℕ → Checks
+nonzero n = record { stop = false; cause = causeIf (eqb n 0) invalidCommand }
+
+-- "Stop mode is answered with the Stop task before rate and off are looked at"
+abbrev pub moving : MoveModeEnum → ℕ → Checks
+moving mode rate = record { stop = isStop mode; cause = nonzero rate .cause }
+
+-- Stop mode, and the cause that the command's own numbers give, or 0
+abbrev pub checks : Command → Checks
+checks (Command.MoveToHue hue direction time) = constrained (ltb hueLimit hue)
+checks (Command.MoveHue mode rate enhanced) = moving mode rate
+checks (Command.StepHue mode size time) = nonzero size
+checks (Command.MoveToSaturation saturation time) = constrained (ltb saturationLimit saturation)
+checks (Command.MoveSaturation mode rate) = moving mode rate
+checks (Command.StepSaturation mode size time) = nonzero size
+checks (Command.MoveToHueAndSaturation hue saturation time enhanced enhancedHue) =
+    constrained ((not enhanced && ltb hueLimit hue) || ltb saturationLimit saturation)
+checks (Command.EnhancedMoveToHue hue direction time) = constrained false
+checks (Command.EnhancedMoveHue mode rate) = moving mode rate
+checks (Command.EnhancedStepHue mode size time) = nonzero size
+checks (Command.MoveToColorTemperature mireds time) = constrained (eqb mireds 0)
+checks (Command.MoveColorTemperature mode rate min max) = moving mode rate
+checks (Command.StepColorTemperature mode size time min max) = nonzero size
+checks (Command.ColorLoopSet flags action direction time startHue) = constrained false
+checks Command.StopMoveStep = constrained false
 
 -- "Mired bounds: 0 from the caller means the physical one. lo is the larger minimum, hi the smaller maximum"
 abbrev pub asked : ℕ → ℕ → ℕ
@@ -125,21 +98,21 @@ hi bounds n = upper bounds (asked (bounds .max) n)
 
 -- a step of mireds with lo above hi
 abbrev pub crossed : Bounds → Command → Bool
-crossed bounds (Command.MoveToHue hue direction time options) = false
-crossed bounds (Command.MoveHue mode rate enhanced options) = false
-crossed bounds (Command.StepHue mode size time options) = false
-crossed bounds (Command.MoveToSaturation saturation time options) = false
-crossed bounds (Command.MoveSaturation mode rate options) = false
-crossed bounds (Command.StepSaturation mode size time options) = false
-crossed bounds (Command.MoveToHueAndSaturation hue saturation time enhanced enhancedHue options) = false
-crossed bounds (Command.EnhancedMoveToHue hue direction time options) = false
-crossed bounds (Command.EnhancedMoveHue mode rate options) = false
-crossed bounds (Command.EnhancedStepHue mode size time options) = false
-crossed bounds (Command.MoveToColorTemperature mireds time options) = false
-crossed bounds (Command.MoveColorTemperature mode rate min max options) = false
-crossed bounds (Command.StepColorTemperature mode size time min max options) = ltb (hi bounds max) (lo bounds min)
-crossed bounds (Command.ColorLoopSet flags action direction time startHue options) = false
-crossed bounds (Command.StopMoveStep options) = false
+crossed bounds (Command.MoveToHue hue direction time) = false
+crossed bounds (Command.MoveHue mode rate enhanced) = false
+crossed bounds (Command.StepHue mode size time) = false
+crossed bounds (Command.MoveToSaturation saturation time) = false
+crossed bounds (Command.MoveSaturation mode rate) = false
+crossed bounds (Command.StepSaturation mode size time) = false
+crossed bounds (Command.MoveToHueAndSaturation hue saturation time enhanced enhancedHue) = false
+crossed bounds (Command.EnhancedMoveToHue hue direction time) = false
+crossed bounds (Command.EnhancedMoveHue mode rate) = false
+crossed bounds (Command.EnhancedStepHue mode size time) = false
+crossed bounds (Command.MoveToColorTemperature mireds time) = false
+crossed bounds (Command.MoveColorTemperature mode rate min max) = false
+crossed bounds (Command.StepColorTemperature mode size time min max) = ltb (hi bounds max) (lo bounds min)
+crossed bounds (Command.ColorLoopSet flags action direction time startHue) = false
+crossed bounds Command.StopMoveStep = false
 
 -- ---- the tasks
 
@@ -241,30 +214,30 @@ loopSet l flags action direction time startHue =
     cond (hasFlag flags updateAction) (acted changed (updatedReported flags) action)
     (record { lamp = changed; reported = updatedReported flags; task = GivenTask.Nothing })
 
--- ---- a command with leave to execute, in no Stop mode
+-- ---- a command that may execute, in no Stop mode
 
 unfoldable pub commandEffect : Lamp → Command → CommandEffect
-commandEffect l (Command.MoveToHue hue direction time options) =
+commandEffect l (Command.MoveToHue hue direction time) =
     giving l (hueTask (pathDelta (l .color .hue) (stored hue) direction) TargetSaturation.Keep time false)
-commandEffect l (Command.MoveHue mode rate enhanced options) = giving l (hueMoveTask mode (cond enhanced rate (stored rate)) enhanced)
-commandEffect l (Command.StepHue mode size time options) = giving l (hueTask (stepDelta mode (stored size)) TargetSaturation.Keep time false)
-commandEffect l (Command.MoveToSaturation saturation time options) = giving l (saturationTask saturation time)
-commandEffect l (Command.MoveSaturation mode rate options) = giving l (Task.SaturationMove (record { direction = mode; rate = rate }))
-commandEffect l (Command.StepSaturation mode size time options) =
+commandEffect l (Command.MoveHue mode rate enhanced) = giving l (hueMoveTask mode (cond enhanced rate (stored rate)) enhanced)
+commandEffect l (Command.StepHue mode size time) = giving l (hueTask (stepDelta mode (stored size)) TargetSaturation.Keep time false)
+commandEffect l (Command.MoveToSaturation saturation time) = giving l (saturationTask saturation time)
+commandEffect l (Command.MoveSaturation mode rate) = giving l (Task.SaturationMove (record { direction = mode; rate = rate }))
+commandEffect l (Command.StepSaturation mode size time) =
     giving l (saturationTask (saturationStep mode (l .color .saturation) size) time)
-commandEffect l (Command.MoveToHueAndSaturation hue saturation time enhanced enhancedHue options) =
+commandEffect l (Command.MoveToHueAndSaturation hue saturation time enhanced enhancedHue) =
     giving l
     (hueTask (pathDelta (l .color .hue) (cond enhanced enhancedHue (stored hue)) DirectionEnum.Shortest) (TargetSaturation.To saturation) time enhanced)
-commandEffect l (Command.EnhancedMoveToHue hue direction time options) =
+commandEffect l (Command.EnhancedMoveToHue hue direction time) =
     giving l (hueTask (pathDelta (l .color .hue) hue direction) TargetSaturation.Keep time true)
-commandEffect l (Command.EnhancedMoveHue mode rate options) = giving l (hueMoveTask mode rate true)
-commandEffect l (Command.EnhancedStepHue mode size time options) = giving l (hueTask (stepDelta mode size) TargetSaturation.Keep time true)
-commandEffect l (Command.MoveToColorTemperature mireds time options) =
+commandEffect l (Command.EnhancedMoveHue mode rate) = giving l (hueMoveTask mode rate true)
+commandEffect l (Command.EnhancedStepHue mode size time) = giving l (hueTask (stepDelta mode size) TargetSaturation.Keep time true)
+commandEffect l (Command.MoveToColorTemperature mireds time) =
     giving l (temperatureTask (clamp (l .bounds .min) (l .bounds .max) (pos mireds)) time)
-commandEffect l (Command.MoveColorTemperature mode rate min max options) =
+commandEffect l (Command.MoveColorTemperature mode rate min max) =
     giving l
     (Task.ColorTemperatureMove (record { rate = signed mode rate; min = asked (l .bounds .min) min; max = asked (l .bounds .max) max }))
-commandEffect l (Command.StepColorTemperature mode size time min max options) =
+commandEffect l (Command.StepColorTemperature mode size time min max) =
     giving l (temperatureTask (clamp (lo (l .bounds) min) (hi (l .bounds) max) (pos (l .color .mireds) +ℤ stepDelta mode size)) time)
-commandEffect l (Command.ColorLoopSet flags action direction time startHue options) = loopSet l flags action direction time startHue
-commandEffect l (Command.StopMoveStep options) = giving l Task.Stop
+commandEffect l (Command.ColorLoopSet flags action direction time startHue) = loopSet l flags action direction time startHue
+commandEffect l Command.StopMoveStep = giving l Task.Stop

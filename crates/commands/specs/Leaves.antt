@@ -3,7 +3,7 @@ use Prim.Native.Nat.{ℕ}
 use mathlib.Core.Bool.{Bool, true, false}
 use mathlib.Core.List.{List, [], _∷_}
 use mathlib.Core.Path.{_≡_}
-use Rattle.matter.specs.declared.commands.Command.{Command}
+use Rattle.matter.specs.declared.commands.Request.{Request}
 use Rattle.matter.specs.declared.enums.OnOff.{OnOff}
 use Rattle.tasks.specs.declared.GivenTask.{GivenTask}
 use Rattle.tasks.specs.declared.Running.{Running}
@@ -66,10 +66,10 @@ pub record Leaves (l : Lamp) : Type 0 where
   pub bounds : (x : Call) → answer l x .lamp .bounds ≡ l .bounds
   pub options : (x : Call) → answer l x .lamp .options ≡ l .options
   -- no command, the colour loop's among them, changes what runs, nor the remaining time, nor has a wait
-  pub command-running : (c : Command) (onOff : OnOff) (clock : ℕ) → answer l (Call.Command c onOff clock) .lamp .running ≡ l .running
-  pub command-remaining : (c : Command) (onOff : OnOff) (clock : ℕ) →
-      answer l (Call.Command c onOff clock) .lamp .remaining ≡ l .remaining
-  pub command-wait : (c : Command) (onOff : OnOff) (clock : ℕ) → answer l (Call.Command c onOff clock) .wait ≡ 0
+  pub command-running : (r : Request) (onOff : OnOff) (clock : ℕ) → answer l (Call.Command r onOff clock) .lamp .running ≡ l .running
+  pub command-remaining : (r : Request) (onOff : OnOff) (clock : ℕ) →
+      answer l (Call.Command r onOff clock) .lamp .remaining ≡ l .remaining
+  pub command-wait : (r : Request) (onOff : OnOff) (clock : ℕ) → answer l (Call.Command r onOff clock) .wait ≡ 0
   -- no start or step changes the loop's settings
   pub start-looping : (task : Task) (clock : ℕ) → answer l (Call.Start task clock) .lamp .looping ≡ l .looping
   pub step-looping : (clock : ℕ) → answer l (Call.Step clock) .lamp .looping ≡ l .looping

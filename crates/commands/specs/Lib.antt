@@ -1,5 +1,5 @@
 pub mod Commands
 pub mod Answers
-pub mod Shared
+pub mod Outcomes
 pub mod Table
 pub mod Leaves

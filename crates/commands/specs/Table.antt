@@ -9,6 +9,7 @@ use mathlib.Core.Path.{_≡_}
 use lib.Dec.{eqb}
 use lib.ListN.{length}
 use Rattle.matter.specs.declared.commands.Command.{Command}
+use Rattle.matter.specs.declared.commands.Request.{Request}
 use Rattle.matter.specs.declared.enums.OnOff.{OnOff}
 use Rattle.notices.specs.Notices.{noted}
 use Rattle.tasks.specs.declared.Task.{Task}
@@ -19,7 +20,7 @@ use Rattle.lamp.specs.declared.Answer.{Answer}
 use Rattle.lamp.specs.Answers.{badClock}
 use Rattle.lamp.specs.Valid.{lampValid}
 use Rattle.lamp.specs.declared.Call.{Call}
-use Rattle.commands.specs.Commands.{stopMode, numberCause, crossed}
+use Rattle.commands.specs.Commands.{checks, crossed}
 use Rattle.commands.specs.Answers.{allowed, cause, answer}
 
 -- steps 8, 7, 4; a step of a running lamp valid with a good clock is never refused
@@ -43,19 +44,19 @@ pub record StartCauses (l : Lamp) (clock : ℕ) (task : Task) : Type 0 where
   pub start-0 : lampValid l ≡ true → badClock l clock ≡ false → taskValid task ≡ true → cause l (Call.Start task clock) ≡ 0
 
 -- commands 8, 4, Stop mode, the command's own numbers (1 or 2), off, 3
-pub record CommandCauses (l : Lamp) (clock : ℕ) (c : Command) (onOff : OnOff) : Type 0 where
-  pub command-8 : lampValid l ≡ false → cause l (Call.Command c onOff clock) ≡ 8
-  pub command-4 : lampValid l ≡ true → badClock l clock ≡ true → cause l (Call.Command c onOff clock) ≡ 4
-  pub command-stop : lampValid l ≡ true → badClock l clock ≡ false → stopMode c ≡ true →
-      cause l (Call.Command c onOff clock) ≡ 0
-  pub command-number : lampValid l ≡ true → badClock l clock ≡ false → stopMode c ≡ false → eqb (numberCause c) 0 ≡ false →
-      cause l (Call.Command c onOff clock) ≡ numberCause c
-  pub command-off : lampValid l ≡ true → badClock l clock ≡ false → stopMode c ≡ false → eqb (numberCause c) 0 ≡ true →
-      allowed l c onOff ≡ false → cause l (Call.Command c onOff clock) ≡ 0
-  pub command-3 : lampValid l ≡ true → badClock l clock ≡ false → stopMode c ≡ false → eqb (numberCause c) 0 ≡ true →
-      allowed l c onOff ≡ true → crossed (l .bounds) c ≡ true → cause l (Call.Command c onOff clock) ≡ 3
-  pub command-0 : lampValid l ≡ true → badClock l clock ≡ false → stopMode c ≡ false → eqb (numberCause c) 0 ≡ true →
-      allowed l c onOff ≡ true → crossed (l .bounds) c ≡ false → cause l (Call.Command c onOff clock) ≡ 0
+pub record CommandCauses (l : Lamp) (clock : ℕ) (r : Request) (onOff : OnOff) : Type 0 where
+  pub command-8 : lampValid l ≡ false → cause l (Call.Command r onOff clock) ≡ 8
+  pub command-4 : lampValid l ≡ true → badClock l clock ≡ true → cause l (Call.Command r onOff clock) ≡ 4
+  pub command-stop : lampValid l ≡ true → badClock l clock ≡ false → checks (r .command) .stop ≡ true →
+      cause l (Call.Command r onOff clock) ≡ 0
+  pub command-number : lampValid l ≡ true → badClock l clock ≡ false → checks (r .command) .stop ≡ false → eqb (checks (r .command) .cause) 0 ≡ false →
+      cause l (Call.Command r onOff clock) ≡ checks (r .command) .cause
+  pub command-off : lampValid l ≡ true → badClock l clock ≡ false → checks (r .command) .stop ≡ false → eqb (checks (r .command) .cause) 0 ≡ true →
+      allowed l r onOff ≡ false → cause l (Call.Command r onOff clock) ≡ 0
+  pub command-3 : lampValid l ≡ true → badClock l clock ≡ false → checks (r .command) .stop ≡ false → eqb (checks (r .command) .cause) 0 ≡ true →
+      allowed l r onOff ≡ true → crossed (l .bounds) (r .command) ≡ true → cause l (Call.Command r onOff clock) ≡ 3
+  pub command-0 : lampValid l ≡ true → badClock l clock ≡ false → checks (r .command) .stop ≡ false → eqb (checks (r .command) .cause) 0 ≡ true →
+      allowed l r onOff ≡ true → crossed (l .bounds) (r .command) ≡ false → cause l (Call.Command r onOff clock) ≡ 0
 
 -- an answer's list is some list of at most 14 in its places, with zeros behind
 pub record Few (a : Answer) : Type 0 where
@@ -67,8 +68,8 @@ pub record TableOfCauses : Type 0 where
   pub steps : (l : Lamp) (clock : ℕ) → StepCauses l clock
   pub halts : (l : Lamp) (clock : ℕ) → HaltCauses l clock
   pub starts : (l : Lamp) (clock : ℕ) (task : Task) → StartCauses l clock task
-  pub commands : (l : Lamp) (clock : ℕ) (c : Command) (onOff : OnOff) → CommandCauses l clock c onOff
+  pub commands : (l : Lamp) (clock : ℕ) (r : Request) (onOff : OnOff) → CommandCauses l clock r onOff
   -- a command's own numbers give 1, 2 or no cause
-  pub own : (c : Command) → numberCause c ≤ 2
+  pub own : (c : Command) → checks c .cause ≤ 2
   pub most : (l : Lamp) (x : Call) → cause l x ≤ 8
   pub few : (l : Lamp) (x : Call) → Few (answer l x)

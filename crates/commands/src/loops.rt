@@ -1,6 +1,7 @@
-// The colour loop's command: it looks at off first and has no number of its own.
+// The colour loop's command.
 // Carried over from project-chip/rs-matter, commit 43f61585a4 (Apache-2.0, see NOTICE), and changed.
-use crate::skipped;
+use crate::invoke;
+use crate::outcomes::Outcome;
 use lamp::Answer;
 use lamp::Lamp;
 use lamp::LoopSettings;
@@ -8,13 +9,14 @@ use matter::ACCEPTED;
 use matter::ColorLoopActionEnum;
 use matter::ColorLoopDirectionEnum;
 use matter::Command;
+use matter::CommandOptions;
 use matter::OnOff;
+use matter::Request;
 use matter::UPDATE_ACTION;
 use matter::UPDATE_DIRECTION;
 use matter::UPDATE_START_HUE;
 use matter::UPDATE_TIME;
 use matter::contains;
-use matter::should_continue;
 use notices::Notices;
 use tasks::ColorLoop;
 use tasks::GivenTask;
@@ -24,8 +26,9 @@ ghost use mathlib.Core.Bool.{cond};
 ghost use mathlib.Core.List.{[]};
 ghost use Rattle.notices.specs.Notices.{noted, pushedAll};
 ghost use Rattle.commands.specs.Commands.{updated, updatedReported, deactivated, activated, acted, loopSet};
-ghost use Rattle.commands.specs.Answers.{commandAccepted, commandAnswer};
-ghost use Rattle.commands.specs.Shared.{options, pushedAnswer};
+ghost use Rattle.matter.specs.Requests.{request, options};
+ghost use Rattle.commands.specs.Answers.{commandAnswer};
+ghost use Rattle.commands.specs.Outcomes.{outcomeOf, acceptedOutcome, pushedAnswer};
 
 fn word_if(test: bool, new: u16, old: u16) -> u16
     ensures { λ r. ⌜ r ≡ cond test new old ⌝ }
@@ -80,24 +83,26 @@ fn updated_notices(flags: u8) -> Notices
         .push(notices::MARKED_DIRTY)
 }
 
-fn answer_of(lamp: Lamp, list: Notices, task: GivenTask) -> Answer
-    ensures { λ r. ⌜ r ≡ record { number = 0; lamp = lamp; notices = list; task = task; wait = 0 } ⌝ }
+fn outcome_of(lamp: Lamp, list: Notices, task: GivenTask) -> Outcome
+    ensures { λ r. ⌜ r ≡ record { number = 0; color = lamp .color; looping = lamp .looping; notices = list; task = task } ⌝ }
 {
-    Answer {
+    let color = lamp.color;
+    let looping = lamp.looping;
+    Outcome {
         number: ACCEPTED,
-        lamp: lamp,
+        color: color,
+        looping: looping,
         notices: list,
         task: task,
-        wait: 0,
     }
 }
 
 // Off: where the loop is active, the stored hue comes back and the Stop task is given.
-fn deactivate(lamp: Lamp, list: Notices) -> Answer
-    ensures { λ r. ⌜ r ≡ pushedAnswer list (deactivated lamp []) ⌝ }
+fn deactivate(lamp: Lamp, list: Notices) -> Outcome
+    ensures { λ r. ⌜ r ≡ outcomeOf (pushedAnswer list (deactivated lamp [])) ⌝ }
 {
     if !lamp.looping.active {
-        return answer_of(lamp, list, GivenTask::Nothing);
+        return outcome_of(lamp, list, GivenTask::Nothing);
     }
     let reported = list.push(notices::TASK_GIVEN)
         .push(notices::COLOR_LOOP_ACTIVE);
@@ -114,7 +119,7 @@ fn deactivate(lamp: Lamp, list: Notices) -> Answer
         },
         ..lamp
     };
-    answer_of(
+    outcome_of(
         changed,
         reports.push(notices::DEVICE_HUE_SATURATION),
         GivenTask::Given(Task::Stop),
@@ -122,8 +127,8 @@ fn deactivate(lamp: Lamp, list: Notices) -> Answer
 }
 
 // On: the hue is stored, unless the loop is active already, the first hue is set, and the loop's task is given.
-fn activate(lamp: Lamp, list: Notices, seed: u16) -> Answer
-    ensures { λ r. ⌜ r ≡ pushedAnswer list (activated lamp [] seed) ⌝ }
+fn activate(lamp: Lamp, list: Notices, seed: u16) -> Outcome
+    ensures { λ r. ⌜ r ≡ outcomeOf (pushedAnswer list (activated lamp [] seed)) ⌝ }
 {
     let old = lamp.looping;
     let active = old.active;
@@ -148,7 +153,7 @@ fn activate(lamp: Lamp, list: Notices, seed: u16) -> Answer
         direction: direction,
         seconds: old.time,
     });
-    answer_of(
+    outcome_of(
         changed,
         reports
             .push(notices::DEVICE_HUE_SATURATION)
@@ -157,8 +162,8 @@ fn activate(lamp: Lamp, list: Notices, seed: u16) -> Answer
     )
 }
 
-fn act(lamp: Lamp, list: Notices, action: ColorLoopActionEnum) -> Answer
-    ensures { λ r. ⌜ r ≡ pushedAnswer list (acted lamp [] action) ⌝ }
+fn act(lamp: Lamp, list: Notices, action: ColorLoopActionEnum) -> Outcome
+    ensures { λ r. ⌜ r ≡ outcomeOf (pushedAnswer list (acted lamp [] action)) ⌝ }
 {
     match action {
         ColorLoopActionEnum::Deactivate => deactivate(lamp, list),
@@ -169,15 +174,15 @@ fn act(lamp: Lamp, list: Notices, action: ColorLoopActionEnum) -> Answer
     }
 }
 
-fn set_loop(
+pub(crate) fn set_loop(
     lamp: Lamp,
     flags: u8,
     action: ColorLoopActionEnum,
     direction: ColorLoopDirectionEnum,
     time: u16,
     start_hue: u16,
-) -> Answer
-    ensures { λ r. ⌜ r ≡ commandAccepted (loopSet lamp flags action direction time «start_hue») ⌝ }
+) -> Outcome
+    ensures { λ r. ⌜ r ≡ acceptedOutcome (loopSet lamp flags action direction time «start_hue») ⌝ }
 {
     let old = lamp.looping;
     let looping = updated_settings(old, flags, direction, time, start_hue);
@@ -189,10 +194,11 @@ fn set_loop(
     if contains(flags as u32, UPDATE_ACTION) {
         act(changed, list, action)
     } else {
-        answer_of(changed, list, GivenTask::Nothing)
+        outcome_of(changed, list, GivenTask::Nothing)
     }
 }
 
+// ColorLoopSet.
 pub fn cmd_color_loop_set(
     lamp: Lamp,
     update_flags: u8,
@@ -205,15 +211,18 @@ pub fn cmd_color_loop_set(
     on_off: OnOff,
     clock: u64,
 ) -> Answer
-    ensures { λ r. ⌜ r ≡ commandAnswer lamp (Command.ColorLoopSet «update_flags» action direction time «start_hue» (options «options_mask» «options_override»)) «on_off» clock ⌝ }
+    ensures { λ r. ⌜ r ≡ commandAnswer lamp (request (Command.ColorLoopSet «update_flags» action direction time «start_hue») (options «options_mask» «options_override»)) «on_off» clock ⌝ }
 {
-    let cause = lamp.first_cause(clock);
-    if cause != ACCEPTED {
-        return lamp.refused(cause);
-    }
-    let at = lamp.at_clock(clock);
-    if !should_continue(on_off, lamp.options, options_mask, options_override) {
-        return skipped(at);
-    }
-    set_loop(at, update_flags, action, direction, time, start_hue)
+    let command = Command::ColorLoopSet {
+        flags: update_flags,
+        action,
+        direction,
+        time,
+        start_hue,
+    };
+    let options = CommandOptions {
+        mask: options_mask,
+        overrides: options_override,
+    };
+    invoke(lamp, Request { options, command }, on_off, clock)
 }

@@ -91,14 +91,14 @@ module _ (l : Lamp) (flags : ℕ) (action : ColorLoopActionEnum) (direction : Co
 module _ (l : Lamp) (flags : ℕ) (action : ColorLoopActionEnum) (direction : ColorLoopDirectionEnum) (time startHue : ℕ)
     (options : CommandOptions) (onOff : OnOff) (clock : ℕ) where
   abbrev pub setting : Call
-  setting = Call.Command (Command.ColorLoopSet flags action direction time startHue options) onOff clock
+  setting = Call.Command (request (Command.ColorLoopSet flags action direction time startHue) options) onOff clock
 
   -- the attributes that the text's command leaves
   abbrev pub set : LoopAttributes
   set = colorLoopSet flags action direction time startHue (attributes l)
 
   module _ (accepted : cause l setting ≡ 0)
-      (mayExecute : allowed l (Command.ColorLoopSet flags action direction time startHue options) onOff ≡ true) where
+      (mayExecute : allowed l (request (Command.ColorLoopSet flags action direction time startHue) options) onOff ≡ true) where
     set-by : (P : Lamp → GivenTask → Type 0) →
         P (loopSet (atClock l clock) flags action direction time startHue .lamp)
         (loopSet (atClock l clock) flags action direction time startHue .task) →
@@ -149,7 +149,7 @@ module _ (l : Lamp) (flags : ℕ) (action : ColorLoopActionEnum) (direction : Co
 pub loop-follow-differs : (l : Lamp) (run : ColorLoopRun) (options : CommandOptions) (onOff : OnOff) (clock : ℕ) →
     l .running ≡ Running.ColorLoop run →
     cause l (setting l 2 ColorLoopActionEnum.Deactivate ColorLoopDirectionEnum.Decrement 0 0 options onOff clock) ≡ 0 →
-    allowed l (Command.ColorLoopSet 2 ColorLoopActionEnum.Deactivate ColorLoopDirectionEnum.Decrement 0 0 options) onOff
+    allowed l (request (Command.ColorLoopSet 2 ColorLoopActionEnum.Deactivate ColorLoopDirectionEnum.Decrement 0 0) options) onOff
     ≡ true →
     (turningBy (set l 2 ColorLoopActionEnum.Deactivate ColorLoopDirectionEnum.Decrement 0 0 options onOff clock) .direction ≡ ColorLoopDirectionEnum.Decrement)
     × (answer l (setting l 2 ColorLoopActionEnum.Deactivate ColorLoopDirectionEnum.Decrement 0 0 options onOff clock) .lamp .running ≡ Running.ColorLoop run)

@@ -21,21 +21,21 @@ use Rattle.conformance.specs.Fields.{fieldsGood, invalidMove, invalid}
 
 -- the numbers fit their widths, times end at 65,534 (of a plain step at 255), and mireds at 65,279
 abbrev pub Roomy : Command → Type 0
-Roomy (Command.MoveToHue hue direction time options) = time ≤ 65534
-Roomy (Command.MoveHue mode rate enhanced options) = rate ≤ 255
-Roomy (Command.StepHue mode size time options) = (size ≤ 255) × (time ≤ 255)
-Roomy (Command.MoveToSaturation saturation time options) = time ≤ 65534
-Roomy (Command.MoveSaturation mode rate options) = rate ≤ 255
-Roomy (Command.StepSaturation mode size time options) = (size ≤ 255) × (time ≤ 255)
-Roomy (Command.MoveToHueAndSaturation hue saturation time enhanced enhancedHue options) = (time ≤ 65534) × (enhancedHue ≤ 65535)
-Roomy (Command.EnhancedMoveToHue hue direction time options) = (hue ≤ 65535) × (time ≤ 65534)
-Roomy (Command.EnhancedMoveHue mode rate options) = rate ≤ 65535
-Roomy (Command.EnhancedStepHue mode size time options) = (size ≤ 65535) × (time ≤ 65534)
-Roomy (Command.MoveToColorTemperature mireds time options) = (mireds ≤ 65279) × (time ≤ 65534)
-Roomy (Command.MoveColorTemperature mode rate min max options) = (rate ≤ 65535) × (min ≤ 65279) × (max ≤ 65279)
-Roomy (Command.StepColorTemperature mode size time min max options) = (size ≤ 65535) × (time ≤ 65534) × (min ≤ 65279) × (max ≤ 65279)
-Roomy (Command.ColorLoopSet flags action direction time startHue options) = (flags ≤ 255) × (time ≤ 65535) × (startHue ≤ 65535)
-Roomy (Command.StopMoveStep options) = Unit
+Roomy (Command.MoveToHue hue direction time) = time ≤ 65534
+Roomy (Command.MoveHue mode rate enhanced) = rate ≤ 255
+Roomy (Command.StepHue mode size time) = (size ≤ 255) × (time ≤ 255)
+Roomy (Command.MoveToSaturation saturation time) = time ≤ 65534
+Roomy (Command.MoveSaturation mode rate) = rate ≤ 255
+Roomy (Command.StepSaturation mode size time) = (size ≤ 255) × (time ≤ 255)
+Roomy (Command.MoveToHueAndSaturation hue saturation time enhanced enhancedHue) = (time ≤ 65534) × (enhancedHue ≤ 65535)
+Roomy (Command.EnhancedMoveToHue hue direction time) = (hue ≤ 65535) × (time ≤ 65534)
+Roomy (Command.EnhancedMoveHue mode rate) = rate ≤ 65535
+Roomy (Command.EnhancedStepHue mode size time) = (size ≤ 65535) × (time ≤ 65534)
+Roomy (Command.MoveToColorTemperature mireds time) = (mireds ≤ 65279) × (time ≤ 65534)
+Roomy (Command.MoveColorTemperature mode rate min max) = (rate ≤ 65535) × (min ≤ 65279) × (max ≤ 65279)
+Roomy (Command.StepColorTemperature mode size time min max) = (size ≤ 65535) × (time ≤ 65534) × (min ≤ 65279) × (max ≤ 65279)
+Roomy (Command.ColorLoopSet flags action direction time startHue) = (flags ≤ 255) × (time ≤ 65535) × (startHue ≤ 65535)
+Roomy Command.StopMoveStep = Unit
 
 within : (most n : ℕ) → n ≤ most → (leb 0 n && leb n most) ≡ true
 within most n h = rw (le-leb 0 n (omega arith), le-leb n most h)
@@ -70,48 +70,48 @@ never-by false = refl
 -- where the rest of the fields are good, ConstraintError is the port's answer exactly where a field is not
 pub fields-agree : (c : Command) → Roomy c → eqb (numberCause c) 1 ≡ not (fieldsGood c)
 unfolding fieldsGood
-fields-agree (Command.MoveToHue hue direction time options) r =
+fields-agree (Command.MoveToHue hue direction time) r =
     rw (above hue, within 65534 time r) (refused-by (ltb 254 hue))
-fields-agree (Command.MoveHue mode rate enhanced options) r = rw (within 255 rate r) (never-by (eqb rate 0))
-fields-agree (Command.StepHue mode size time options) r = rw (within 255 size (r .0), within 255 time (r .1)) (never-by (eqb size 0))
-fields-agree (Command.MoveToSaturation saturation time options) r =
+fields-agree (Command.MoveHue mode rate enhanced) r = rw (within 255 rate r) (never-by (eqb rate 0))
+fields-agree (Command.StepHue mode size time) r = rw (within 255 size (r .0), within 255 time (r .1)) (never-by (eqb size 0))
+fields-agree (Command.MoveToSaturation saturation time) r =
     rw (above saturation, within 65534 time r) (refused-by (ltb 254 saturation))
-fields-agree (Command.MoveSaturation mode rate options) r = rw (within 255 rate r) (never-by (eqb rate 0))
-fields-agree (Command.StepSaturation mode size time options) r = rw (within 255 size (r .0), within 255 time (r .1)) (never-by (eqb size 0))
-fields-agree (Command.MoveToHueAndSaturation hue saturation time true enhancedHue options) r =
+fields-agree (Command.MoveSaturation mode rate) r = rw (within 255 rate r) (never-by (eqb rate 0))
+fields-agree (Command.StepSaturation mode size time) r = rw (within 255 size (r .0), within 255 time (r .1)) (never-by (eqb size 0))
+fields-agree (Command.MoveToHueAndSaturation hue saturation time true enhancedHue) r =
     rw (within 65535 enhancedHue (r .1), above saturation, within 65534 time (r .0)) (refused-by (ltb 254 saturation))
-fields-agree (Command.MoveToHueAndSaturation hue saturation time false enhancedHue options) r =
+fields-agree (Command.MoveToHueAndSaturation hue saturation time false enhancedHue) r =
     rw (above hue, above saturation, within 65534 time (r .0)) (refused-by-either (ltb 254 hue) (ltb 254 saturation))
-fields-agree (Command.EnhancedMoveToHue hue direction time options) r = rw (within 65535 hue (r .0), within 65534 time (r .1))
-fields-agree (Command.EnhancedMoveHue mode rate options) r = rw (within 65535 rate r) (never-by (eqb rate 0))
-fields-agree (Command.EnhancedStepHue mode size time options) r = rw (within 65535 size (r .0), within 65534 time (r .1)) (never-by (eqb size 0))
-fields-agree (Command.MoveToColorTemperature mireds time options) r =
+fields-agree (Command.EnhancedMoveToHue hue direction time) r = rw (within 65535 hue (r .0), within 65534 time (r .1))
+fields-agree (Command.EnhancedMoveHue mode rate) r = rw (within 65535 rate r) (never-by (eqb rate 0))
+fields-agree (Command.EnhancedStepHue mode size time) r = rw (within 65535 size (r .0), within 65534 time (r .1)) (never-by (eqb size 0))
+fields-agree (Command.MoveToColorTemperature mireds time) r =
     rw (some mireds (r .0), within 65534 time (r .1)) (refused-by (eqb mireds 0))
-fields-agree (Command.MoveColorTemperature mode rate min max options) r =
+fields-agree (Command.MoveColorTemperature mode rate min max) r =
     rw (within 65535 rate (r .0), within 65279 min (r .1), within 65279 max (r .2)) (never-by (eqb rate 0))
-fields-agree (Command.StepColorTemperature mode size time min max options) r =
+fields-agree (Command.StepColorTemperature mode size time min max) r =
     rw (within 65535 size (r .0), within 65534 time (r .1), within 65279 min (r .2), within 65279 max (r .3)) (never-by (eqb size 0))
-fields-agree (Command.ColorLoopSet flags action direction time startHue options) r =
+fields-agree (Command.ColorLoopSet flags action direction time startHue) r =
     rw (within 255 flags (r .0), within 65535 time (r .1), within 65535 startHue (r .2))
-fields-agree (Command.StopMoveStep options) r = refl
+fields-agree Command.StopMoveStep r = refl
 
 -- the smallest commands that differ: the text refuses them, the port takes them
 abbrev no-options : CommandOptions
-no-options = record { mask = 0; over = 0 }
+no-options = record { mask = 0; overrides = 0 }
 
-pub time-differs : (fieldsGood (Command.MoveToHue 0 DirectionEnum.Shortest 65535 no-options) ≡ false) × (numberCause (Command.MoveToHue 0 DirectionEnum.Shortest 65535 no-options) ≡ 0)
+pub time-differs : (fieldsGood (Command.MoveToHue 0 DirectionEnum.Shortest 65535) ≡ false) × (numberCause (Command.MoveToHue 0 DirectionEnum.Shortest 65535) ≡ 0)
 unfolding fieldsGood
 time-differs = (refl, refl)
 
-pub mireds-differ : (fieldsGood (Command.MoveToColorTemperature 65280 0 no-options) ≡ false) × (numberCause (Command.MoveToColorTemperature 65280 0 no-options) ≡ 0)
+pub mireds-differ : (fieldsGood (Command.MoveToColorTemperature 65280 0) ≡ false) × (numberCause (Command.MoveToColorTemperature 65280 0) ≡ 0)
 unfolding fieldsGood
 mireds-differ = (refl, refl)
 
-pub limits-differ : (fieldsGood (Command.MoveColorTemperature MoveModeEnum.Up 1 65280 0 no-options) ≡ false) × (numberCause (Command.MoveColorTemperature MoveModeEnum.Up 1 65280 0 no-options) ≡ 0)
+pub limits-differ : (fieldsGood (Command.MoveColorTemperature MoveModeEnum.Up 1 65280 0) ≡ false) × (numberCause (Command.MoveColorTemperature MoveModeEnum.Up 1 65280 0) ≡ 0)
 unfolding fieldsGood
 limits-differ = (refl, refl)
 
-pub step-time-differs : (fieldsGood (Command.StepHue StepModeEnum.Up 1 256 no-options) ≡ false) × (numberCause (Command.StepHue StepModeEnum.Up 1 256 no-options) ≡ 0)
+pub step-time-differs : (fieldsGood (Command.StepHue StepModeEnum.Up 1 256) ≡ false) × (numberCause (Command.StepHue StepModeEnum.Up 1 256) ≡ 0)
 unfolding fieldsGood
 step-time-differs = (refl, refl)
 
@@ -148,20 +148,20 @@ module _ (l : Lamp) (onOff : OnOff) where
   -- past form and clock, InvalidCommand is the port's answer exactly where the text's is
   pub invalid-agree : (c : Command) → eqb (afterClock l c onOff) 2 ≡ invalid c
   unfolding invalid
-  invalid-agree (Command.MoveToHue hue direction time options) = looked (Command.MoveToHue hue direction time options) ∙ one-by (ltb 254 hue)
-  invalid-agree (Command.MoveHue mode rate enhanced options) = looked (Command.MoveHue mode rate enhanced options) ∙ move-by mode rate
-  invalid-agree (Command.StepHue mode size time options) = looked (Command.StepHue mode size time options) ∙ zero-by (eqb size 0)
-  invalid-agree (Command.MoveToSaturation saturation time options) = looked (Command.MoveToSaturation saturation time options) ∙ one-by (ltb 254 saturation)
-  invalid-agree (Command.MoveSaturation mode rate options) = looked (Command.MoveSaturation mode rate options) ∙ move-by mode rate
-  invalid-agree (Command.StepSaturation mode size time options) = looked (Command.StepSaturation mode size time options) ∙ zero-by (eqb size 0)
-  invalid-agree (Command.MoveToHueAndSaturation hue saturation time enhanced enhancedHue options) =
-      looked (Command.MoveToHueAndSaturation hue saturation time enhanced enhancedHue options) ∙ one-by ((not enhanced && ltb 254 hue) || ltb 254 saturation)
-  invalid-agree (Command.EnhancedMoveToHue hue direction time options) = looked (Command.EnhancedMoveToHue hue direction time options)
-  invalid-agree (Command.EnhancedMoveHue mode rate options) = looked (Command.EnhancedMoveHue mode rate options) ∙ move-by mode rate
-  invalid-agree (Command.EnhancedStepHue mode size time options) = looked (Command.EnhancedStepHue mode size time options) ∙ zero-by (eqb size 0)
-  invalid-agree (Command.MoveToColorTemperature mireds time options) = looked (Command.MoveToColorTemperature mireds time options) ∙ one-by (eqb mireds 0)
-  invalid-agree (Command.MoveColorTemperature mode rate min max options) = looked (Command.MoveColorTemperature mode rate min max options) ∙ move-by mode rate
-  invalid-agree (Command.StepColorTemperature mode size time min max options) =
-      looked (Command.StepColorTemperature mode size time min max options) ∙ zero-by (eqb size 0)
-  invalid-agree (Command.ColorLoopSet flags action direction time startHue options) = looked (Command.ColorLoopSet flags action direction time startHue options)
-  invalid-agree (Command.StopMoveStep options) = looked (Command.StopMoveStep options)
+  invalid-agree (Command.MoveToHue hue direction time) = looked (Command.MoveToHue hue direction time) ∙ one-by (ltb 254 hue)
+  invalid-agree (Command.MoveHue mode rate enhanced) = looked (Command.MoveHue mode rate enhanced) ∙ move-by mode rate
+  invalid-agree (Command.StepHue mode size time) = looked (Command.StepHue mode size time) ∙ zero-by (eqb size 0)
+  invalid-agree (Command.MoveToSaturation saturation time) = looked (Command.MoveToSaturation saturation time) ∙ one-by (ltb 254 saturation)
+  invalid-agree (Command.MoveSaturation mode rate) = looked (Command.MoveSaturation mode rate) ∙ move-by mode rate
+  invalid-agree (Command.StepSaturation mode size time) = looked (Command.StepSaturation mode size time) ∙ zero-by (eqb size 0)
+  invalid-agree (Command.MoveToHueAndSaturation hue saturation time enhanced enhancedHue) =
+      looked (Command.MoveToHueAndSaturation hue saturation time enhanced enhancedHue) ∙ one-by ((not enhanced && ltb 254 hue) || ltb 254 saturation)
+  invalid-agree (Command.EnhancedMoveToHue hue direction time) = looked (Command.EnhancedMoveToHue hue direction time)
+  invalid-agree (Command.EnhancedMoveHue mode rate) = looked (Command.EnhancedMoveHue mode rate) ∙ move-by mode rate
+  invalid-agree (Command.EnhancedStepHue mode size time) = looked (Command.EnhancedStepHue mode size time) ∙ zero-by (eqb size 0)
+  invalid-agree (Command.MoveToColorTemperature mireds time) = looked (Command.MoveToColorTemperature mireds time) ∙ one-by (eqb mireds 0)
+  invalid-agree (Command.MoveColorTemperature mode rate min max) = looked (Command.MoveColorTemperature mode rate min max) ∙ move-by mode rate
+  invalid-agree (Command.StepColorTemperature mode size time min max) =
+      looked (Command.StepColorTemperature mode size time min max) ∙ zero-by (eqb size 0)
+  invalid-agree (Command.ColorLoopSet flags action direction time startHue) = looked (Command.ColorLoopSet flags action direction time startHue)
+  invalid-agree Command.StopMoveStep = looked Command.StopMoveStep

@@ -69,7 +69,7 @@ module _ (bounds : Bounds) where
   -- the limits of a step cross exactly where no mired is allowed
   module _ (mode : StepModeEnum) (size time minimum maximum : ℕ) (options : CommandOptions) where
     abbrev theStep : Command
-    theStep = Command.StepColorTemperature mode size time minimum maximum options
+    theStep = Command.StepColorTemperature mode size time minimum maximum
 
     pub crossed-none : (n : ℕ) → crossed bounds theStep ≡ true → Allowed bounds minimum maximum n → ⊥
     crossed-none n e a =
@@ -102,7 +102,7 @@ Answered l x task = answer l x .task ≡ GivenTask.Given task
 
 module _ (l : Lamp) (mode : MoveModeEnum) (rate minimum maximum : ℕ) (options : CommandOptions) (onOff : OnOff)
     (first : ℕ) (task : Task)
-    (given : Answered l (Call.Command (Command.MoveColorTemperature mode rate minimum maximum options) onOff first) task)
+    (given : Answered l (Call.Command (request (Command.MoveColorTemperature mode rate minimum maximum) options) onOff first) task)
     (m : Lamp) (same : m .bounds ≡ l .bounds) (clock : ℕ) (accepted : cause m (Call.Start task clock) ≡ 0) where
   abbrev asks : ColorTemperatureMove
   asks = record { rate = signed mode rate; min = asked (l .bounds .min) minimum; max = asked (l .bounds .max) maximum }
@@ -116,10 +116,10 @@ module _ (l : Lamp) (mode : MoveModeEnum) (rate minimum maximum : ℕ) (options 
   Gives e = e .task ≡ GivenTask.Given task → task ≡ Task.ColorTemperatureMove asks
 
   gives-by : Gives (commandDone (atClock l first)
-      (Command.MoveColorTemperature mode rate minimum maximum options) onOff)
+      (request (Command.MoveColorTemperature mode rate minimum maximum) options) onOff)
   unfolding commandEffect
   gives-by =
-      let c : Command = Command.MoveColorTemperature mode rate minimum maximum options in
+      let c : Command = Command.MoveColorTemperature mode rate minimum maximum in
       cond-both Gives (stopMode c) _ _ (λ s g. absurd (stop-refused (cc)))
       (λ s. cond-both Gives (allowed l c onOff) _ _ (λ a g. cc)
       (λ a g. let z : _≡_ {A = ℕ} 0 1 = cc in absurd (omega arith)))
@@ -127,7 +127,7 @@ module _ (l : Lamp) (mode : MoveModeEnum) (rate minimum maximum : ℕ) (options 
   task-is : task ≡ Task.ColorTemperatureMove asks
   task-is =
       answer-both l (λ (a : Answer). a .task ≡ GivenTask.Given task → task ≡ Task.ColorTemperatureMove asks)
-      (Call.Command (Command.MoveColorTemperature mode rate minimum maximum options) onOff first)
+      (Call.Command (request (Command.MoveColorTemperature mode rate minimum maximum) options) onOff first)
       (λ z. gives-by)
       (λ n g. let z : _≡_ {A = ℕ} 0 1 = cc in absurd (omega arith))
       given

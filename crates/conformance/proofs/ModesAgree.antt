@@ -98,21 +98,21 @@ givenModes (GivenTask.Given task) modes = taskModes task modes
 
 pub modes-of-task : (l : Lamp) (c : Command) (modes : Modes) → isLoopSet c ≡ false → givenModes (commandEffect l c .task) modes ≡ received modes c
 unfolding commandEffect received
-modes-of-task l (Command.MoveToHue hue direction time options) modes h = refl
-modes-of-task l (Command.MoveHue mode rate enhanced options) modes h = refl
-modes-of-task l (Command.StepHue mode size time options) modes h = refl
-modes-of-task l (Command.MoveToSaturation saturation time options) modes h = refl
-modes-of-task l (Command.MoveSaturation mode rate options) modes h = refl
-modes-of-task l (Command.StepSaturation mode size time options) modes h = refl
-modes-of-task l (Command.MoveToHueAndSaturation hue saturation time enhanced enhancedHue options) modes h = refl
-modes-of-task l (Command.EnhancedMoveToHue hue direction time options) modes h = refl
-modes-of-task l (Command.EnhancedMoveHue mode rate options) modes h = refl
-modes-of-task l (Command.EnhancedStepHue mode size time options) modes h = refl
-modes-of-task l (Command.MoveToColorTemperature mireds time options) modes h = refl
-modes-of-task l (Command.MoveColorTemperature mode rate min max options) modes h = refl
-modes-of-task l (Command.StepColorTemperature mode size time min max options) modes h = refl
-modes-of-task l (Command.ColorLoopSet flags action direction time startHue options) modes h = absurd (true≢false h)
-modes-of-task l (Command.StopMoveStep options) modes h = refl
+modes-of-task l (Command.MoveToHue hue direction time) modes h = refl
+modes-of-task l (Command.MoveHue mode rate enhanced) modes h = refl
+modes-of-task l (Command.StepHue mode size time) modes h = refl
+modes-of-task l (Command.MoveToSaturation saturation time) modes h = refl
+modes-of-task l (Command.MoveSaturation mode rate) modes h = refl
+modes-of-task l (Command.StepSaturation mode size time) modes h = refl
+modes-of-task l (Command.MoveToHueAndSaturation hue saturation time enhanced enhancedHue) modes h = refl
+modes-of-task l (Command.EnhancedMoveToHue hue direction time) modes h = refl
+modes-of-task l (Command.EnhancedMoveHue mode rate) modes h = refl
+modes-of-task l (Command.EnhancedStepHue mode size time) modes h = refl
+modes-of-task l (Command.MoveToColorTemperature mireds time) modes h = refl
+modes-of-task l (Command.MoveColorTemperature mode rate min max) modes h = refl
+modes-of-task l (Command.StepColorTemperature mode size time min max) modes h = refl
+modes-of-task l (Command.ColorLoopSet flags action direction time startHue) modes h = absurd (true≢false h)
+modes-of-task l Command.StopMoveStep modes h = refl
 
 -- and so a lamp has them at the end of a move to a hue, to a saturation or to both
 at-end : (old new p : ℕ) → atEnd p ≡ true → same old new (atEnd p) ≡ false
@@ -163,7 +163,7 @@ module _ (l : Lamp) (c : Command) (onOff : OnOff) (clock : ℕ) where
 
 -- the smallest: MoveToHue to 0 of a fresh lamp, which is in XY mode
 abbrev first : Command
-first = Command.MoveToHue 0 DirectionEnum.Shortest 0 (record { mask = 0; over = 0 })
+first = Command.MoveToHue 0 DirectionEnum.Shortest 0
 
 abbrev fresh : Lamp
 fresh = freshLamp (record { min = 1; max = 1 }) 31 0 0

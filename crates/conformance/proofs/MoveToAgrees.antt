@@ -31,7 +31,7 @@ pub record Does (circle from to : ℕ) (direction : DirectionEnum) (transitionTi
   pub arrived : movedHue from way ≡ to
 
 module _ (l : Lamp) (direction : DirectionEnum) (time : ℕ) (options : CommandOptions) (hf : l .color .hue < 65536) where
-  pub enhanced-move-agrees : (hue : ℕ) → hue < 65536 → Does enhancedCircle (l .color .hue) hue direction time true (commandEffect l (Command.EnhancedMoveToHue hue direction time options) .task)
+  pub enhanced-move-agrees : (hue : ℕ) → hue < 65536 → Does enhancedCircle (l .color .hue) hue direction time true (commandEffect l (Command.EnhancedMoveToHue hue direction time) .task)
   unfolding commandEffect
   enhanced-move-agrees hue h =
       record {
@@ -43,7 +43,7 @@ module _ (l : Lamp) (direction : DirectionEnum) (time : ℕ) (options : CommandO
       }
 
   -- a plain hue is moved to on the same circle, 256 places for each of its own
-  pub plain-move-agrees : (hue : ℕ) → hue ≤ 254 → Does enhancedCircle (l .color .hue) (stored hue) direction time false (commandEffect l (Command.MoveToHue hue direction time options) .task)
+  pub plain-move-agrees : (hue : ℕ) → hue ≤ 254 → Does enhancedCircle (l .color .hue) (stored hue) direction time false (commandEffect l (Command.MoveToHue hue direction time) .task)
   unfolding commandEffect
   plain-move-agrees hue h =
       record {

@@ -56,6 +56,6 @@ module _ (l : Lamp) (c : Command) (onOff : OnOff) where
   options-passed-by s = rw s
 
 -- the smallest such command: MoveHue in Stop mode to a lamp that is off, with all options 0
-pub stop-mode-differs : (continues OnOff.Off 0 0 0 ≡ false) × (stopMode (Command.MoveHue MoveModeEnum.Stop 0 false (record { mask = 0; over = 0 })) ≡ true)
+pub stop-mode-differs : (continues OnOff.Off 0 0 0 ≡ false) × (stopMode (Command.MoveHue MoveModeEnum.Stop 0 false) ≡ true)
 unfolding continues temporaryOptions
 stop-mode-differs = (refl, refl)

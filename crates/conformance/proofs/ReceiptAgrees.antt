@@ -162,7 +162,7 @@ module _ (l : Lamp) (validity : lampValid l ≡ true) (hued : l .color .hue < 65
   Asked c = InRangeCommand c → numberCause c ≡ 0 → Does (l .bounds) (l .color) c (commandEffect l c .task)
 
   move-to-hue-does : (hue : ℕ) (direction : DirectionEnum) (time : ℕ) (options : CommandOptions) →
-      Asked (Command.MoveToHue hue direction time options)
+      Asked (Command.MoveToHue hue direction time)
   unfolding commandEffect
   move-to-hue-does hue direction time options t z = (
     λ m clock. refl,
@@ -172,7 +172,7 @@ module _ (l : Lamp) (validity : lampValid l ≡ true) (hued : l .color .hue < 65
   )
 
   move-hue-does : (mode : MoveModeEnum) (rate : ℕ) (enhanced : Bool) (options : CommandOptions) →
-      Asked (Command.MoveHue mode rate enhanced options)
+      Asked (Command.MoveHue mode rate enhanced)
   unfolding commandEffect
   move-hue-does mode rate true options t z =
       (λ m clock. refl, λ m n begun b k r clock lasts. rw (mul-one rate) (hue-move-follows m begun _ k n r clock lasts))
@@ -180,7 +180,7 @@ module _ (l : Lamp) (validity : lampValid l ≡ true) (hued : l .color .hue < 65
       (λ m clock. refl, λ m n begun b k r clock lasts. hue-move-follows m begun _ k n r clock lasts)
 
   step-hue-does : (mode : StepModeEnum) (size time : ℕ) (options : CommandOptions) →
-      Asked (Command.StepHue mode size time options)
+      Asked (Command.StepHue mode size time)
   unfolding commandEffect
   step-hue-does mode size time options t z = (
     λ m clock. refl,
@@ -190,19 +190,19 @@ module _ (l : Lamp) (validity : lampValid l ≡ true) (hued : l .color .hue < 65
   )
 
   move-to-saturation-does : (saturation time : ℕ) (options : CommandOptions) →
-      Asked (Command.MoveToSaturation saturation time options)
+      Asked (Command.MoveToSaturation saturation time)
   unfolding commandEffect
   move-to-saturation-does saturation time options t z =
       (λ m clock. refl, λ m n begun b k r clock lasts. move-to-follows m begun _ k n r clock lasts)
 
   move-saturation-does : (mode : MoveModeEnum) (rate : ℕ) (options : CommandOptions) →
-      Asked (Command.MoveSaturation mode rate options)
+      Asked (Command.MoveSaturation mode rate)
   unfolding commandEffect
   move-saturation-does mode rate options t z =
       (λ m clock. refl, λ m n begun b k r clock lasts. saturation-move-follows m begun _ (fair r) n r clock lasts)
 
   step-saturation-does : (mode : StepModeEnum) (size time : ℕ) (options : CommandOptions) →
-      Asked (Command.StepSaturation mode size time options)
+      Asked (Command.StepSaturation mode size time)
   unfolding commandEffect
   step-saturation-does mode size time options t z = (
     λ m clock. refl,
@@ -213,7 +213,7 @@ module _ (l : Lamp) (validity : lampValid l ≡ true) (hued : l .color .hue < 65
   )
 
   move-to-hue-and-saturation-does : (hue saturation time : ℕ) (enhanced : Bool) (enhancedHue : ℕ)
-      (options : CommandOptions) → Asked (Command.MoveToHueAndSaturation hue saturation time enhanced enhancedHue options)
+      (options : CommandOptions) → Asked (Command.MoveToHueAndSaturation hue saturation time enhanced enhancedHue)
   unfolding commandEffect
   move-to-hue-and-saturation-does hue saturation time enhanced enhancedHue options t z = (
     λ m clock. refl,
@@ -224,7 +224,7 @@ module _ (l : Lamp) (validity : lampValid l ≡ true) (hued : l .color .hue < 65
   )
 
   enhanced-move-to-hue-does : (hue : ℕ) (direction : DirectionEnum) (time : ℕ) (options : CommandOptions) →
-      Asked (Command.EnhancedMoveToHue hue direction time options)
+      Asked (Command.EnhancedMoveToHue hue direction time)
   unfolding commandEffect
   enhanced-move-to-hue-does hue direction time options t z = (
     λ m clock. refl,
@@ -233,13 +233,13 @@ module _ (l : Lamp) (validity : lampValid l ≡ true) (hued : l .color .hue < 65
   )
 
   enhanced-move-hue-does : (mode : MoveModeEnum) (rate : ℕ) (options : CommandOptions) →
-      Asked (Command.EnhancedMoveHue mode rate options)
+      Asked (Command.EnhancedMoveHue mode rate)
   unfolding commandEffect
   enhanced-move-hue-does mode rate options t z =
       (λ m clock. refl, λ m n begun b k r clock lasts. hue-move-follows m begun _ k n r clock lasts)
 
   enhanced-step-hue-does : (mode : StepModeEnum) (size time : ℕ) (options : CommandOptions) →
-      Asked (Command.EnhancedStepHue mode size time options)
+      Asked (Command.EnhancedStepHue mode size time)
   unfolding commandEffect
   enhanced-step-hue-does mode size time options t z = (
     λ m clock. refl,
@@ -248,7 +248,7 @@ module _ (l : Lamp) (validity : lampValid l ≡ true) (hued : l .color .hue < 65
   )
 
   move-to-color-temperature-does : (mireds time : ℕ) (options : CommandOptions) →
-      Asked (Command.MoveToColorTemperature mireds time options)
+      Asked (Command.MoveToColorTemperature mireds time)
   unfolding commandEffect
   move-to-color-temperature-does mireds time options t z = (
     λ m clock. refl,
@@ -265,7 +265,7 @@ module _ (l : Lamp) (validity : lampValid l ≡ true) (hued : l .color .hue < 65
   )
 
   move-color-temperature-does : (mode : MoveModeEnum) (rate min max : ℕ) (options : CommandOptions) →
-      Asked (Command.MoveColorTemperature mode rate min max options)
+      Asked (Command.MoveColorTemperature mode rate min max)
   unfolding commandEffect
   move-color-temperature-does mode rate min max options t z = (
     λ m clock. refl,
@@ -288,7 +288,7 @@ module _ (l : Lamp) (validity : lampValid l ≡ true) (hued : l .color .hue < 65
   )
 
   step-color-temperature-does : (mode : StepModeEnum) (size time min max : ℕ) (options : CommandOptions) →
-      Asked (Command.StepColorTemperature mode size time min max options)
+      Asked (Command.StepColorTemperature mode size time min max)
   unfolding commandEffect
   step-color-temperature-does mode size time min max options t z = (
     λ m clock. refl,
@@ -310,24 +310,24 @@ module _ (l : Lamp) (validity : lampValid l ≡ true) (hued : l .color .hue < 65
   )
 
   does : (c : Command) → moves c ≡ true → Asked c
-  does (Command.MoveToHue hue direction time options) v = move-to-hue-does hue direction time options
-  does (Command.MoveHue mode rate enhanced options) v = move-hue-does mode rate enhanced options
-  does (Command.StepHue mode size time options) v = step-hue-does mode size time options
-  does (Command.MoveToSaturation saturation time options) v = move-to-saturation-does saturation time options
-  does (Command.MoveSaturation mode rate options) v = move-saturation-does mode rate options
-  does (Command.StepSaturation mode size time options) v = step-saturation-does mode size time options
-  does (Command.MoveToHueAndSaturation hue saturation time enhanced enhancedHue options) v =
+  does (Command.MoveToHue hue direction time) v = move-to-hue-does hue direction time options
+  does (Command.MoveHue mode rate enhanced) v = move-hue-does mode rate enhanced options
+  does (Command.StepHue mode size time) v = step-hue-does mode size time options
+  does (Command.MoveToSaturation saturation time) v = move-to-saturation-does saturation time options
+  does (Command.MoveSaturation mode rate) v = move-saturation-does mode rate options
+  does (Command.StepSaturation mode size time) v = step-saturation-does mode size time options
+  does (Command.MoveToHueAndSaturation hue saturation time enhanced enhancedHue) v =
       move-to-hue-and-saturation-does hue saturation time enhanced enhancedHue options
-  does (Command.EnhancedMoveToHue hue direction time options) v = enhanced-move-to-hue-does hue direction time options
-  does (Command.EnhancedMoveHue mode rate options) v = enhanced-move-hue-does mode rate options
-  does (Command.EnhancedStepHue mode size time options) v = enhanced-step-hue-does mode size time options
-  does (Command.MoveToColorTemperature mireds time options) v = move-to-color-temperature-does mireds time options
-  does (Command.MoveColorTemperature mode rate min max options) v =
+  does (Command.EnhancedMoveToHue hue direction time) v = enhanced-move-to-hue-does hue direction time options
+  does (Command.EnhancedMoveHue mode rate) v = enhanced-move-hue-does mode rate options
+  does (Command.EnhancedStepHue mode size time) v = enhanced-step-hue-does mode size time options
+  does (Command.MoveToColorTemperature mireds time) v = move-to-color-temperature-does mireds time options
+  does (Command.MoveColorTemperature mode rate min max) v =
       move-color-temperature-does mode rate min max options
-  does (Command.StepColorTemperature mode size time min max options) v =
+  does (Command.StepColorTemperature mode size time min max) v =
       step-color-temperature-does mode size time min max options
-  does (Command.ColorLoopSet flags action direction time startHue options) v = absurd (true≢false (sym v))
-  does (Command.StopMoveStep options) v = absurd (true≢false (sym v))
+  does (Command.ColorLoopSet flags action direction time startHue) v = absurd (true≢false (sym v))
+  does Command.StopMoveStep v = absurd (true≢false (sym v))
 
 -- an accepted command has no cause of its own numbers
 command-fields : (l : Lamp) (c : Command) (onOff : OnOff) (clock : ℕ) → cause l (Call.Command c onOff clock) ≡ 0 →

@@ -26,13 +26,13 @@ use Rattle.conformance.specs.Stops.{Terminated, NoTimeLeft, turnsAfterSt
 
 -- StopMoveStep with leave to execute asks for a stop (every Stop mode does: `options-passed-by` in OptionsAgree)
 pub stop-asked : (l : Lamp) (options : CommandOptions) (onOff : OnOff) (clock : ℕ) →
-    allowed l (Command.StopMoveStep options) onOff ≡ true →
-    cause l (Call.Command (Command.StopMoveStep options) onOff clock) ≡ 0 →
-    answer l (Call.Command (Command.StopMoveStep options) onOff clock) .task ≡ GivenTask.Given Task.Stop
+    allowed l (request Command.StopMoveStep options) onOff ≡ true →
+    cause l (Call.Command (request Command.StopMoveStep options) onOff clock) ≡ 0 →
+    answer l (Call.Command (request Command.StopMoveStep options) onOff clock) .task ≡ GivenTask.Given Task.Stop
 unfolding commandEffect
 stop-asked l options onOff clock mayExecute accepted =
     answer-both l (λ (a : Answer). a .task ≡ GivenTask.Given Task.Stop)
-    (Call.Command (Command.StopMoveStep options) onOff clock)
+    (Call.Command (request Command.StopMoveStep options) onOff clock)
     (λ z. rw mayExecute) (λ n. absurd (n accepted))
 
 -- which is answered by a halt
@@ -77,12 +77,12 @@ no-turn (Running.ColorLoop run) e = absurd (true≢false e)
 -- the lamp after StopMoveStep and the halt that answers it
 abbrev pub afterStop : Lamp → CommandOptions → OnOff → ℕ → ℕ → Lamp
 afterStop l options onOff clock later =
-    answer (answer l (Call.Command (Command.StopMoveStep options) onOff clock) .lamp) (Call.Halt later) .lamp
+    answer (answer l (Call.Command (request Command.StopMoveStep options) onOff clock) .lamp) (Call.Halt later) .lamp
 
 module _ (l : Lamp) (options : CommandOptions) (onOff : OnOff) (clock later : ℕ)
-    (mayExecute : allowed l (Command.StopMoveStep options) onOff ≡ true)
-    (accepted : cause l (Call.Command (Command.StopMoveStep options) onOff clock) ≡ 0)
-    (halted : cause (answer l (Call.Command (Command.StopMoveStep options) onOff clock) .lamp) (Call.Halt later) ≡ 0) where
+    (mayExecute : allowed l (request Command.StopMoveStep options) onOff ≡ true)
+    (accepted : cause l (Call.Command (request Command.StopMoveStep options) onOff clock) ≡ 0)
+    (halted : cause (answer l (Call.Command (request Command.StopMoveStep options) onOff clock) .lamp) (Call.Halt later) ≡ 0) where
   stopped : loopTurns (afterStop l options onOff clock later .running) ≡ false
   stopped = no-turn (afterStop l options onOff clock later .running) (halt-terminates _ later halted .still)
 
@@ -96,7 +96,7 @@ module _ (l : Lamp) (options : CommandOptions) (onOff : OnOff) (clock later : �
   -- loop is active and turns
   pub stop-on-loop-differs : l .looping .active ≡ true → loopTurns (l .running) ≡ true →
       (turnsAfterStop (l .looping .active) (loopTurns (l .running)) ≡ true)
-      × (answer l (Call.Command (Command.StopMoveStep options) onOff clock) .task ≡ GivenTask.Given Task.Stop)
+      × (answer l (Call.Command (request Command.StopMoveStep options) onOff clock) .task ≡ GivenTask.Given Task.Stop)
       × (loopTurns (afterStop l options onOff clock later .running) ≡ false)
   stop-on-loop-differs e t = (
     ap (λ (active : Bool). turnsAfterStop active (loopTurns (l .running))) e ∙ t,

@@ -51,23 +51,23 @@ every (b ∷ bs) = b && every bs
 -- the fields of each command. The two commands MoveToHueAndSaturation and EnhancedMoveToHueAndSaturation are one here, as in the
 -- port: the first has the field Hue, the second EnhancedHue
 unfoldable pub fieldsGood : Command → Bool
-fieldsGood (Command.MoveToHue hue direction time options) = every (hueField hue ∷ timeField time ∷ [])
-fieldsGood (Command.MoveHue mode rate enhanced options) = every (byteField rate ∷ [])
-fieldsGood (Command.StepHue mode size time options) = every (byteField size ∷ stepTimeField time ∷ [])
-fieldsGood (Command.MoveToSaturation saturation time options) = every (saturationField saturation ∷ timeField time ∷ [])
-fieldsGood (Command.MoveSaturation mode rate options) = every (byteField rate ∷ [])
-fieldsGood (Command.StepSaturation mode size time options) = every (byteField size ∷ stepTimeField time ∷ [])
-fieldsGood (Command.MoveToHueAndSaturation hue saturation time enhanced enhancedHue options) =
+fieldsGood (Command.MoveToHue hue direction time) = every (hueField hue ∷ timeField time ∷ [])
+fieldsGood (Command.MoveHue mode rate enhanced) = every (byteField rate ∷ [])
+fieldsGood (Command.StepHue mode size time) = every (byteField size ∷ stepTimeField time ∷ [])
+fieldsGood (Command.MoveToSaturation saturation time) = every (saturationField saturation ∷ timeField time ∷ [])
+fieldsGood (Command.MoveSaturation mode rate) = every (byteField rate ∷ [])
+fieldsGood (Command.StepSaturation mode size time) = every (byteField size ∷ stepTimeField time ∷ [])
+fieldsGood (Command.MoveToHueAndSaturation hue saturation time enhanced enhancedHue) =
     every (cond enhanced (wordField enhancedHue) (hueField hue) ∷ saturationField saturation ∷ timeField time ∷ [])
-fieldsGood (Command.EnhancedMoveToHue hue direction time options) = every (wordField hue ∷ timeField time ∷ [])
-fieldsGood (Command.EnhancedMoveHue mode rate options) = every (wordField rate ∷ [])
-fieldsGood (Command.EnhancedStepHue mode size time options) = every (wordField size ∷ timeField time ∷ [])
-fieldsGood (Command.MoveToColorTemperature mireds time options) = every (miredsField mireds ∷ timeField time ∷ [])
-fieldsGood (Command.MoveColorTemperature mode rate min max options) = every (wordField rate ∷ limitField min ∷ limitField max ∷ [])
-fieldsGood (Command.StepColorTemperature mode size time min max options) =
+fieldsGood (Command.EnhancedMoveToHue hue direction time) = every (wordField hue ∷ timeField time ∷ [])
+fieldsGood (Command.EnhancedMoveHue mode rate) = every (wordField rate ∷ [])
+fieldsGood (Command.EnhancedStepHue mode size time) = every (wordField size ∷ timeField time ∷ [])
+fieldsGood (Command.MoveToColorTemperature mireds time) = every (miredsField mireds ∷ timeField time ∷ [])
+fieldsGood (Command.MoveColorTemperature mode rate min max) = every (wordField rate ∷ limitField min ∷ limitField max ∷ [])
+fieldsGood (Command.StepColorTemperature mode size time min max) =
     every (wordField size ∷ timeField time ∷ limitField min ∷ limitField max ∷ [])
-fieldsGood (Command.ColorLoopSet flags action direction time startHue options) = every (byteField flags ∷ wordField time ∷ wordField startHue ∷ [])
-fieldsGood (Command.StopMoveStep options) = every []
+fieldsGood (Command.ColorLoopSet flags action direction time startHue) = every (byteField flags ∷ wordField time ∷ wordField startHue ∷ [])
+fieldsGood Command.StopMoveStep = every []
 
 -- ---- INVALID_COMMAND
 
@@ -83,18 +83,18 @@ abbrev pub invalidStep : ℕ → Bool
 invalidStep size = eqb size 0
 
 unfoldable pub invalid : Command → Bool
-invalid (Command.MoveToHue hue direction time options) = false
-invalid (Command.MoveHue mode rate enhanced options) = invalidMove mode rate
-invalid (Command.StepHue mode size time options) = invalidStep size
-invalid (Command.MoveToSaturation saturation time options) = false
-invalid (Command.MoveSaturation mode rate options) = invalidMove mode rate
-invalid (Command.StepSaturation mode size time options) = invalidStep size
-invalid (Command.MoveToHueAndSaturation hue saturation time enhanced enhancedHue options) = false
-invalid (Command.EnhancedMoveToHue hue direction time options) = false
-invalid (Command.EnhancedMoveHue mode rate options) = invalidMove mode rate
-invalid (Command.EnhancedStepHue mode size time options) = invalidStep size
-invalid (Command.MoveToColorTemperature mireds time options) = false
-invalid (Command.MoveColorTemperature mode rate min max options) = invalidMove mode rate
-invalid (Command.StepColorTemperature mode size time min max options) = invalidStep size
-invalid (Command.ColorLoopSet flags action direction time startHue options) = false
-invalid (Command.StopMoveStep options) = false
+invalid (Command.MoveToHue hue direction time) = false
+invalid (Command.MoveHue mode rate enhanced) = invalidMove mode rate
+invalid (Command.StepHue mode size time) = invalidStep size
+invalid (Command.MoveToSaturation saturation time) = false
+invalid (Command.MoveSaturation mode rate) = invalidMove mode rate
+invalid (Command.StepSaturation mode size time) = invalidStep size
+invalid (Command.MoveToHueAndSaturation hue saturation time enhanced enhancedHue) = false
+invalid (Command.EnhancedMoveToHue hue direction time) = false
+invalid (Command.EnhancedMoveHue mode rate) = invalidMove mode rate
+invalid (Command.EnhancedStepHue mode size time) = invalidStep size
+invalid (Command.MoveToColorTemperature mireds time) = false
+invalid (Command.MoveColorTemperature mode rate min max) = invalidMove mode rate
+invalid (Command.StepColorTemperature mode size time min max) = invalidStep size
+invalid (Command.ColorLoopSet flags action direction time startHue) = false
+invalid Command.StopMoveStep = false

@@ -32,18 +32,18 @@ saturationModes modes = elim (modes .color) [
 -- "The first action taken when any one of these commands is received is to change the ColorMode attribute to the appropriate value
 -- for the command"
 unfoldable pub received : Modes → Command → Modes
-received modes (Command.MoveToHue hue direction time options) = hueModes
-received modes (Command.MoveHue mode rate enhanced options) = cond enhanced enhancedHueModes hueModes
-received modes (Command.StepHue mode size time options) = hueModes
-received modes (Command.MoveToSaturation saturation time options) = saturationModes modes
-received modes (Command.MoveSaturation mode rate options) = saturationModes modes
-received modes (Command.StepSaturation mode size time options) = saturationModes modes
-received modes (Command.MoveToHueAndSaturation hue saturation time enhanced enhancedHue options) = cond enhanced enhancedHueModes hueModes
-received modes (Command.EnhancedMoveToHue hue direction time options) = enhancedHueModes
-received modes (Command.EnhancedMoveHue mode rate options) = enhancedHueModes
-received modes (Command.EnhancedStepHue mode size time options) = enhancedHueModes
-received modes (Command.MoveToColorTemperature mireds time options) = temperatureModes
-received modes (Command.MoveColorTemperature mode rate min max options) = temperatureModes
-received modes (Command.StepColorTemperature mode size time min max options) = temperatureModes
-received modes (Command.ColorLoopSet flags action direction time startHue options) = modes
-received modes (Command.StopMoveStep options) = modes
+received modes (Command.MoveToHue hue direction time) = hueModes
+received modes (Command.MoveHue mode rate enhanced) = cond enhanced enhancedHueModes hueModes
+received modes (Command.StepHue mode size time) = hueModes
+received modes (Command.MoveToSaturation saturation time) = saturationModes modes
+received modes (Command.MoveSaturation mode rate) = saturationModes modes
+received modes (Command.StepSaturation mode size time) = saturationModes modes
+received modes (Command.MoveToHueAndSaturation hue saturation time enhanced enhancedHue) = cond enhanced enhancedHueModes hueModes
+received modes (Command.EnhancedMoveToHue hue direction time) = enhancedHueModes
+received modes (Command.EnhancedMoveHue mode rate) = enhancedHueModes
+received modes (Command.EnhancedStepHue mode size time) = enhancedHueModes
+received modes (Command.MoveToColorTemperature mireds time) = temperatureModes
+received modes (Command.MoveColorTemperature mode rate min max) = temperatureModes
+received modes (Command.StepColorTemperature mode size time min max) = temperatureModes
+received modes (Command.ColorLoopSet flags action direction time startHue) = modes
+received modes Command.StopMoveStep = modes

@@ -86,59 +86,59 @@ MiredsAlone from now So =
 
 -- the commands that move a number
 abbrev pub moves : Command → Bool
-moves (Command.MoveToHue hue direction time options) = true
-moves (Command.MoveHue mode rate enhanced options) = true
-moves (Command.StepHue mode size time options) = true
-moves (Command.MoveToSaturation saturation time options) = true
-moves (Command.MoveSaturation mode rate options) = true
-moves (Command.StepSaturation mode size time options) = true
-moves (Command.MoveToHueAndSaturation hue saturation time enhanced enhancedHue options) = true
-moves (Command.EnhancedMoveToHue hue direction time options) = true
-moves (Command.EnhancedMoveHue mode rate options) = true
-moves (Command.EnhancedStepHue mode size time options) = true
-moves (Command.MoveToColorTemperature mireds time options) = true
-moves (Command.MoveColorTemperature mode rate min max options) = true
-moves (Command.StepColorTemperature mode size time min max options) = true
-moves (Command.ColorLoopSet flags action direction time startHue options) = false
-moves (Command.StopMoveStep options) = false
+moves (Command.MoveToHue hue direction time) = true
+moves (Command.MoveHue mode rate enhanced) = true
+moves (Command.StepHue mode size time) = true
+moves (Command.MoveToSaturation saturation time) = true
+moves (Command.MoveSaturation mode rate) = true
+moves (Command.StepSaturation mode size time) = true
+moves (Command.MoveToHueAndSaturation hue saturation time enhanced enhancedHue) = true
+moves (Command.EnhancedMoveToHue hue direction time) = true
+moves (Command.EnhancedMoveHue mode rate) = true
+moves (Command.EnhancedStepHue mode size time) = true
+moves (Command.MoveToColorTemperature mireds time) = true
+moves (Command.MoveColorTemperature mode rate min max) = true
+moves (Command.StepColorTemperature mode size time min max) = true
+moves (Command.ColorLoopSet flags action direction time startHue) = false
+moves Command.StopMoveStep = false
 
 -- the device's bounds, the numbers on receipt, the command; the time since its movement began, the numbers then, and
 -- now. In the text it begins on receipt. MoveToHueAndSaturation has no Direction field: the text does not fix its way,
 -- and recommends the shortest path. The moves at a rate are not in Stop mode
 abbrev pub OnReceipt : Bounds → Color → Command → ℕ → Color → Color → Type 0
-OnReceipt bounds received (Command.MoveToHue hue direction time options) elapsed from now =
+OnReceipt bounds received (Command.MoveToHue hue direction time) elapsed from now =
     HueAlone from now (Goes-to direction (received .hue) (places false hue) (milliseconds time) elapsed)
-OnReceipt bounds received (Command.MoveHue mode rate enhanced options) elapsed from now =
+OnReceipt bounds received (Command.MoveHue mode rate enhanced) elapsed from now =
     HueAlone from now (λ a b. b ≡ hueMoveTo mode enhancedHueMaximum (stepsMade (places enhanced rate) elapsed) a)
-OnReceipt bounds received (Command.StepHue mode size time options) elapsed from now =
+OnReceipt bounds received (Command.StepHue mode size time) elapsed from now =
     HueAlone from now (Goes-by mode (places false size) (milliseconds time) elapsed)
-OnReceipt bounds received (Command.MoveToSaturation saturation time options) elapsed from now =
+OnReceipt bounds received (Command.MoveToSaturation saturation time) elapsed from now =
     SaturationAlone from now (λ a b. Reaches a saturation (milliseconds time) elapsed b)
-OnReceipt bounds received (Command.MoveSaturation mode rate options) elapsed from now =
+OnReceipt bounds received (Command.MoveSaturation mode rate) elapsed from now =
     SaturationAlone from now (λ a b. b ≡ moveTo mode 0 saturationMaximum (stepsMade rate elapsed) a)
-OnReceipt bounds received (Command.StepSaturation mode size time options) elapsed from now =
+OnReceipt bounds received (Command.StepSaturation mode size time) elapsed from now =
     SaturationAlone from now
     (λ a b. Reaches a (stepTo mode 0 saturationMaximum size (received .saturation)) (milliseconds time) elapsed b)
-OnReceipt bounds received (Command.MoveToHueAndSaturation hue saturation time enhanced enhancedHue o) elapsed from now =
+OnReceipt bounds received (Command.MoveToHueAndSaturation hue saturation time enhanced enhancedHue) elapsed from now =
     Each
     (Goes-to DirectionEnum.Shortest (received .hue) (cond enhanced enhancedHue (places false hue))
     (milliseconds time) elapsed (from .hue) (now .hue))
     (Reaches (from .saturation) saturation (milliseconds time) elapsed (now .saturation))
     (now .mireds ≡ from .mireds)
-OnReceipt bounds received (Command.EnhancedMoveToHue hue direction time options) elapsed from now =
+OnReceipt bounds received (Command.EnhancedMoveToHue hue direction time) elapsed from now =
     HueAlone from now (Goes-to direction (received .hue) hue (milliseconds time) elapsed)
-OnReceipt bounds received (Command.EnhancedMoveHue mode rate options) elapsed from now =
+OnReceipt bounds received (Command.EnhancedMoveHue mode rate) elapsed from now =
     HueAlone from now (λ a b. b ≡ hueMoveTo mode enhancedHueMaximum (stepsMade rate elapsed) a)
-OnReceipt bounds received (Command.EnhancedStepHue mode size time options) elapsed from now =
+OnReceipt bounds received (Command.EnhancedStepHue mode size time) elapsed from now =
     HueAlone from now (Goes-by mode size (milliseconds time) elapsed)
-OnReceipt bounds received (Command.MoveToColorTemperature mireds time options) elapsed from now =
+OnReceipt bounds received (Command.MoveToColorTemperature mireds time) elapsed from now =
     MiredsAlone from now (Goes-near bounds mireds (milliseconds time) elapsed)
-OnReceipt bounds received (Command.MoveColorTemperature mode rate min max options) elapsed from now =
+OnReceipt bounds received (Command.MoveColorTemperature mode rate min max) elapsed from now =
     Within bounds min max (from .mireds)
     (λ least most. MiredsAlone from now (λ a b. b ≡ moveTo mode least most (stepsMade rate elapsed) a))
-OnReceipt bounds received (Command.StepColorTemperature mode size time min max options) elapsed from now =
+OnReceipt bounds received (Command.StepColorTemperature mode size time min max) elapsed from now =
     Within bounds min max (received .mireds)
     (λ least most. MiredsAlone from now
     (λ a b. Reaches a (stepTo mode least most size (received .mireds)) (milliseconds time) elapsed b))
-OnReceipt bounds received (Command.ColorLoopSet flags action direction time startHue options) elapsed from now = Unit
-OnReceipt bounds received (Command.StopMoveStep options) elapsed from now = Unit
+OnReceipt bounds received (Command.ColorLoopSet flags action direction time startHue) elapsed from now = Unit
+OnReceipt bounds received Command.StopMoveStep elapsed from now = Unit

@@ -65,7 +65,7 @@ alone =
 
 -- leave to execute while off
 abbrev pub whileOff : CommandOptions
-whileOff = record { mask = 1; over = 1 }
+whileOff = record { mask = 1; overrides = 1 }
 
 -- the same move by the enhanced command, at another clock, without a handler, and other calls before, between and after
 abbrev pub among : Fade
@@ -76,16 +76,16 @@ among =
       move = record { enhanced = true; hue = 2560; direction = DirectionEnum.Up; tenths = 10; options = whileOff };
       onOff = OnOff.NoHandler;
       clock = 5050;
-      between = Call.Command (Command.MoveToSaturation 100 20 plain) OnOff.On 5060 ∷ [];
+      between = Call.Command (request (Command.MoveToSaturation 100 20) plain) OnOff.On 5060 ∷ [];
       start = 5100;
       calls =
           Call.Step 5200
           -- refused: an earlier clock
           ∷ Call.Step 5000
           -- accepted, and its task is not started
-          ∷ Call.Command (Command.MoveToColorTemperature 300 20 plain) OnOff.On 5250
+          ∷ Call.Command (request (Command.MoveToColorTemperature 300 20) plain) OnOff.On 5250
           -- refused: rate 0
-          ∷ Call.Command (Command.MoveHue MoveModeEnum.Up 0 false plain) OnOff.On 5260
+          ∷ Call.Command (request (Command.MoveHue MoveModeEnum.Up 0 false) plain) OnOff.On 5260
           ∷ Call.Step 5450
           -- refused: past the limit
           ∷ Call.Halt 1_099_511_627_777
@@ -161,7 +161,7 @@ unfolding after answer haltAnswer stepAnswer firstCause lampValid allTrue colorV
 alike = record { found = refl; target = refl; direction = refl; tenths = refl; start = refl }
 
 in-range-whileOff : InRangeOptions whileOff
-in-range-whileOff = record { mask = lit< tt; over = lit< tt }
+in-range-whileOff = record { mask = lit< tt; overrides = lit< tt }
 
 pub premised : Premised (redToCyan DirectionEnum.Down) × Premised alone × Premised among
 unfolding quiet after answer commandCause commandAnswer firstCause lampValid allTrue colorValid runningValid moveToValid taskValid commandEffect startAnswer stepAnswer haltAnswer started stepped hueSaturationStart hueSaturationPass hueSet permilleOf pathDelta distance movedHue hasFlag

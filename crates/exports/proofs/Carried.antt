@@ -75,7 +75,7 @@ task-in-range n =
 
 options-in-range : (n : CommandNumbers) → InRangeOptions (optionsRead n)
 unfolding optionsRead
-options-in-range n = record { mask = omega arith; over = omega arith }
+options-in-range n = record { mask = omega arith; overrides = omega arith }
 
 hue-in-range : (n : CommandNumbers) → InRangeCommand (hueCommand n)
 unfolding hueCommand

@@ -29,42 +29,42 @@ abbrev is : CommandNumbers → ℕ → Bool
 is n kind = eqb (n .kind) kind
 
 unfoldable pub optionsRead : CommandNumbers → CommandOptions
-optionsRead n = record { mask = byte (n .mask); over = byte (n .over) }
+optionsRead n = record { mask = byte (n .mask); overrides = byte (n .over) }
 
 unfoldable pub hueCommand : CommandNumbers → Command
 hueCommand n =
-    cond (is n K.moveToHue) (Command.MoveToHue (byte (n .a)) (directionRead (n .b)) (short (n .c)) (optionsRead n))
-    (cond (is n K.moveHue) (Command.MoveHue (moveModeRead (n .a)) (byte (n .b)) (flag (n .c)) (optionsRead n))
-    (Command.StepHue (stepModeRead (n .a)) (byte (n .b)) (short (n .c)) (optionsRead n)))
+    cond (is n K.moveToHue) (Command.MoveToHue (byte (n .a)) (directionRead (n .b)) (short (n .c)))
+    (cond (is n K.moveHue) (Command.MoveHue (moveModeRead (n .a)) (byte (n .b)) (flag (n .c)))
+    (Command.StepHue (stepModeRead (n .a)) (byte (n .b)) (short (n .c))))
 
 unfoldable pub saturationCommand : CommandNumbers → Command
 saturationCommand n =
-    cond (is n K.moveToSaturation) (Command.MoveToSaturation (byte (n .a)) (short (n .b)) (optionsRead n))
-    (cond (is n K.moveSaturation) (Command.MoveSaturation (moveModeRead (n .a)) (byte (n .b)) (optionsRead n))
-    (cond (is n K.stepSaturation) (Command.StepSaturation (stepModeRead (n .a)) (byte (n .b)) (short (n .c)) (optionsRead n))
-    (Command.MoveToHueAndSaturation (byte (n .a)) (byte (n .b)) (short (n .c)) (flag (n .d)) (short (n .e)) (optionsRead n))))
+    cond (is n K.moveToSaturation) (Command.MoveToSaturation (byte (n .a)) (short (n .b)))
+    (cond (is n K.moveSaturation) (Command.MoveSaturation (moveModeRead (n .a)) (byte (n .b)))
+    (cond (is n K.stepSaturation) (Command.StepSaturation (stepModeRead (n .a)) (byte (n .b)) (short (n .c)))
+    (Command.MoveToHueAndSaturation (byte (n .a)) (byte (n .b)) (short (n .c)) (flag (n .d)) (short (n .e)))))
 
 unfoldable pub enhancedCommand : CommandNumbers → Command
 enhancedCommand n =
-    cond (is n K.enhancedMoveToHue) (Command.EnhancedMoveToHue (short (n .a)) (directionRead (n .b)) (short (n .c)) (optionsRead n))
-    (cond (is n K.enhancedMoveHue) (Command.EnhancedMoveHue (moveModeRead (n .a)) (short (n .b)) (optionsRead n))
-    (Command.EnhancedStepHue (stepModeRead (n .a)) (short (n .b)) (short (n .c)) (optionsRead n)))
+    cond (is n K.enhancedMoveToHue) (Command.EnhancedMoveToHue (short (n .a)) (directionRead (n .b)) (short (n .c)))
+    (cond (is n K.enhancedMoveHue) (Command.EnhancedMoveHue (moveModeRead (n .a)) (short (n .b)))
+    (Command.EnhancedStepHue (stepModeRead (n .a)) (short (n .b)) (short (n .c))))
 
 unfoldable pub miredsCommand : CommandNumbers → Command
 miredsCommand n =
-    cond (is n K.moveToColorTemperature) (Command.MoveToColorTemperature (short (n .a)) (short (n .b)) (optionsRead n))
-    (cond (is n K.moveColorTemperature) (Command.MoveColorTemperature (moveModeRead (n .a)) (short (n .b)) (short (n .c)) (short (n .d)) (optionsRead n))
-    (Command.StepColorTemperature (stepModeRead (n .a)) (short (n .b)) (short (n .c)) (short (n .d)) (short (n .e)) (optionsRead n)))
+    cond (is n K.moveToColorTemperature) (Command.MoveToColorTemperature (short (n .a)) (short (n .b)))
+    (cond (is n K.moveColorTemperature) (Command.MoveColorTemperature (moveModeRead (n .a)) (short (n .b)) (short (n .c)) (short (n .d)))
+    (Command.StepColorTemperature (stepModeRead (n .a)) (short (n .b)) (short (n .c)) (short (n .d)) (short (n .e))))
 
 unfoldable pub loopCommand : CommandNumbers → Command
-loopCommand n = Command.ColorLoopSet (byte (n .a)) (loopActionRead (n .b)) (loopDirectionRead (n .c)) (short (n .d)) (short (n .e)) (optionsRead n)
+loopCommand n = Command.ColorLoopSet (byte (n .a)) (loopActionRead (n .b)) (loopDirectionRead (n .c)) (short (n .d)) (short (n .e))
 
 unfoldable pub commandOf : CommandNumbers → Command
 commandOf n =
     cond (leb (n .kind) K.stepHue) (hueCommand n)
     (cond (leb (n .kind) K.moveToHueAndSaturation) (saturationCommand n)
     (cond (is n K.colorLoopSet) (loopCommand n)
-    (cond (is n K.stopMoveStep) (Command.StopMoveStep (optionsRead n))
+    (cond (is n K.stopMoveStep) Command.StopMoveStep
     (cond (leb K.enhancedMoveToHue (n .kind) && leb (n .kind) K.enhancedStepHue) (enhancedCommand n) (miredsCommand n)))))
 
 -- each argument is within its field: sixteen bits at most, eight for some, 0 or 1 for a flag
@@ -95,7 +95,7 @@ commandKnown n =
 
 abbrev pub commandNumbers : List ℕ → CommandNumbers
 commandNumbers w =
-    record { kind = at w 0; mask = at w 3; over = at w 4; a = at w 5; b = at w 6; c = at w 7; d = at w 8; e = at w 9 }
+    record { kind = at w 0; mask = at w 3; overrides = at w 4; a = at w 5; b = at w 6; c = at w 7; d = at w 8; e = at w 9 }
 
 abbrev pub startNumbers : List ℕ → TaskNumbers
 startNumbers w = record { kind = at w 3; a = at w 4; b = at w 5; c = at w 6; d = at w 7; e = at w 8; f = at w 9 }

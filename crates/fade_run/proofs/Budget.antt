@@ -143,7 +143,7 @@ module _ (l : Lamp) (task : HueSaturationMoveTo) (clock n : ℕ) (time : task .m
 
 module _ (w : Wanted) (j : ℕ) where
   abbrev asked : Command
-  asked = Command.MoveToHue (w .hue) (w .direction) (w .tenths) (record { mask = 0; over = 0 })
+  asked = Command.MoveToHue (w .hue) (w .direction) (w .tenths)
 
   abbrev task : Lamp → HueSaturationMoveTo
   task l = record { delta = HueDelta.By (pathDelta (l .color .hue) (stored (w .hue)) (w .direction)); saturation = TargetSaturation.Keep; ms = ms (w .tenths); enhanced = false }

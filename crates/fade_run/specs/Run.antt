@@ -70,7 +70,7 @@ afterCommand left clock a = cond (eqb (a .number) accepted) (startOf left clock 
 abbrev pub commanded : ℕ → Wanted → Lamp → Fade
 commanded left w l =
     afterCommand left (w .clock)
-    (commandAnswer l (Command.MoveToHue (w .hue) (w .direction) (w .tenths) (record { mask = 0; over = 0 })) OnOff.On (w .clock))
+    (commandAnswer l (request (Command.MoveToHue (w .hue) (w .direction) (w .tenths)) (record { mask = 0; overrides = 0 })) OnOff.On (w .clock))
 
 abbrev pub afterMaking : ℕ → Wanted → Made → Fade
 afterMaking left w (Made.Refused number) = Fade.Refused number

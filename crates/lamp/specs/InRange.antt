@@ -1,7 +1,7 @@
 -- The widths of the numbers of a lamp and of a call: facts that every lamp and call of a program has, and the premise of
 -- theorems over every list of calls. They are no part of form.
 use Prim.Native.Nat.{ℕ}
-use Rattle.matter.specs.InRange.{Byte, Short, Clock, InRangeBounds, InRangeCommand}
+use Rattle.matter.specs.InRange.{Byte, Short, Clock, InRangeBounds, InRangeRequest}
 use Rattle.tasks.specs.declared.Task.{Task}
 use Rattle.tasks.specs.InRange.{InRangeTask, InRangeRunning}
 use Rattle.lamp.specs.declared.Call.{Call}
@@ -24,7 +24,7 @@ pub record InRangeLamp (l : Lamp) : Type 0 where
   pub running : InRangeRunning (l .running)
 
 abbrev pub InRangeCall : Call → Type 0
-InRangeCall (Call.Command c onOff clock) = InRangeCommand c × Clock clock
+InRangeCall (Call.Command r onOff clock) = InRangeRequest r × Clock clock
 InRangeCall (Call.Start task clock) = InRangeTask task × Clock clock
 InRangeCall (Call.Step clock) = Clock clock
 InRangeCall (Call.Halt clock) = Clock clock

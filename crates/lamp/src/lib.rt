@@ -11,9 +11,9 @@ use matter::CLOCK_LIMIT;
 use matter::CLOCK_REFUSED;
 use matter::CROSSED_BOUNDS;
 use matter::ColorLoopDirectionEnum;
-use matter::Command;
 use matter::INVALID_LAMP;
 use matter::OnOff;
+use matter::Request;
 use notices::Notices;
 use remaining_time::RemainingTime;
 use tasks::GivenTask;
@@ -57,7 +57,7 @@ pub struct Answer {
 // A call of a lamp, with its clock. A command comes with what the on/off cluster says.
 pub enum Call {
     Command {
-        command: Command,
+        request: Request,
         on_off: OnOff,
         clock: u64,
     },

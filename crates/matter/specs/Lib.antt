@@ -6,3 +6,4 @@ pub mod Causes
 pub mod All
 pub mod Bounds
 pub mod InRange
+pub mod Requests

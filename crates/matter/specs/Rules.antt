@@ -1,4 +1,4 @@
--- Leave to run (document 01, leaf 3), a rate with its sign, and which mode goes with which (leaf 4).
+-- When a command may execute (document 01, leaf 3), a rate with its sign, and which mode goes with which (leaf 4).
 use Prim.Native.Nat.{ℕ}
 use mathlib.Core.Bool.{Bool, true, cond}
 use lib.IntN.{ℤ, pos, negℤ}
@@ -8,12 +8,13 @@ use Rattle.matter.specs.declared.enums.ColorModeEnum.{ColorModeEnum}
 use Rattle.matter.specs.declared.enums.EnhancedColorModeEnum.{EnhancedColorModeEnum}
 use Rattle.matter.specs.Flags.{hasFlag, executeIfOff, xy, hueAndSaturation, colorTemperature}
 
--- leave to execute: "No handler, or lamp on: yes. Lamp off: if the options mask has ExecuteIfOff (bit 0), the override's
+-- "Leave to run", document 01: "No handler, or lamp on: yes. Lamp off: if the options mask has ExecuteIfOff (bit 0), the override's
 -- bit decides, else the lamp's own option." From the lamp's options, the mask and the override
 abbrev pub mayExecute : OnOff → ℕ → ℕ → ℕ → Bool
-mayExecute OnOff.NoHandler options mask over = true
-mayExecute OnOff.On options mask over = true
-mayExecute OnOff.Off options mask over = cond (hasFlag mask executeIfOff) (hasFlag over executeIfOff) (hasFlag options executeIfOff)
+mayExecute OnOff.NoHandler options mask overrides = true
+mayExecute OnOff.On options mask overrides = true
+mayExecute OnOff.Off options mask overrides =
+    cond (hasFlag mask executeIfOff) (hasFlag overrides executeIfOff) (hasFlag options executeIfOff)
 
 -- a rate with the sign of its direction
 abbrev pub signed : MoveModeEnum → ℕ → ℤ

@@ -6,10 +6,10 @@ use crate::enums::DirectionEnum;
 use crate::enums::MoveModeEnum;
 use crate::enums::StepModeEnum;
 
-// OptionsMask and OptionsOverride, which every command carries.
+// OptionsMask and OptionsOverride, which come with every command.
 pub struct CommandOptions {
     pub mask: u8,
-    pub over: u8,
+    pub overrides: u8,
 }
 
 // The commands that are served, each with the arguments that the source's function of that name takes. Times are in
@@ -19,35 +19,29 @@ pub enum Command {
         hue: u8,
         direction: DirectionEnum,
         time: u16,
-        options: CommandOptions,
     },
     MoveHue {
         mode: MoveModeEnum,
         rate: u8,
         enhanced: bool,
-        options: CommandOptions,
     },
     StepHue {
         mode: StepModeEnum,
         size: u8,
         time: u16,
-        options: CommandOptions,
     },
     MoveToSaturation {
         saturation: u8,
         time: u16,
-        options: CommandOptions,
     },
     MoveSaturation {
         mode: MoveModeEnum,
         rate: u8,
-        options: CommandOptions,
     },
     StepSaturation {
         mode: StepModeEnum,
         size: u8,
         time: u16,
-        options: CommandOptions,
     },
     MoveToHueAndSaturation {
         hue: u8,
@@ -55,36 +49,30 @@ pub enum Command {
         time: u16,
         enhanced: bool,
         enhanced_hue: u16,
-        options: CommandOptions,
     },
     EnhancedMoveToHue {
         hue: u16,
         direction: DirectionEnum,
         time: u16,
-        options: CommandOptions,
     },
     EnhancedMoveHue {
         mode: MoveModeEnum,
         rate: u16,
-        options: CommandOptions,
     },
     EnhancedStepHue {
         mode: StepModeEnum,
         size: u16,
         time: u16,
-        options: CommandOptions,
     },
     MoveToColorTemperature {
         mireds: u16,
         time: u16,
-        options: CommandOptions,
     },
     MoveColorTemperature {
         mode: MoveModeEnum,
         rate: u16,
         min: u16,
         max: u16,
-        options: CommandOptions,
     },
     StepColorTemperature {
         mode: StepModeEnum,
@@ -92,7 +80,6 @@ pub enum Command {
         time: u16,
         min: u16,
         max: u16,
-        options: CommandOptions,
     },
     ColorLoopSet {
         flags: u8,
@@ -100,9 +87,12 @@ pub enum Command {
         direction: ColorLoopDirectionEnum,
         time: u16,
         start_hue: u16,
-        options: CommandOptions,
     },
-    StopMoveStep {
-        options: CommandOptions,
-    },
+    StopMoveStep,
+}
+
+// A command as it is received: with its options.
+pub struct Request {
+    pub options: CommandOptions,
+    pub command: Command,
 }

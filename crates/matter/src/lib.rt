@@ -16,6 +16,7 @@ pub use causes::INVALID_TASK;
 pub use causes::STEP_WHILE_IDLE;
 pub use commands::Command;
 pub use commands::CommandOptions;
+pub use commands::Request;
 pub use enums::ColorLoopActionEnum;
 pub use enums::ColorLoopActionFound;
 pub use enums::ColorLoopDirectionEnum;

@@ -37,7 +37,7 @@ pub fn contains(bits: u32, flag: u32) -> bool
     bits / flag % 2 == 1
 }
 
-// Leave to run: without an on/off cluster, or on, always. Off: ExecuteIfOff of the override where the mask has it,
+// Whether a command may execute: without an on/off cluster, or on, always. Off: ExecuteIfOff of the override where the mask has it,
 // else of the lamp's own options.
 pub fn should_continue(on_off: OnOff, options: u8, options_mask: u8, options_override: u8) -> bool
     ensures { λ r. ⌜ r ≡ mayExecute «on_off» options «options_mask» «options_override» ⌝ }

@@ -63,7 +63,7 @@ lampAt hue =
 -- ---- the fades
 
 abbrev pub plain : CommandOptions
-plain = record { mask = 0; over = 0 }
+plain = record { mask = 0; overrides = 0 }
 
 -- a fade that is given and started at 5000, with nothing before or between
 abbrev pub at5000 : Lamp → HueCommand → List Call → Fade
@@ -107,22 +107,22 @@ amongOthers =
       move = record { enhanced = true; hue = 1000; direction = DirectionEnum.Up; tenths = 10; options = plain };
       onOff = OnOff.On;
       clock = 5000;
-      between = Call.Command (Command.MoveToSaturation 100 20 plain) OnOff.NoHandler 5050 ∷ [];
+      between = Call.Command (request (Command.MoveToSaturation 100 20) plain) OnOff.NoHandler 5050 ∷ [];
       start = 5100;
       calls =
           Call.Step 5200
           -- refused: an earlier clock
           ∷ Call.Step 5000
           -- accepted, and its task is not started
-          ∷ Call.Command (Command.MoveToColorTemperature 300 20 plain) OnOff.On 5250
+          ∷ Call.Command (request (Command.MoveToColorTemperature 300 20) plain) OnOff.On 5250
           -- refused: rate 0
-          ∷ Call.Command (Command.MoveHue MoveModeEnum.Up 0 false plain) OnOff.On 5260
+          ∷ Call.Command (request (Command.MoveHue MoveModeEnum.Up 0 false) plain) OnOff.On 5260
           -- refused: the Stop task
           ∷ Call.Start Task.Stop 5260
           -- refused: an earlier clock
-          ∷ Call.Command (Command.ColorLoopSet 1 ColorLoopActionEnum.ActivateFromEnhancedCurrentHue ColorLoopDirectionEnum.Increment 25 0 plain) OnOff.On 5240
+          ∷ Call.Command (request (Command.ColorLoopSet 1 ColorLoopActionEnum.ActivateFromEnhancedCurrentHue ColorLoopDirectionEnum.Increment 25 0) plain) OnOff.On 5240
           -- accepted, and skipped
-          ∷ Call.Command (Command.MoveToHue 254 DirectionEnum.Shortest 1 plain) OnOff.Off 5270
+          ∷ Call.Command (request (Command.MoveToHue 254 DirectionEnum.Shortest 1) plain) OnOff.Off 5270
           -- refused: past the limit
           ∷ Call.Halt 1_099_511_627_777
           -- far behind the time
@@ -157,7 +157,7 @@ in-range-lamp hue h =
     }
 
 pub in-range-plain : InRangeOptions plain
-in-range-plain = record { mask = lit< tt; over = lit< tt }
+in-range-plain = record { mask = lit< tt; overrides = lit< tt }
 
 -- the premises of a fade: the types, and six tests that compute
 pub meets : (e : Fade) → InRangeLamp (e .lamp) → InRangeCalls (listOf e) → lampValid (e .lamp) ≡ true →

@@ -32,8 +32,8 @@ pub record HueCommand : Type 0 where
 
 abbrev pub asCommand : HueCommand → Command
 asCommand h =
-    cond (h .enhanced) (Command.EnhancedMoveToHue (h .hue) (h .direction) (h .tenths) (h .options))
-    (Command.MoveToHue (h .hue) (h .direction) (h .tenths) (h .options))
+    cond (h .enhanced) (Command.EnhancedMoveToHue (h .hue) (h .direction) (h .tenths))
+    (Command.MoveToHue (h .hue) (h .direction) (h .tenths))
 
 -- "Target: the command's hue, a plain one times 256"
 abbrev pub target : HueCommand → ℕ

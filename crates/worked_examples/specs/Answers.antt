@@ -108,33 +108,33 @@ miredsMove rate min max = Task.ColorTemperatureMove (record { rate = rate; min =
 
 -- a mired step up by 10 with limits
 abbrev pub tenUp : ℕ → ℕ → Command
-tenUp min max = Command.StepColorTemperature StepModeEnum.Up 10 7 min max noOptions
+tenUp min max = Command.StepColorTemperature StepModeEnum.Up 10 7 min max
 
 -- ---- each command but the colour loop's, on the lamp of the cases: hue 0, saturation 0, mireds 250 in 153 to 500
 
 abbrev pub commands : List Row
 commands =
-    gives (Command.MoveToHue 200 DirectionEnum.Shortest 7 noOptions) (toHue (negℤ (pos 14336)) false)
-    ∷ gives (Command.MoveHue MoveModeEnum.Up 10 false noOptions) (hueMove MoveModeEnum.Up 2560 false)
-    ∷ gives (Command.MoveHue MoveModeEnum.Down 10 true noOptions) (hueMove MoveModeEnum.Down 10 true)
-    ∷ gives (Command.StepHue StepModeEnum.Down 5 7 noOptions) (toHue (negℤ (pos 1280)) false)
-    ∷ gives (Command.MoveToSaturation 77 7 noOptions) (toSaturation 77)
-    ∷ gives (Command.MoveSaturation MoveModeEnum.Down 9 noOptions) (saturationMove MoveModeEnum.Down 9)
-    ∷ gives (Command.StepSaturation StepModeEnum.Up 255 7 noOptions) (toSaturation 254)
-    ∷ gives (Command.MoveToHueAndSaturation 200 77 7 false 1234 noOptions) (toBoth (negℤ (pos 14336)) 77 false)
-    ∷ gives (Command.MoveToHueAndSaturation 200 77 7 true 1234 noOptions) (toBoth (pos 1234) 77 true)
-    ∷ gives (Command.EnhancedMoveToHue 60000 DirectionEnum.Up 7 noOptions) (toHue (pos 60000) true)
-    ∷ gives (Command.EnhancedMoveHue MoveModeEnum.Down 1000 noOptions) (hueMove MoveModeEnum.Down 1000 true)
-    ∷ gives (Command.EnhancedStepHue StepModeEnum.Up 1000 7 noOptions) (toHue (pos 1000) true)
-    ∷ gives (Command.StopMoveStep noOptions) Task.Stop
+    gives (Command.MoveToHue 200 DirectionEnum.Shortest 7) (toHue (negℤ (pos 14336)) false)
+    ∷ gives (Command.MoveHue MoveModeEnum.Up 10 false) (hueMove MoveModeEnum.Up 2560 false)
+    ∷ gives (Command.MoveHue MoveModeEnum.Down 10 true) (hueMove MoveModeEnum.Down 10 true)
+    ∷ gives (Command.StepHue StepModeEnum.Down 5 7) (toHue (negℤ (pos 1280)) false)
+    ∷ gives (Command.MoveToSaturation 77 7) (toSaturation 77)
+    ∷ gives (Command.MoveSaturation MoveModeEnum.Down 9) (saturationMove MoveModeEnum.Down 9)
+    ∷ gives (Command.StepSaturation StepModeEnum.Up 255 7) (toSaturation 254)
+    ∷ gives (Command.MoveToHueAndSaturation 200 77 7 false 1234) (toBoth (negℤ (pos 14336)) 77 false)
+    ∷ gives (Command.MoveToHueAndSaturation 200 77 7 true 1234) (toBoth (pos 1234) 77 true)
+    ∷ gives (Command.EnhancedMoveToHue 60000 DirectionEnum.Up 7) (toHue (pos 60000) true)
+    ∷ gives (Command.EnhancedMoveHue MoveModeEnum.Down 1000) (hueMove MoveModeEnum.Down 1000 true)
+    ∷ gives (Command.EnhancedStepHue StepModeEnum.Up 1000 7) (toHue (pos 1000) true)
+    ∷ gives Command.StopMoveStep Task.Stop
     -- the target clamped to the bounds; a move's own limits with only 0 replaced, crossed ones too
-    ∷ gives (Command.MoveToColorTemperature 10 7 noOptions) (toMireds 153)
-    ∷ gives (Command.MoveToColorTemperature 600 7 noOptions) (toMireds 500)
-    ∷ gives (Command.MoveColorTemperature MoveModeEnum.Down 30 0 600 noOptions) (miredsMove (negℤ (pos 30)) 153 600)
-    ∷ gives (Command.MoveColorTemperature MoveModeEnum.Up 30 100 0 noOptions) (miredsMove (pos 30) 100 500)
-    ∷ gives (Command.MoveColorTemperature MoveModeEnum.Up 10 400 300 noOptions) (miredsMove (pos 10) 400 300)
-    ∷ gives (Command.StepColorTemperature StepModeEnum.Up 400 7 0 0 noOptions) (toMireds 500)
-    ∷ gives (Command.StepColorTemperature StepModeEnum.Down 40 7 220 0 noOptions) (toMireds 220)
+    ∷ gives (Command.MoveToColorTemperature 10 7) (toMireds 153)
+    ∷ gives (Command.MoveToColorTemperature 600 7) (toMireds 500)
+    ∷ gives (Command.MoveColorTemperature MoveModeEnum.Down 30 0 600) (miredsMove (negℤ (pos 30)) 153 600)
+    ∷ gives (Command.MoveColorTemperature MoveModeEnum.Up 30 100 0) (miredsMove (pos 30) 100 500)
+    ∷ gives (Command.MoveColorTemperature MoveModeEnum.Up 10 400 300) (miredsMove (pos 10) 400 300)
+    ∷ gives (Command.StepColorTemperature StepModeEnum.Up 400 7 0 0) (toMireds 500)
+    ∷ gives (Command.StepColorTemperature StepModeEnum.Down 40 7 220 0) (toMireds 220)
     -- a mired step's limits crossed: only where lo is above hi
     ∷ refuses (tenUp 400 300) 3
     ∷ gives (tenUp 300 300) (toMireds 300)
@@ -143,31 +143,31 @@ commands =
     ∷ refuses (tenUp 0 100) 3
     ∷ gives (tenUp 0 153) (toMireds 153)
     ∷ passes (tenUp 400 300)
-    ∷ refuses (Command.StepColorTemperature StepModeEnum.Up 0 7 400 300 noOptions) 2
+    ∷ refuses (Command.StepColorTemperature StepModeEnum.Up 0 7 400 300) 2
     -- Stop mode, before rate and off
-    ∷ gives (Command.MoveHue MoveModeEnum.Stop 0 false noOptions) Task.Stop
-    ∷ gives (Command.EnhancedMoveHue MoveModeEnum.Stop 0 noOptions) Task.Stop
-    ∷ gives (Command.MoveSaturation MoveModeEnum.Stop 0 noOptions) Task.Stop
-    ∷ gives (Command.MoveColorTemperature MoveModeEnum.Stop 0 400 300 noOptions) Task.Stop
-    ∷ givesOff (Command.MoveHue MoveModeEnum.Stop 0 false noOptions) Task.Stop
+    ∷ gives (Command.MoveHue MoveModeEnum.Stop 0 false) Task.Stop
+    ∷ gives (Command.EnhancedMoveHue MoveModeEnum.Stop 0) Task.Stop
+    ∷ gives (Command.MoveSaturation MoveModeEnum.Stop 0) Task.Stop
+    ∷ gives (Command.MoveColorTemperature MoveModeEnum.Stop 0 400 300) Task.Stop
+    ∷ givesOff (Command.MoveHue MoveModeEnum.Stop 0 false) Task.Stop
     -- the numbers before off; off without leave
-    ∷ refusesOff (Command.MoveToHue 255 DirectionEnum.Shortest 7 noOptions) 1
-    ∷ refusesOff (Command.MoveSaturation MoveModeEnum.Up 0 noOptions) 2
-    ∷ passes (Command.MoveToHue 128 DirectionEnum.Shortest 7 noOptions)
-    ∷ passes (Command.StopMoveStep noOptions)
+    ∷ refusesOff (Command.MoveToHue 255 DirectionEnum.Shortest 7) 1
+    ∷ refusesOff (Command.MoveSaturation MoveModeEnum.Up 0) 2
+    ∷ passes (Command.MoveToHue 128 DirectionEnum.Shortest 7)
+    ∷ passes Command.StopMoveStep
     ∷ passes (Command.ColorLoopSet 15 ColorLoopActionEnum.ActivateFromEnhancedCurrentHue
-    ColorLoopDirectionEnum.Decrement 30 100 noOptions)
+    ColorLoopDirectionEnum.Decrement 30 100)
     ∷ []
 
 -- on a lamp that runs, at hue 16,384 and saturation 50
 abbrev pub busyCommands : List Row
 busyCommands =
-    gives (Command.MoveToHue 0 DirectionEnum.Shortest 7 noOptions) (toHue (negℤ (pos 16384)) false)
-    ∷ gives (Command.EnhancedMoveToHue 0 DirectionEnum.Longest 7 noOptions) (toHue (pos 49152) true)
-    ∷ gives (Command.StepSaturation StepModeEnum.Up 40 7 noOptions) (toSaturation 90)
-    ∷ gives (Command.StepSaturation StepModeEnum.Up 205 7 noOptions) (toSaturation 254)
-    ∷ gives (Command.StepSaturation StepModeEnum.Down 40 7 noOptions) (toSaturation 10)
-    ∷ gives (Command.StepSaturation StepModeEnum.Down 60 7 noOptions) (toSaturation 0)
+    gives (Command.MoveToHue 0 DirectionEnum.Shortest 7) (toHue (negℤ (pos 16384)) false)
+    ∷ gives (Command.EnhancedMoveToHue 0 DirectionEnum.Longest 7) (toHue (pos 49152) true)
+    ∷ gives (Command.StepSaturation StepModeEnum.Up 40 7) (toSaturation 90)
+    ∷ gives (Command.StepSaturation StepModeEnum.Up 205 7) (toSaturation 254)
+    ∷ gives (Command.StepSaturation StepModeEnum.Down 40 7) (toSaturation 10)
+    ∷ gives (Command.StepSaturation StepModeEnum.Down 60 7) (toSaturation 0)
     ∷ []
 
 abbrev pub CommandsReported : Type 0
@@ -218,7 +218,7 @@ abbrev pub withFlags : ℕ → ℕ → Answer
 withFlags flags seconds =
     commandAnswer lamp
     (Command.ColorLoopSet flags ColorLoopActionEnum.ActivateFromColorLoopStartEnhancedHue ColorLoopDirectionEnum.Decrement
-    seconds 100 noOptions)
+    seconds 100)
     OnOff.On now
 
 abbrev pub FlagReported : Type 0

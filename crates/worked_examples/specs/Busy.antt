@@ -36,11 +36,11 @@ BusyRuns =
 abbrev pub busyTransitions : List Run
 busyTransitions =
     -- moves at a rate and the loop: 6 tenths as they were
-    run busy (Command.MoveHue MoveModeEnum.Up 10 false noOptions) (650 ∷ 1650 ∷ [])
+    run busy (Command.MoveHue MoveModeEnum.Up 10 false) (650 ∷ 1650 ∷ [])
     (going hue 16384 50 250 6 (15 ∷ []) 100
     ∷ going hue 16640 50 250 6 (14 ∷ 15 ∷ []) 100
     ∷ going hue 19200 50 250 6 (2 ∷ 6 ∷ 7 ∷ 14 ∷ 15 ∷ []) 100 ∷ [])
-    ∷ run busy (Command.MoveSaturation MoveModeEnum.Down 100 noOptions) (650 ∷ 1050 ∷ [])
+    ∷ run busy (Command.MoveSaturation MoveModeEnum.Down 100) (650 ∷ 1050 ∷ [])
     (going hue 16384 50 250 6 (15 ∷ []) 100
     ∷ going hue 16384 40 250 6 (14 ∷ 15 ∷ []) 100
     ∷ done hue 16384 0 250 6 (4 ∷ 6 ∷ 7 ∷ 14 ∷ 15 ∷ []) ∷ [])
@@ -53,11 +53,11 @@ busyTransitions =
     ∷ going enhanced 22937 50 250 6 (14 ∷ 15 ∷ []) 100
     ∷ going enhanced 16384 50 250 6 (14 ∷ 15 ∷ []) 5 ∷ [])
     -- moves to a number
-    ∷ run busy (Command.MoveToHueAndSaturation 0 100 10 false 0 noOptions) (1050 ∷ 1550 ∷ [])
+    ∷ run busy (Command.MoveToHueAndSaturation 0 100 10 false 0) (1050 ∷ 1550 ∷ [])
     (going hue 16384 50 250 10 (15 ∷ []) 100
     ∷ going hue 8192 75 250 5 (2 ∷ 6 ∷ 7 ∷ 14 ∷ 14 ∷ 15 ∷ []) 100
     ∷ done hue 0 100 250 0 (2 ∷ 6 ∷ 7 ∷ 14 ∷ 4 ∷ 6 ∷ 7 ∷ 14 ∷ 15 ∷ 1 ∷ []) ∷ [])
-    ∷ run busy (Command.MoveToColorTemperature 153 10 noOptions) (1050 ∷ 1550 ∷ [])
+    ∷ run busy (Command.MoveToColorTemperature 153 10) (1050 ∷ 1550 ∷ [])
     (going hue 16384 50 250 10 (16 ∷ []) 100
     ∷ going warmth 16384 50 202 5 (5 ∷ 6 ∷ 7 ∷ 14 ∷ 16 ∷ []) 100
     ∷ done warmth 16384 50 153 0 (5 ∷ 6 ∷ 7 ∷ 14 ∷ 16 ∷ 1 ∷ []) ∷ [])
@@ -76,11 +76,11 @@ HaltLeaves =
 
 abbrev pub moving : Lamp
 moving =
-    next (started (Command.EnhancedMoveToHue 1280 DirectionEnum.Shortest 2 noOptions)) (λ (l : Lamp). stepAnswer l 5100) .lamp
+    next (started (Command.EnhancedMoveToHue 1280 DirectionEnum.Shortest 2)) (λ (l : Lamp). stepAnswer l 5100) .lamp
 
 abbrev pub acted : ColorLoopActionEnum → Lamp → Answer
 acted action l =
-    commandAnswer l (Command.ColorLoopSet 1 action ColorLoopDirectionEnum.Decrement 1 0 noOptions) OnOff.On now
+    commandAnswer l (Command.ColorLoopSet 1 action ColorLoopDirectionEnum.Decrement 1 0) OnOff.On now
 
 abbrev pub on : Answer
 on = acted ColorLoopActionEnum.ActivateFromColorLoopStartEnhancedHue moving

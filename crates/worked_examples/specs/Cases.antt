@@ -35,7 +35,7 @@ abbrev pub lamp : Lamp
 lamp = freshLamp (record { min = 153; max = 500 }) 31 0 5000
 
 abbrev pub noOptions : CommandOptions
-noOptions = record { mask = 0; over = 0 }
+noOptions = record { mask = 0; overrides = 0 }
 
 -- a command to a lamp that is on, at the lamp's clock
 abbrev pub given : Lamp → Command → Answer
@@ -76,7 +76,7 @@ answers c times = answersOn lamp c times
 unfoldable pub fades : Answer → List ℕ → Answer
 fades a [] = a
 fades a (tenths ∷ later) =
-    fades (next a (λ (l : Lamp). startedOn l (Command.MoveToHue 128 DirectionEnum.Shortest tenths noOptions))) later
+    fades (next a (λ (l : Lamp). startedOn l (Command.MoveToHue 128 DirectionEnum.Shortest tenths))) later
 
 -- ---- what is seen of an answer
 
@@ -166,7 +166,7 @@ progressOf w time elapsed = (permilleOf elapsed time, partOf w (permilleOf elaps
 abbrev pub Holds : Case → Type 0
 Holds (way from to direction answer) = pathDelta from to direction ≡ answer
 Holds equalHues = (hue : ℕ) (direction : DirectionEnum) → hue < 65536 → pathDelta hue hue direction ≡ pos 0
-Holds (moveToHue hue number) = given lamp (Command.MoveToHue hue DirectionEnum.Shortest 10 noOptions) .number ≡ number
+Holds (moveToHue hue number) = given lamp (Command.MoveToHue hue DirectionEnum.Shortest 10) .number ≡ number
 Holds (progress w time elapsed permille part) = progressOf w time elapsed ≡ (permille, part)
 Holds (hues c start points) =
     map hueSeen (answers c (map (λ (p : Point). p .0) points)) ≡ ((0, start) ∷ map (λ (p : Point). (0, p .1)) points)
@@ -187,18 +187,18 @@ Each (c ∷ cs) = Holds c × Each cs
 
 -- the colour loop from the hue that is shown, at a second a turn: flags for action, direction and time
 abbrev pub loop : ColorLoopDirectionEnum → Command
-loop direction = Command.ColorLoopSet 7 ColorLoopActionEnum.ActivateFromEnhancedCurrentHue direction 1 0 noOptions
+loop direction = Command.ColorLoopSet 7 ColorLoopActionEnum.ActivateFromEnhancedCurrentHue direction 1 0
 
 -- mireds up at 100 a second between two limits
 abbrev pub upBetween : ℕ → ℕ → Command
-upBetween min max = Command.MoveColorTemperature MoveModeEnum.Up 100 min max noOptions
+upBetween min max = Command.MoveColorTemperature MoveModeEnum.Up 100 min max
 
 -- a lamp whose loop is active, halfway through a move of hue and saturation (`busy-runs` in Busy)
 abbrev pub busy : Lamp
 busy =
     next
     (startedOn (given lamp (loop ColorLoopDirectionEnum.Decrement) .lamp)
-    (Command.MoveToHueAndSaturation 128 100 11 false 0 noOptions))
+    (Command.MoveToHueAndSaturation 128 100 11 false 0))
     (λ (l : Lamp). stepAnswer l 5550) .lamp
 
 abbrev pub cases : List Case
@@ -213,10 +213,10 @@ cases =
     ∷ moveToHue 255 1
     -- K5: in 70 tenths from 0 up to 65,280
     ∷ progress (pos 65280) 7000 3000 428 (pos 27939)
-    ∷ hues (Command.EnhancedMoveToHue 65280 DirectionEnum.Up 70 noOptions) 0 ((3000, 27939) ∷ [])
+    ∷ hues (Command.EnhancedMoveToHue 65280 DirectionEnum.Up 70) 0 ((3000, 27939) ∷ [])
     -- K6: in 10 tenths from 250 to 153
     ∷ progress (negℤ (pos 97)) 1000 500 500 (negℤ (pos 48))
-    ∷ mireds (Command.MoveToColorTemperature 153 10 noOptions) (250, false) ((500, 202, false) ∷ [])
+    ∷ mireds (Command.MoveToColorTemperature 153 10) (250, false) ((500, 202, false) ∷ [])
     -- K7: the first two at a start or not
     ∷ remaining 0 10 false false
     ∷ remaining 0 10 true false
@@ -230,7 +230,7 @@ cases =
     ∷ startReports (50 ∷ 61 ∷ []) (1 ∷ 15 ∷ [])
     -- K8: of 40 tenths, after 1 ms
     ∷ tenths 3999 40
-    ∷ left (Command.MoveToHue 128 DirectionEnum.Shortest 40 noOptions) 40 ((1, 40) ∷ [])
+    ∷ left (Command.MoveToHue 128 DirectionEnum.Shortest 40) 40 ((1, 40) ∷ [])
     -- K9
     ∷ hues (loop ColorLoopDirectionEnum.Increment) 0 ((994, 65142) ∷ (995, 0) ∷ (1005, 0) ∷ (1006, 393) ∷ [])
     ∷ hues (loop ColorLoopDirectionEnum.Increment) 0 ((5, 327) ∷ [])

@@ -32,7 +32,7 @@ begun delta saturation ms enhanced = begunOn lamp delta saturation ms enhanced
 -- ---- `fade` on `128 0 2 5000`: "15", "13 2 6 7 14 15", "13 2 6 7 14 15 1"
 
 abbrev pub fade : Command
-fade = Command.MoveToHue 128 DirectionEnum.Shortest 2 noOptions
+fade = Command.MoveToHue 128 DirectionEnum.Shortest 2
 
 abbrev pub FadeCommand : Type 0
 FadeCommand =
@@ -74,7 +74,7 @@ AtOnceReported =
 
 abbrev pub loopFlags : ℕ → ColorLoopActionEnum → Lamp → Answer
 loopFlags flags action l =
-    commandAnswer l (Command.ColorLoopSet flags action ColorLoopDirectionEnum.Increment 30 100 noOptions) OnOff.On 5000
+    commandAnswer l (Command.ColorLoopSet flags action ColorLoopDirectionEnum.Increment 30 100) OnOff.On 5000
 
 abbrev pub looped : ColorLoopActionEnum → Lamp → Answer
 looped action l = loopFlags 15 action l

@@ -107,25 +107,25 @@ RunsReported runs =
 
 -- the lamp of the cases brought at once to saturation 100; to hue 1280, enhanced; to 300 mireds
 abbrev pub saturated : Lamp
-saturated = started (Command.MoveToSaturation 100 0 noOptions) .lamp
+saturated = started (Command.MoveToSaturation 100 0) .lamp
 
 abbrev pub hued : Lamp
-hued = started (Command.EnhancedMoveToHue 1280 DirectionEnum.Shortest 0 noOptions) .lamp
+hued = started (Command.EnhancedMoveToHue 1280 DirectionEnum.Shortest 0) .lamp
 
 abbrev pub warmed : Lamp
-warmed = started (Command.MoveToColorTemperature 300 0 noOptions) .lamp
+warmed = started (Command.MoveToColorTemperature 300 0) .lamp
 
 abbrev pub transitions : List Run
 transitions =
     -- mireds from 250 to 153 in 10 tenths; in 11 tenths; and from 250 to 250, with no way
-    run lamp (Command.MoveToColorTemperature 153 10 noOptions) (500 ∷ 600 ∷ 950 ∷ 1000 ∷ [])
+    run lamp (Command.MoveToColorTemperature 153 10) (500 ∷ 600 ∷ 950 ∷ 1000 ∷ [])
     (going xy 0 0 250 10 (16 ∷ []) 100
     ∷ going warmth 0 0 202 5 ofMireds 100
     ∷ going warmth 0 0 192 4 (13 ∷ 14 ∷ 16 ∷ []) 100
     ∷ going warmth 0 0 158 1 (13 ∷ 14 ∷ 16 ∷ []) 50
     ∷ done warmth 0 0 153 0 (13 ∷ 5 ∷ 6 ∷ 7 ∷ 14 ∷ 16 ∷ 1 ∷ []) ∷ [])
-    ∷ run lamp (Command.MoveToColorTemperature 153 11 noOptions) [] (going xy 0 0 250 11 (1 ∷ 16 ∷ []) 100 ∷ [])
-    ∷ run lamp (Command.MoveToColorTemperature 250 11 noOptions) [] (done warmth 0 0 250 0 (1 ∷ 13 ∷ 5 ∷ 6 ∷ 7 ∷ 14 ∷ 16 ∷ 1 ∷ []) ∷ [])
+    ∷ run lamp (Command.MoveToColorTemperature 153 11) [] (going xy 0 0 250 11 (1 ∷ 16 ∷ []) 100 ∷ [])
+    ∷ run lamp (Command.MoveToColorTemperature 250 11) [] (done warmth 0 0 250 0 (1 ∷ 13 ∷ 5 ∷ 6 ∷ 7 ∷ 14 ∷ 16 ∷ 1 ∷ []) ∷ [])
     -- mireds up at 100 a second from 250 to 500, reported a second after the last notice, not after the last change; and down
     -- to 153
     ∷ run lamp (upBetween 0 0) (100 ∷ 200 ∷ 1100 ∷ 2500 ∷ [])
@@ -134,73 +134,73 @@ transitions =
     ∷ going warmth 0 0 270 0 (13 ∷ 14 ∷ 16 ∷ []) 100
     ∷ going warmth 0 0 360 0 ofMireds 100
     ∷ done warmth 0 0 500 0 ofMireds ∷ [])
-    ∷ run lamp (Command.MoveColorTemperature MoveModeEnum.Down 100 0 0 noOptions) (500 ∷ 970 ∷ [])
+    ∷ run lamp (Command.MoveColorTemperature MoveModeEnum.Down 100 0 0) (500 ∷ 970 ∷ [])
     (going xy 0 0 250 0 (16 ∷ []) 100
     ∷ going warmth 0 0 200 0 ofMireds 100
     ∷ done warmth 0 0 153 0 ofMireds ∷ [])
     -- a mired step down by 50
-    ∷ run lamp (Command.StepColorTemperature StepModeEnum.Down 50 10 0 0 noOptions) (500 ∷ 1000 ∷ [])
+    ∷ run lamp (Command.StepColorTemperature StepModeEnum.Down 50 10 0 0) (500 ∷ 1000 ∷ [])
     (going xy 0 0 250 10 (16 ∷ []) 100
     ∷ going warmth 0 0 225 5 ofMireds 100
     ∷ done warmth 0 0 200 0 (13 ∷ 5 ∷ 6 ∷ 7 ∷ 14 ∷ 16 ∷ 1 ∷ []) ∷ [])
     -- saturation up at 100 a second from 0 to 254; down from 100 to 0; and down where it stands at 0 already
-    ∷ run lamp (Command.MoveSaturation MoveModeEnum.Up 100 noOptions) (100 ∷ 200 ∷ 1100 ∷ 2540 ∷ [])
+    ∷ run lamp (Command.MoveSaturation MoveModeEnum.Up 100) (100 ∷ 200 ∷ 1100 ∷ 2540 ∷ [])
     (going xy 0 0 250 0 (15 ∷ []) 100
     ∷ going hue 0 10 250 0 ofSaturation 100
     ∷ going hue 0 20 250 0 (13 ∷ 14 ∷ 15 ∷ []) 100
     ∷ going hue 0 110 250 0 ofSaturation 100
     ∷ done hue 0 254 250 0 ofSaturation ∷ [])
-    ∷ run saturated (Command.MoveSaturation MoveModeEnum.Down 100 noOptions) (500 ∷ 1000 ∷ [])
+    ∷ run saturated (Command.MoveSaturation MoveModeEnum.Down 100) (500 ∷ 1000 ∷ [])
     (going hue 0 100 250 0 (15 ∷ []) 100
     ∷ going hue 0 50 250 0 (13 ∷ 14 ∷ 15 ∷ []) 100
     ∷ done hue 0 0 250 0 ofSaturation ∷ [])
-    ∷ run lamp (Command.MoveSaturation MoveModeEnum.Down 100 noOptions) [] (done hue 0 0 250 0 ofSaturation ∷ [])
+    ∷ run lamp (Command.MoveSaturation MoveModeEnum.Down 100) [] (done hue 0 0 250 0 ofSaturation ∷ [])
     -- a saturation step in 10 tenths; to 100 and down
-    ∷ run lamp (Command.StepSaturation StepModeEnum.Up 100 10 noOptions) (500 ∷ 950 ∷ 1000 ∷ [])
+    ∷ run lamp (Command.StepSaturation StepModeEnum.Up 100 10) (500 ∷ 950 ∷ 1000 ∷ [])
     (going xy 0 0 250 10 (15 ∷ []) 100
     ∷ going hue 0 50 250 5 ofSaturation 100
     ∷ going hue 0 95 250 1 (13 ∷ 14 ∷ 15 ∷ []) 50
     ∷ done hue 0 100 250 0 (13 ∷ 4 ∷ 6 ∷ 7 ∷ 14 ∷ 15 ∷ 1 ∷ []) ∷ [])
-    ∷ run saturated (Command.StepSaturation StepModeEnum.Down 40 10 noOptions) (500 ∷ 1000 ∷ [])
+    ∷ run saturated (Command.StepSaturation StepModeEnum.Down 40 10) (500 ∷ 1000 ∷ [])
     (going hue 0 100 250 10 (15 ∷ []) 100
     ∷ going hue 0 80 250 5 (13 ∷ 14 ∷ 15 ∷ []) 100
     ∷ done hue 0 60 250 0 (13 ∷ 4 ∷ 6 ∷ 7 ∷ 14 ∷ 15 ∷ 1 ∷ []) ∷ [])
     -- hue and saturation to 128 and 100 in 10 tenths; and enhanced
-    ∷ run lamp (Command.MoveToHueAndSaturation 128 100 10 false 0 noOptions) (500 ∷ 600 ∷ 1000 ∷ [])
+    ∷ run lamp (Command.MoveToHueAndSaturation 128 100 10 false 0) (500 ∷ 600 ∷ 1000 ∷ [])
     (going xy 0 0 250 10 (15 ∷ []) 100
     ∷ going hue 16384 50 250 5 (13 ∷ 2 ∷ 6 ∷ 7 ∷ 14 ∷ 13 ∷ 4 ∷ 6 ∷ 7 ∷ 14 ∷ 15 ∷ []) 100
     ∷ going hue 19660 60 250 4 (13 ∷ 14 ∷ 13 ∷ 14 ∷ 15 ∷ []) 100
     ∷ done hue 32768 100 250 0 (13 ∷ 2 ∷ 6 ∷ 7 ∷ 14 ∷ 13 ∷ 4 ∷ 6 ∷ 7 ∷ 14 ∷ 15 ∷ 1 ∷ []) ∷ [])
-    ∷ run lamp (Command.MoveToHueAndSaturation 0 100 10 true 1280 noOptions) (0 ∷ 500 ∷ [])
+    ∷ run lamp (Command.MoveToHueAndSaturation 0 100 10 true 1280) (0 ∷ 500 ∷ [])
     (going xy 0 0 250 10 (15 ∷ []) 100
     ∷ going xy 0 0 250 10 (15 ∷ []) 100
     ∷ going enhanced 640 50 250 5 (13 ∷ 2 ∷ 3 ∷ 6 ∷ 7 ∷ 14 ∷ 13 ∷ 4 ∷ 6 ∷ 7 ∷ 14 ∷ 15 ∷ []) 100 ∷ [])
     -- hue to 128 in the longest time, 65,535 tenths
-    ∷ run lamp (Command.MoveToHue 128 DirectionEnum.Shortest 65535 noOptions) (6_553_499 ∷ 6_553_500 ∷ [])
+    ∷ run lamp (Command.MoveToHue 128 DirectionEnum.Shortest 65535) (6_553_499 ∷ 6_553_500 ∷ [])
     (going xy 0 0 250 65535 (1 ∷ 15 ∷ []) 100
     ∷ going hue 32735 0 250 1 ofHue 1
     ∷ done hue 32768 0 250 0 (13 ∷ 2 ∷ 6 ∷ 7 ∷ 14 ∷ 15 ∷ 1 ∷ []) ∷ [])
     -- enhanced hue down past 0; a plain step down; an enhanced step by 1, which stands still until its end
-    ∷ run lamp (Command.EnhancedMoveToHue 65000 DirectionEnum.Down 10 noOptions) (500 ∷ 1000 ∷ [])
+    ∷ run lamp (Command.EnhancedMoveToHue 65000 DirectionEnum.Down 10) (500 ∷ 1000 ∷ [])
     (going xy 0 0 250 10 (15 ∷ []) 100
     ∷ going enhanced 65268 0 250 5 (13 ∷ 2 ∷ 3 ∷ 6 ∷ 7 ∷ 14 ∷ 15 ∷ []) 100
     ∷ done enhanced 65000 0 250 0 (13 ∷ 2 ∷ 3 ∷ 6 ∷ 7 ∷ 14 ∷ 15 ∷ 1 ∷ []) ∷ [])
-    ∷ run lamp (Command.StepHue StepModeEnum.Down 1 10 noOptions) (500 ∷ 950 ∷ 1000 ∷ [])
+    ∷ run lamp (Command.StepHue StepModeEnum.Down 1 10) (500 ∷ 950 ∷ 1000 ∷ [])
     (going xy 0 0 250 10 (15 ∷ []) 100
     ∷ going hue 65408 0 250 5 ofHue 100
     ∷ going hue 65293 0 250 1 (13 ∷ 14 ∷ 15 ∷ []) 50
     ∷ done hue 65280 0 250 0 (13 ∷ 2 ∷ 6 ∷ 7 ∷ 14 ∷ 15 ∷ 1 ∷ []) ∷ [])
-    ∷ run lamp (Command.EnhancedStepHue StepModeEnum.Up 1 10 noOptions) (500 ∷ 1000 ∷ [])
+    ∷ run lamp (Command.EnhancedStepHue StepModeEnum.Up 1 10) (500 ∷ 1000 ∷ [])
     (going xy 0 0 250 10 (15 ∷ []) 100
     ∷ going xy 0 0 250 5 (15 ∷ []) 100
     ∷ done enhanced 1 0 250 0 (13 ∷ 2 ∷ 3 ∷ 6 ∷ 7 ∷ 14 ∷ 15 ∷ 1 ∷ []) ∷ [])
     -- hue up at 10 plain numbers a second, and down at 1000 enhanced ones
-    ∷ run lamp (Command.MoveHue MoveModeEnum.Up 10 false noOptions) (100 ∷ 200 ∷ 1100 ∷ [])
+    ∷ run lamp (Command.MoveHue MoveModeEnum.Up 10 false) (100 ∷ 200 ∷ 1100 ∷ [])
     (going xy 0 0 250 0 (15 ∷ []) 100
     ∷ going hue 256 0 250 0 ofHue 100
     ∷ going hue 512 0 250 0 (13 ∷ 14 ∷ 15 ∷ []) 100
     ∷ going hue 2816 0 250 0 ofHue 100 ∷ [])
-    ∷ run lamp (Command.EnhancedMoveHue MoveModeEnum.Down 1000 noOptions) (100 ∷ 200 ∷ [])
+    ∷ run lamp (Command.EnhancedMoveHue MoveModeEnum.Down 1000) (100 ∷ 200 ∷ [])
     (going xy 0 0 250 0 (15 ∷ []) 100
     ∷ going enhanced 65436 0 250 0 (13 ∷ 2 ∷ 3 ∷ 6 ∷ 7 ∷ 14 ∷ 15 ∷ []) 100
     ∷ going enhanced 65336 0 250 0 (13 ∷ 14 ∷ 15 ∷ []) 100 ∷ [])
@@ -212,19 +212,19 @@ transitions =
     ∷ going enhanced 0 0 250 0 (15 ∷ []) 100
     ∷ going enhanced 393 0 250 0 (2 ∷ 3 ∷ 6 ∷ 7 ∷ 14 ∷ 15 ∷ []) 100 ∷ [])
     -- the modes: saturation keeps an enhanced hue mode, a plain hue and mireds do not; saturation leaves the mireds' mode
-    ∷ run hued (Command.MoveSaturation MoveModeEnum.Up 100 noOptions) (100 ∷ [])
+    ∷ run hued (Command.MoveSaturation MoveModeEnum.Up 100) (100 ∷ [])
     (going enhanced 1280 0 250 0 (15 ∷ []) 100
     ∷ going enhanced 1280 10 250 0 ofSaturation 100 ∷ [])
-    ∷ run hued (Command.MoveHue MoveModeEnum.Up 10 false noOptions) (100 ∷ [])
+    ∷ run hued (Command.MoveHue MoveModeEnum.Up 10 false) (100 ∷ [])
     (going enhanced 1280 0 250 0 (15 ∷ []) 100
     ∷ going hue 1536 0 250 0 (13 ∷ 14 ∷ 15 ∷ []) 100 ∷ [])
     ∷ run hued (upBetween 0 0) (100 ∷ [])
     (going enhanced 1280 0 250 0 (16 ∷ []) 100
     ∷ going warmth 1280 0 260 0 ofMireds 100 ∷ [])
-    ∷ run warmed (Command.MoveSaturation MoveModeEnum.Up 100 noOptions) (100 ∷ [])
+    ∷ run warmed (Command.MoveSaturation MoveModeEnum.Up 100) (100 ∷ [])
     (going warmth 0 0 300 0 (15 ∷ []) 100
     ∷ going hue 0 10 300 0 ofSaturation 100 ∷ [])
-    ∷ run warmed (Command.MoveToSaturation 0 10 noOptions) [] (done hue 0 0 300 0 (13 ∷ 4 ∷ 6 ∷ 7 ∷ 14 ∷ 15 ∷ 1 ∷ []) ∷ [])
+    ∷ run warmed (Command.MoveToSaturation 0 10) [] (done hue 0 0 300 0 (13 ∷ 4 ∷ 6 ∷ 7 ∷ 14 ∷ 15 ∷ 1 ∷ []) ∷ [])
     ∷ []
 
 abbrev pub TransitionsReported : Type 0

@@ -213,10 +213,10 @@ numbers l c task clock =
 
 -- with a command and a task that are in order, and with a hue of 255 and the Stop task
 abbrev pub sound : Lamp → ℕ → List ℕ
-sound l clock = numbers l (Command.StopMoveStep noOptions) (hueIn 100) clock
+sound l clock = numbers l Command.StopMoveStep (hueIn 100) clock
 
 abbrev pub unsound : Lamp → ℕ → List ℕ
-unsound l clock = numbers l (Command.MoveToHue 255 DirectionEnum.Shortest 1 noOptions) Task.Stop clock
+unsound l clock = numbers l (Command.MoveToHue 255 DirectionEnum.Shortest 1) Task.Stop clock
 
 -- on a lamp that runs, on the idle one, and on one invalid, idle
 abbrev pub OrderReported : Type 0

@@ -26,8 +26,8 @@ push-requires c κs = search needs
 push-requires-2 : tie.Need-push-requires-2
 push-requires-2 c κs = search needs
 
-answer-of-requires : tie.Need-answer-of-requires
-answer-of-requires c κs = search needs
+outcome-of-requires : tie.Need-outcome-of-requires
+outcome-of-requires c κs = search needs
 
 returns : tie.Need-returns
 unfolding activated
@@ -39,7 +39,7 @@ returns c =
     let at-push-if = at-push-if2 .before in
     let at-start = at-push-if .before .before in
     let called = at-start .args in
-    simp (c .answer-of .ensures, c .before .push2 .ensures, at-push .push .ensures, at-word-if .word-if .ensures, at-set-hue .set-hue .ensures, at-push-if2 .push-if2 .ensures, at-push-if .push-if .ensures) (ap (λ (n : Notices). record { number = 0; lamp = activated (called .lamp) [] (called .seed) .lamp; notices = n; task = activated (called .lamp) [] (called .seed) .task; wait = 0 }) (on-pushes (called .list) (called .lamp .looping .active) _))
+    simp (c .outcome-of .ensures, c .before .push2 .ensures, at-push .push .ensures, at-word-if .word-if .ensures, at-set-hue .set-hue .ensures, at-push-if2 .push-if2 .ensures, at-push-if .push-if .ensures) (ap (λ (n : Notices). record { number = 0; color = activated (called .lamp) [] (called .seed) .lamp .color; looping = activated (called .lamp) [] (called .seed) .lamp .looping; notices = n; task = activated (called .lamp) [] (called .seed) .task }) (on-pushes (called .list) (called .lamp .looping .active) _))
 
 pub activate-spec : {M : Type 1} → statement M
 activate-spec =
@@ -51,5 +51,5 @@ activate-spec =
     word-if-requires
     push-requires
     push-requires-2
-    answer-of-requires
+    outcome-of-requires
     returns)

@@ -13,12 +13,12 @@ use borrow.Author.Needs.{needs}
 use Rattle.commands.proofs.loops.deactivate.Statement.{statement}
 use Rattle.commands.proofs.loops.deactivate.Tie as tie
 
-answer-of-requires : tie.Need-answer-of-requires
-answer-of-requires c κs = search needs
+outcome-of-requires : tie.Need-outcome-of-requires
+outcome-of-requires c κs = search needs
 
 returns : tie.Need-returns
 unfolding deactivated pushedAll
-returns c = simp (not-true (c .before .before .before .args .lamp .looping .active) (c .before .if1 .taken)) (c .answer-of .ensures)
+returns c = simp (not-true (c .before .before .before .args .lamp .looping .active) (c .before .if1 .taken)) (c .outcome-of .ensures)
 
 push-requires : tie.Need-push-requires
 push-requires c κs = search needs
@@ -32,8 +32,8 @@ set-hue-requires c κs = search needs
 push-requires-3 : tie.Need-push-requires-3
 push-requires-3 c κs = search needs
 
-answer-of-requires-2 : tie.Need-answer-of-requires-2
-answer-of-requires-2 c κs = search needs
+outcome-of-requires-2 : tie.Need-outcome-of-requires-2
+outcome-of-requires-2 c κs = search needs
 
 returns-2 : tie.Need-returns-2
 unfolding deactivated
@@ -44,17 +44,17 @@ returns-2 c =
     let at-if1 = at-push .before in
     let at-start = at-if1 .before .before in
     let called = at-start .args in
-    simp (not-false (called .lamp .looping .active) (at-if1 .if1 .left), c .answer-of2 .ensures, c .before .push3 .ensures, at-set-hue .set-hue .ensures, at-push2 .push2 .ensures, at-push .push .ensures) (ap (λ (n : Notices). record { number = 0; lamp = withLoop (called .lamp) (hueSet (called .lamp .color) (called .lamp .looping .stored) true true (called .lamp .clock)) (activity (called .lamp .looping) false (called .lamp .looping .stored)); notices = n; task = GivenTask.Given Task.Stop; wait = 0 }) (off-pushes (called .list) _))
+    simp (not-false (called .lamp .looping .active) (at-if1 .if1 .left), c .outcome-of2 .ensures, c .before .push3 .ensures, at-set-hue .set-hue .ensures, at-push2 .push2 .ensures, at-push .push .ensures) (ap (λ (n : Notices). record { number = 0; color = hueSet (called .lamp .color) (called .lamp .looping .stored) true true (called .lamp .clock); looping = activity (called .lamp .looping) false (called .lamp .looping .stored); notices = n; task = GivenTask.Given Task.Stop }) (off-pushes (called .list) _))
 
 pub deactivate-spec : {M : Type 1} → statement M
 deactivate-spec =
     tie.close
     (tie.spec
-    answer-of-requires
+    outcome-of-requires
     returns
     push-requires
     push-requires-2
     set-hue-requires
     push-requires-3
-    answer-of-requires-2
+    outcome-of-requires-2
     returns-2)

@@ -1,0 +1,96 @@
+// What is checked of a command by itself, in one row each: Stop mode, and its own numbers.
+use crate::temperatures::high_limit;
+use crate::temperatures::low_limit;
+use matter::ACCEPTED;
+use matter::Bounds;
+use matter::CONSTRAINT_ERROR;
+use matter::Command;
+use matter::INVALID_COMMAND;
+use matter::MoveModeEnum;
+ghost use mathlib.Core.Path.{_≡_};
+ghost use Rattle.commands.specs.Commands.{isStop, constrained, nonzero, moving, checks, crossed};
+
+// Whether it is a move in Stop mode, and the cause that its numbers give, or 0.
+pub struct Checks {
+    pub stop: bool,
+    pub cause: u8,
+}
+
+fn is_stop(mode: MoveModeEnum) -> bool
+    ensures { λ r. ⌜ r ≡ isStop mode ⌝ }
+{
+    match mode {
+        MoveModeEnum::Stop => true,
+        MoveModeEnum::Up => false,
+        MoveModeEnum::Down => false,
+    }
+}
+
+// A number out of its range.
+fn constrained(bad: bool) -> Checks
+    ensures { λ r. ⌜ r ≡ constrained bad ⌝ }
+{
+    Checks {
+        stop: false,
+        cause: if bad { CONSTRAINT_ERROR } else { ACCEPTED },
+    }
+}
+
+// A rate or a step of 0.
+fn nonzero(n: u16) -> Checks
+    ensures { λ r. ⌜ r ≡ nonzero n ⌝ }
+{
+    Checks {
+        stop: false,
+        cause: if n == 0 { INVALID_COMMAND } else { ACCEPTED },
+    }
+}
+
+fn moving(mode: MoveModeEnum, rate: u16) -> Checks
+    ensures { λ r. ⌜ r ≡ moving mode rate ⌝ }
+{
+    let rated = nonzero(rate);
+    Checks {
+        stop: is_stop(mode),
+        cause: rated.cause,
+    }
+}
+
+pub(crate) fn checks_of(command: Command) -> Checks
+    ensures { λ r. ⌜ r ≡ checks command ⌝ }
+{
+    match command {
+        Command::MoveToHue { hue, .. } => constrained(254 < hue),
+        Command::MoveHue { mode, rate, .. } => moving(mode, rate as u16),
+        Command::StepHue { size, .. } => nonzero(size as u16),
+        Command::MoveToSaturation { saturation, .. } => constrained(254 < saturation),
+        Command::MoveSaturation { mode, rate } => moving(mode, rate as u16),
+        Command::StepSaturation { size, .. } => nonzero(size as u16),
+        Command::MoveToHueAndSaturation {
+            hue,
+            saturation,
+            enhanced,
+            ..
+        } => constrained((!enhanced & (254 < hue)) | (254 < saturation)),
+        Command::EnhancedMoveToHue { .. } => constrained(false),
+        Command::EnhancedMoveHue { mode, rate } => moving(mode, rate),
+        Command::EnhancedStepHue { size, .. } => nonzero(size),
+        Command::MoveToColorTemperature { mireds, .. } => constrained(mireds == 0),
+        Command::MoveColorTemperature { mode, rate, .. } => moving(mode, rate),
+        Command::StepColorTemperature { size, .. } => nonzero(size),
+        Command::ColorLoopSet { .. } => constrained(false),
+        Command::StopMoveStep => constrained(false),
+    }
+}
+
+// A step of the colour temperature whose lower limit is above its upper one.
+pub(crate) fn is_crossed(bounds: Bounds, command: Command) -> bool
+    ensures { λ r. ⌜ r ≡ crossed bounds command ⌝ }
+{
+    match command {
+        Command::StepColorTemperature { min, max, .. } => {
+            high_limit(bounds, max) < low_limit(bounds, min)
+        }
+        _ => false,
+    }
+}

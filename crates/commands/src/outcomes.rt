@@ -1,0 +1,66 @@
+// What a command comes to, before the answer is built from it.
+use color::Color;
+use lamp::Lamp;
+use lamp::LoopSettings;
+use matter::ACCEPTED;
+use notices::Notices;
+use notices::TASK_GIVEN;
+use tasks::GivenTask;
+use tasks::Task;
+ghost use mathlib.Core.Path.{_≡_};
+ghost use Rattle.lamp.specs.Answers.{refusal};
+ghost use Rattle.commands.specs.Commands.{skip, giving};
+ghost use Rattle.commands.specs.Outcomes.{outcomeOf, acceptedOutcome};
+
+// 0 or the cause of a refusal, all of the lamp that a command can change but its clock, what it reports, and its task.
+pub struct Outcome {
+    pub number: u8,
+    pub color: Color,
+    pub looping: LoopSettings,
+    pub notices: Notices,
+    pub task: GivenTask,
+}
+
+// A task given.
+pub(crate) fn given(lamp: Lamp, task: Task) -> Outcome
+    ensures { λ r. ⌜ r ≡ acceptedOutcome (giving lamp task) ⌝ }
+{
+    let color = lamp.color;
+    let looping = lamp.looping;
+    Outcome {
+        number: ACCEPTED,
+        color: color,
+        looping: looping,
+        notices: Notices::new().push(TASK_GIVEN),
+        task: GivenTask::Given(task),
+    }
+}
+
+// Nothing done.
+fn nothing(lamp: Lamp, number: u8) -> Outcome
+    ensures { λ r. ⌜ r ≡ outcomeOf (refusal lamp number) ⌝ }
+{
+    let color = lamp.color;
+    let looping = lamp.looping;
+    Outcome {
+        number: number,
+        color: color,
+        looping: looping,
+        notices: Notices::new(),
+        task: GivenTask::Nothing,
+    }
+}
+
+// A refusal, for this cause.
+pub(crate) fn refused(lamp: Lamp, cause: u8) -> Outcome
+    ensures { λ r. ⌜ r ≡ outcomeOf (refusal lamp cause) ⌝ }
+{
+    nothing(lamp, cause)
+}
+
+// A command that may not execute: document 01's pass-over.
+pub(crate) fn skipped(lamp: Lamp) -> Outcome
+    ensures { λ r. ⌜ r ≡ acceptedOutcome (skip lamp) ⌝ }
+{
+    nothing(lamp, ACCEPTED)
+}
