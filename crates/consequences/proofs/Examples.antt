@@ -14,6 +14,7 @@ use Rattle.matter.specs.declared.enums.OnOff.{OnOff}
 use Rattle.matter.specs.All.{allTrue}
 use Rattle.matter.specs.Flags.{hasFlag}
 use Rattle.matter.specs.InRange.{InRangeOptions}
+use Rattle.matter.specs.Requests.{request}
 use Rattle.hue.specs.Hue.{distance, pathDelta, movedHue}
 use Rattle.arc.specs.Arc.{meet, passesThrough}
 use Rattle.arc.proofs.Examples.{green}
@@ -168,19 +169,19 @@ unfolding quiet after answer commandCause commandAnswer firstCause lampValid all
 premised = (
   record {
     others = meets _ (in-range-lamp 0 (lit< tt))
-        (((lit< tt, lit< tt, in-range-plain), lit< tt), ((record { delta = lit< tt; saturation = tt; ms = lit< tt }, lit< tt), (lit< tt, (lit< tt, (lit< tt, (lit< tt, tt))))))
+        ((in-range-plain _ (lit< tt, lit< tt), lit< tt), ((record { delta = lit< tt; saturation = tt; ms = lit< tt }, lit< tt), (lit< tt, (lit< tt, (lit< tt, (lit< tt, tt))))))
         refl refl refl refl refl;
     hue = refl;
   },
   record {
     others = meets _ (in-range-lamp 60000 (lit< tt))
-        (((lit< tt, lit< tt, in-range-plain), lit< tt), ((record { delta = lit< tt; saturation = tt; ms = lit< tt }, lit< tt), (lit< tt, (lit< tt, (lit< tt, tt)))))
+        ((in-range-plain _ (lit< tt, lit< tt), lit< tt), ((record { delta = lit< tt; saturation = tt; ms = lit< tt }, lit< tt), (lit< tt, (lit< tt, (lit< tt, tt)))))
         refl refl refl refl refl;
     hue = refl;
   },
   record {
     others = meets _ (in-range-lamp 60000 (lit< tt))
-        (lit< tt, (lit< tt, (((lit< tt, lit< tt, in-range-whileOff), lit< tt), (((lit< tt, lit< tt, in-range-plain), lit< tt), ((record { delta = lit< tt; saturation = tt; ms = lit< tt }, lit< tt), (lit< tt, (lit< tt, (((lit< tt, lit< tt, in-range-plain), lit< tt), (((lit< tt, in-range-plain), lit< tt), (lit< tt, (lit< tt, (lit< tt, (lit< tt, tt)))))))))))))
+        (lit< tt, (lit< tt, ((record { options = in-range-whileOff; command = (lit< tt, lit< tt) }, lit< tt), ((in-range-plain _ (lit< tt, lit< tt), lit< tt), ((record { delta = lit< tt; saturation = tt; ms = lit< tt }, lit< tt), (lit< tt, (lit< tt, ((in-range-plain _ (lit< tt, lit< tt), lit< tt), ((in-range-plain _ (lit< tt), lit< tt), (lit< tt, (lit< tt, (lit< tt, (lit< tt, tt)))))))))))))
         refl refl refl refl refl;
     hue = refl;
   },
@@ -191,5 +192,5 @@ pub premised-but-hue : PremisedButHue movedTo50
 unfolding quiet after answer commandCause commandAnswer firstCause lampValid allTrue colorValid runningValid moveToValid taskValid commandEffect startAnswer stepAnswer haltAnswer started stepped hueSaturationStart hueSaturationPass hueSet permilleOf pathDelta distance movedHue hasFlag
 premised-but-hue =
     meets _ (in-range-lamp 0 (lit< tt))
-    (((lit< tt, lit< tt, in-range-plain), lit< tt), ((record { delta = lit< tt; saturation = tt; ms = lit< tt }, lit< tt), ((record { delta = lit< tt; saturation = tt; ms = lit< tt }, lit< tt), (lit< tt, (lit< tt, tt)))))
+    ((in-range-plain _ (lit< tt, lit< tt), lit< tt), ((record { delta = lit< tt; saturation = tt; ms = lit< tt }, lit< tt), ((record { delta = lit< tt; saturation = tt; ms = lit< tt }, lit< tt), (lit< tt, (lit< tt, tt)))))
     refl refl refl refl refl

@@ -76,9 +76,9 @@ module _ (f : Fed) (hue saturation : ℕ) where
   steps-on l clock (inr r) = subst (λ (run : Running). Underway (stepped (atClock l clock) run .lamp)) (sym (r .0)) (inr r)
 
   accepted-on : (l : Lamp) (x : Call) → Underway l → not (interrupts x && accepts l x) ≡ true → accepts l x ≡ true → Underway (next l x)
-  accepted-on l (Call.Command c onOff clock) u q a =
-      let z : isLoopSet c ≡ false = not-true (isLoopSet c) (rw (a, and-true) at q) in
-      rw (quiet-command l c onOff clock z (no-cause l (Call.Command c onOff clock) a)) u
+  accepted-on l (Call.Command r onOff clock) u q a =
+      let z : isLoopSet (r .command) ≡ false = not-true (isLoopSet (r .command)) (rw (a, and-true) at q) in
+      rw (quiet-command l r onOff clock z (no-cause l (Call.Command r onOff clock) a)) u
   accepted-on l (Call.Start task clock) u q a = never a (not-true (accepts l (Call.Start task clock)) q)
   accepted-on l (Call.Step clock) u q a = rw (next, accepted-is l (Call.Step clock) a) (steps-on l clock u)
   accepted-on l (Call.Halt clock) u q a = never a (not-true (accepts l (Call.Halt clock)) q)

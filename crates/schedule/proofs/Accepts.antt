@@ -13,7 +13,7 @@ use Rattle.lamp.specs.declared.Answer.{Answer}
 use Rattle.lamp.specs.Answers.{badClock, firstCause}
 use Rattle.lamp.specs.Valid.{lampValid}
 use Rattle.lamp.specs.declared.Call.{Call}
-use Rattle.commands.specs.Commands.{stopMode, numberCause, crossed}
+use Rattle.commands.specs.Commands.{checks, crossed}
 use Rattle.commands.specs.Answers.{allowed, commandCause, cause, answer, granted, clockOf}
 use Rattle.commands.proofs.Kept.{answer-both, number-is-cause, refused-same}
 use Rattle.schedule.specs.Calls.{next, accepts}
@@ -25,7 +25,7 @@ timely now clock = leb now clock && leb clock clockLimit
 
 -- a call that nothing but form and clock can turn away
 abbrev pub grounds : Lamp → Call → Bool
-grounds l (Call.Command c onOff clock) = stopMode c || (eqb (numberCause c) 0 && not (allowed l c onOff && crossed (l .bounds) c))
+grounds l (Call.Command r onOff clock) = checks (r .command) .stop || (eqb (checks (r .command) .cause) 0 && not (allowed l r onOff && crossed (l .bounds) (r .command)))
 grounds l (Call.Start task clock) = taskValid task
 grounds l (Call.Step clock) = runs (l .running)
 grounds l (Call.Halt clock) = true
@@ -64,7 +64,7 @@ halt-table false = refl
 
 table : (l : Lamp) (x : Call) → lampValid l ≡ true → eqb (cause l x) 0 ≡ (timely (l .clock) (clockOf x) && grounds l x)
 unfolding cause commandCause firstCause
-table l (Call.Command c onOff clock) f = rw (f, bad-is l clock) (command-table (timely (l .clock) clock) (stopMode c) (numberCause c) (allowed l c onOff && crossed (l .bounds) c))
+table l (Call.Command r onOff clock) f = rw (f, bad-is l clock) (command-table (timely (l .clock) clock) (checks (r .command) .stop) (checks (r .command) .cause) (allowed l r onOff && crossed (l .bounds) (r .command)))
 table l (Call.Start task clock) f = rw (f, bad-is l clock) (start-table (timely (l .clock) clock) (taskValid task))
 table l (Call.Step clock) f = rw (f, bad-is l clock) (step-table (timely (l .clock) clock) (runs (l .running)))
 table l (Call.Halt clock) f = rw (f, bad-is l clock) (halt-table (timely (l .clock) clock))

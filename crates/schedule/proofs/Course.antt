@@ -130,14 +130,14 @@ refused f s x e = rw e
 
 -- a step is taken only before the end
 pub step-open : (f : Fed) (s : Shown) (x : Call) → stepTaken f s x ≡ true → (s .done ≡ false) × (s .clock ≤ clockOf x)
-step-open f s (Call.Command c onOff clock) e = never refl (sym e)
+step-open f s (Call.Command asked onOff clock) e = never refl (sym e)
 step-open f s (Call.Start task clock) e = never refl (sym e)
 step-open f s (Call.Step clock) e = (not-true (s .done) (and-right (leb (s .clock) clock && leb clock clockLimit) _ e), takes-late f s (Call.Step clock) e)
 step-open f s (Call.Halt clock) e = never refl (sym e)
 
 -- and leads to the place of its clock
 pub step-is : (f : Fed) (s : Shown) (x : Call) → stepTaken f s x ≡ true → followed f s x ≡ shownAt f (clockOf x)
-step-is f s (Call.Command c onOff clock) e = never refl (sym e)
+step-is f s (Call.Command asked onOff clock) e = never refl (sym e)
 step-is f s (Call.Start task clock) e = never refl (sym e)
 step-is f s (Call.Step clock) e = taken f s (Call.Step clock) e
 step-is f s (Call.Halt clock) e = never refl (sym e)
@@ -148,14 +148,14 @@ same-done s t true e = e
 same-done s t false e = refl
 
 pub other-is : (f : Fed) (s : Shown) (x : Call) → stepTaken f s x ≡ false → followed f s x .done ≡ s .done
-other-is f s (Call.Command c onOff clock) e = same-done s (whenTaken f s (Call.Command c onOff clock)) (takes f s (Call.Command c onOff clock)) refl
+other-is f s (Call.Command asked onOff clock) e = same-done s (whenTaken f s (Call.Command asked onOff clock)) (takes f s (Call.Command asked onOff clock)) refl
 other-is f s (Call.Start task clock) e = same-done s (whenTaken f s (Call.Start task clock)) (takes f s (Call.Start task clock)) refl
 other-is f s (Call.Step clock) e = ap (λ (t : Shown). t .done) (refused f s (Call.Step clock) e)
 other-is f s (Call.Halt clock) e = same-done s (whenTaken f s (Call.Halt clock)) (takes f s (Call.Halt clock)) refl
 
 module _ (f : Fed) (n : Sane f) (s : Shown) (r : Right f s) where
   taken-right : (x : Call) → takes f s x ≡ true → Right f (whenTaken f s x)
-  taken-right (Call.Command c onOff clock) e = later-right f s clock r (takes-late f s (Call.Command c onOff clock) e)
+  taken-right (Call.Command asked onOff clock) e = later-right f s clock r (takes-late f s (Call.Command asked onOff clock) e)
   taken-right (Call.Start task clock) e = later-right f s clock r (takes-late f s (Call.Start task clock) e)
   taken-right (Call.Step clock) e = at-right f n clock (le-trans (r .since) (takes-late f s (Call.Step clock) e))
   taken-right (Call.Halt clock) e = later-right f s clock r (takes-late f s (Call.Halt clock) e)
@@ -164,7 +164,7 @@ module _ (f : Fed) (n : Sane f) (s : Shown) (r : Right f s) where
   followed-right x = elim (either (takes f s x)) [ inl e ↦ rw e (taken-right x e) | inr e ↦ rw e r ]
 
   taken-on : (x : Call) → takes f s x ≡ true → goneOf f (s .hue) ≤ goneOf f (whenTaken f s x .hue)
-  taken-on (Call.Command c onOff clock) e = le-refl (goneOf f (s .hue))
+  taken-on (Call.Command asked onOff clock) e = le-refl (goneOf f (s .hue))
   taken-on (Call.Start task clock) e = le-refl (goneOf f (s .hue))
   taken-on (Call.Step clock) e = let o = step-open f s (Call.Step clock) e in at-on f n s clock r (o .0) (o .1)
   taken-on (Call.Halt clock) e = le-refl (goneOf f (s .hue))

@@ -16,7 +16,8 @@ use Rattle.matter.specs.declared.enums.MoveModeEnum.{MoveModeEnum}
 use Rattle.matter.specs.declared.enums.OnOff.{OnOff}
 use Rattle.matter.specs.All.{allTrue}
 use Rattle.matter.specs.Flags.{hasFlag}
-use Rattle.matter.specs.InRange.{InRangeOptions}
+use Rattle.matter.specs.InRange.{InRangeCommand, InRangeRequest}
+use Rattle.matter.specs.Requests.{request}
 use Rattle.hue.specs.Hue.{distance, pathDelta, movedHue}
 use Rattle.progress.specs.Progress.{permilleOf}
 use Rattle.color.specs.Valid.{colorValid}
@@ -34,7 +35,7 @@ use Rattle.lamp.specs.InRange.{InRangeLamp}
 use Rattle.commands.specs.Commands.{commandEffect}
 use Rattle.commands.specs.Answers.{answer, allowed, commandCause, commandAnswer}
 use Rattle.schedule.specs.Calls.{after, accepts, InRangeCalls, quiet, steps, paced}
-use Rattle.schedule.specs.Schedule.{HueCommand, asCommand}
+use Rattle.schedule.specs.Schedule.{HueCommand, asRequest}
 use Rattle.schedule.specs.Fades.{Fade, finds, commandCall, ready, startCall, begun, listOf, PremisedButHue, Premised, waitsKept, seen, observations, shown, stepsTaken}
 
 -- ---- a lamp
@@ -156,12 +157,12 @@ in-range-lamp hue h =
       running = tt;
     }
 
-pub in-range-plain : InRangeOptions plain
-in-range-plain = record { mask = lit< tt; overrides = lit< tt }
+pub in-range-plain : (c : Command) → InRangeCommand c → InRangeRequest (request c plain)
+in-range-plain c inRange = record { options = record { mask = lit< tt; overrides = lit< tt }; command = inRange }
 
 -- the premises of a fade: the types, and six tests that compute
 pub meets : (e : Fade) → InRangeLamp (e .lamp) → InRangeCalls (listOf e) → lampValid (e .lamp) ≡ true →
-    accepts (finds e) (commandCall e) ≡ true → allowed (finds e) (asCommand (e .move)) (e .onOff) ≡ true →
+    accepts (finds e) (commandCall e) ≡ true → allowed (finds e) (asRequest (e .move)) (e .onOff) ≡ true →
     accepts (ready e) (startCall e) ≡ true → quiet (begun e .lamp) (e .calls) ≡ true → PremisedButHue e
 meets e inRangeLamp inRangeCalls valid accepted mayExecute started undisturbed =
     record {
@@ -179,31 +180,31 @@ unfolding after quiet answer commandCause commandAnswer firstCause lampValid all
 all-meet = (
   record {
     others = meets _ (in-range-lamp 0 (lit< tt))
-        (((lit< tt, lit< tt, in-range-plain), lit< tt), ((record { delta = lit< tt; saturation = tt; ms = lit< tt }, lit< tt), (lit< tt, (lit< tt, tt))))
+        ((in-range-plain _ (lit< tt, lit< tt), lit< tt), ((record { delta = lit< tt; saturation = tt; ms = lit< tt }, lit< tt), (lit< tt, (lit< tt, tt))))
         refl refl refl refl refl;
     hue = refl;
   },
   record {
     others = meets _ (in-range-lamp 2560 (lit< tt))
-        (((lit< tt, lit< tt, in-range-plain), lit< tt), ((record { delta = lit< tt; saturation = tt; ms = lit< tt }, lit< tt), (lit< tt, tt)))
+        ((in-range-plain _ (lit< tt, lit< tt), lit< tt), ((record { delta = lit< tt; saturation = tt; ms = lit< tt }, lit< tt), (lit< tt, tt)))
         refl refl refl refl refl;
     hue = refl;
   },
   record {
     others = meets _ (in-range-lamp 0 (lit< tt))
-        (((lit< tt, lit< tt, in-range-plain), lit< tt), ((record { delta = lit< tt; saturation = tt; ms = lit< tt }, lit< tt), (lit< tt, tt)))
+        ((in-range-plain _ (lit< tt, lit< tt), lit< tt), ((record { delta = lit< tt; saturation = tt; ms = lit< tt }, lit< tt), (lit< tt, tt)))
         refl refl refl refl refl;
     hue = refl;
   },
   record {
     others = meets _ (in-range-lamp 1000 (lit< tt))
-        (((lit< tt, lit< tt, in-range-plain), lit< tt), ((record { delta = lit< tt; saturation = tt; ms = lit< tt }, lit< tt), (lit< tt, (lit< tt, (lit< tt, (lit< tt, tt))))))
+        ((in-range-plain _ (lit< tt, lit< tt), lit< tt), ((record { delta = lit< tt; saturation = tt; ms = lit< tt }, lit< tt), (lit< tt, (lit< tt, (lit< tt, (lit< tt, tt))))))
         refl refl refl refl refl;
     hue = refl;
   },
   record {
     others = meets _ (in-range-lamp 60000 (lit< tt))
-        (lit< tt, (lit< tt, (((lit< tt, lit< tt, in-range-plain), lit< tt), (((lit< tt, lit< tt, in-range-plain), lit< tt), ((record { delta = lit< tt; saturation = tt; ms = lit< tt }, lit< tt), (lit< tt, (lit< tt, (((lit< tt, lit< tt, in-range-plain), lit< tt), (((lit< tt, in-range-plain), lit< tt), ((tt, lit< tt), (((lit< tt, lit< tt, lit< tt, in-range-plain), lit< tt), (((lit< tt, lit< tt, in-range-plain), lit< tt), (lit< tt, (lit< tt, (lit< tt, tt)))))))))))))))
+        (lit< tt, (lit< tt, ((in-range-plain _ (lit< tt, lit< tt), lit< tt), ((in-range-plain _ (lit< tt, lit< tt), lit< tt), ((record { delta = lit< tt; saturation = tt; ms = lit< tt }, lit< tt), (lit< tt, (lit< tt, ((in-range-plain _ (lit< tt, lit< tt), lit< tt), ((in-range-plain _ (lit< tt), lit< tt), ((tt, lit< tt), ((in-range-plain _ (lit< tt, lit< tt, lit< tt), lit< tt), ((in-range-plain _ (lit< tt, lit< tt), lit< tt), (lit< tt, (lit< tt, (lit< tt, tt)))))))))))))))
         refl refl refl refl refl;
     hue = refl;
   },

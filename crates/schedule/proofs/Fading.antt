@@ -65,7 +65,7 @@ module _ {f : Fed} {l : Lamp} {s : Shown} (k : Fading f l s) where
   idle-is = rw (k .shows .running) (not-runs-is f (k .saturation) (s .done))
 
   grounds-are : (x : Call) → grounds l x ≡ own f x (s .done)
-  grounds-are (Call.Command c onOff clock) = rw (k .bounds, leave-same onOff (l .options) _ _ (f .executeIfOff) (k .options))
+  grounds-are (Call.Command r onOff clock) = rw (k .bounds, leave-same onOff (l .options) _ _ (f .executeIfOff) (k .options))
   grounds-are (Call.Start task clock) = refl
   grounds-are (Call.Step clock) = rw (k .shows .running) (runs-is f (k .saturation) (s .done))
   grounds-are (Call.Halt clock) = refl
@@ -93,9 +93,9 @@ step-meets {f} {l} {s} k clock n d =
 
 module _ {f : Fed} {l : Lamp} {s : Shown} (k : Fading f l s) (n : Sane f) where
   accepted-shows : (x : Call) → not (interrupts x && accepts l x) ≡ true → accepts l x ≡ true → Shows f (k .saturation) (next l x) (whenTaken f s x)
-  accepted-shows (Call.Command c onOff clock) q a =
-      let z : isLoopSet c ≡ false = not-true (isLoopSet c) (rw (a, and-true) at q) in
-      rw (quiet-command l c onOff clock z (no-cause l (Call.Command c onOff clock) a))
+  accepted-shows (Call.Command r onOff clock) q a =
+      let z : isLoopSet (r .command) ≡ false = not-true (isLoopSet (r .command)) (rw (a, and-true) at q) in
+      rw (quiet-command l r onOff clock z (no-cause l (Call.Command r onOff clock) a))
       (record { clock = refl; hue = k .shows .hue; remaining = k .shows .remaining; running = k .shows .running })
   accepted-shows (Call.Start task clock) q a = never a (not-true (accepts l (Call.Start task clock)) q)
   accepted-shows (Call.Step clock) q a =
@@ -121,7 +121,7 @@ module _ {f : Fed} {l : Lamp} {s : Shown} (k : Fading f l s) (n : Sane f) where
 
   -- an accepted step asks for the schedule's wait
   pub wait-is : (x : Call) → acceptedStep l x ≡ true → answer l x .wait ≡ followed f s x .wait
-  wait-is (Call.Command c onOff clock) e = never refl (sym e)
+  wait-is (Call.Command r onOff clock) e = never refl (sym e)
   wait-is (Call.Start task clock) e = never refl (sym e)
   wait-is (Call.Step clock) e =
       let t = sym (accepts-takes k (Call.Step clock)) ∙ e in

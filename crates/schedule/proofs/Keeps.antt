@@ -10,7 +10,7 @@ use borrow.Author.Tests.{leb-true}
 use Rattle.matter.specs.declared.enums.OnOff.{OnOff}
 use Rattle.matter.specs.Flags.{hasFlag, executeIfOff}
 use Rattle.matter.proofs.Laws.{each, and-right}
-use Rattle.matter.specs.InRange.{InRangeCommand}
+use Rattle.matter.specs.InRange.{InRangeRequest}
 use Rattle.tasks.specs.declared.GivenTask.{GivenTask}
 use Rattle.tasks.specs.Valid.{taskValid, moveToValid}
 use Rattle.lamp.specs.declared.Lamp.{Lamp}
@@ -22,7 +22,7 @@ use Rattle.commands.specs.Commands.{commandEffect}
 use Rattle.commands.specs.Answers.{answer, allowed}
 use Rattle.commands.proofs.Kept.{valid-kept, bounds-kept, options-kept}
 use Rattle.schedule.specs.Calls.{next, after, accepts, interrupts, quiet, steps, paced}
-use Rattle.schedule.specs.Schedule.{HueCommand, asCommand, target, time, taskOf, Fed, Shown, shownAt, scheduledFrom}
+use Rattle.schedule.specs.Schedule.{HueCommand, asRequest, target, time, taskOf, Fed, Shown, shownAt, scheduledFrom}
 use Rattle.schedule.specs.Claim.{Keeps, KeepsAt, KeptFade, fed, Kept, Claim}
 use Rattle.schedule.proofs.Tests.{either}
 use Rattle.schedule.proofs.Course.{Sane, followed-on, at-open, begins-done}
@@ -97,18 +97,18 @@ module _ (f : Fed) (n : Sane f) (a : Answer) (b : Begins f a) where
 -- ---- the command
 
 -- (a) the task
-task-is : (l : Lamp) (h : HueCommand) (onOff : OnOff) (clock : ℕ) → accepts l (Call.Command (asCommand h) onOff clock) ≡ true → allowed l (asCommand h) onOff ≡ true → answer l (Call.Command (asCommand h) onOff clock) .task ≡ GivenTask.Given (taskOf h (l .color .hue))
+task-is : (l : Lamp) (h : HueCommand) (onOff : OnOff) (clock : ℕ) → accepts l (Call.Command (asRequest h) onOff clock) ≡ true → allowed l (asRequest h) onOff ≡ true → answer l (Call.Command (asRequest h) onOff clock) .task ≡ GivenTask.Given (taskOf h (l .color .hue))
 unfolding commandEffect
 task-is l h onOff clock a e =
-    rw (accepted-is l (Call.Command (asCommand h) onOff clock) a)
+    rw (accepted-is l (Call.Command (asRequest h) onOff clock) a)
     (elim (either (h .enhanced)) [ inl z ↦ rw (z, rw z at e) | inr z ↦ rw (z, rw z at e) ])
 
 -- the target of a typed command is a hue
-pub target-small : (h : HueCommand) → InRangeCommand (asCommand h) → target h < 65536
+pub target-small : (h : HueCommand) → InRangeRequest (asRequest h) → target h < 65536
 target-small h t =
     elim (either (h .enhanced)) [
-      | inl z ↦ rw z (let k = (rw z at t) .0 in omega arith)
-      | inr z ↦ rw z (let k = (rw z at t) .0 in omega arith)
+      | inl z ↦ rw z (let k = (rw z at (t .command)) .0 in omega arith)
+      | inr z ↦ rw z (let k = (rw z at (t .command)) .0 in omega arith)
     ]
 
 -- the time of an accepted start is that of a task valid
@@ -118,9 +118,9 @@ time-small l h found clock f a =
     let g : taskValid (taskOf h found) ≡ true = and-right (timely (l .clock) clock) _ (sym (accepts-is l (Call.Start (taskOf h found) clock) f) ∙ a) in
     leb-true (time h) 6553500 (and-right (eqb (time h % 100) 0) _ (each _ g .0))
 
-pub kept : (l : Lamp) (h : HueCommand) (onOff : OnOff) (clock : ℕ) (rest : List Call) → lampValid l ≡ true → InRangeLamp l → InRangeCommand (asCommand h) → accepts l (Call.Command (asCommand h) onOff clock) ≡ true → allowed l (asCommand h) onOff ≡ true → Kept l h onOff clock rest
+pub kept : (l : Lamp) (h : HueCommand) (onOff : OnOff) (clock : ℕ) (rest : List Call) → lampValid l ≡ true → InRangeLamp l → InRangeRequest (asRequest h) → accepts l (Call.Command (asRequest h) onOff clock) ≡ true → allowed l (asRequest h) onOff ≡ true → Kept l h onOff clock rest
 kept l h onOff clock rest valid inRange c a e =
-    let x : Call = Call.Command (asCommand h) onOff clock in
+    let x : Call = Call.Command (asRequest h) onOff clock in
     record {
       task = task-is l h onOff clock a e;
       fades = λ between calls at split p.
@@ -138,5 +138,5 @@ kept l h onOff clock rest valid inRange c a e =
 
 pub keeps-schedule : Claim
 keeps-schedule l calls valid inRange c before rest h onOff clock split a e =
-    let t = in-range-split before (Call.Command (asCommand h) onOff clock ∷ rest) (rw split at c) in
+    let t = in-range-split before (Call.Command (asRequest h) onOff clock ∷ rest) (rw split at c) in
     kept (after l before) h onOff clock rest (valid-after l before valid) (in-range-after l before valid inRange (t .0)) (t .1 .0 .0) a e

@@ -10,14 +10,14 @@ use Rattle.schedule.specs.Schedule.{Fed, withOption, Shown, shownAt, own
 
 module _ (f : Fed) (option : Bool) where
   own-same : (x : Call) (done : Bool) → crosses (f .bounds) x ≡ false → own (withOption f option) x done ≡ own f x done
-  own-same (Call.Command c onOff clock) done e = simp (e, and-false)
+  own-same (Call.Command r onOff clock) done e = simp (e, and-false)
   own-same (Call.Start task clock) done e = refl
   own-same (Call.Step clock) done e = refl
   own-same (Call.Halt clock) done e = refl
 
   taken-same : (s : Shown) (x : Call) → whenTaken (withOption f option) s x ≡ whenTaken f s x
   unfolding shownAt
-  taken-same s (Call.Command c onOff clock) = refl
+  taken-same s (Call.Command r onOff clock) = refl
   taken-same s (Call.Start task clock) = refl
   taken-same s (Call.Step clock) = refl
   taken-same s (Call.Halt clock) = refl

@@ -32,14 +32,14 @@ InRangeCalls [] = Unit
 InRangeCalls (x ∷ xs) = InRangeCall x × InRangeCalls xs
 
 abbrev pub isStep : Call → Bool
-isStep (Call.Command c onOff clock) = false
+isStep (Call.Command r onOff clock) = false
 isStep (Call.Start task clock) = false
 isStep (Call.Step clock) = true
 isStep (Call.Halt clock) = false
 
 -- a start, a halt or a colour-loop command
 abbrev pub interrupts : Call → Bool
-interrupts (Call.Command c onOff clock) = isLoopSet c
+interrupts (Call.Command r onOff clock) = isLoopSet (r .command)
 interrupts (Call.Start task clock) = true
 interrupts (Call.Step clock) = false
 interrupts (Call.Halt clock) = true
@@ -71,7 +71,7 @@ paced due l (x ∷ xs) =
 
 -- a mired step whose limits cross within the bounds, and a list without one
 abbrev pub crosses : Bounds → Call → Bool
-crosses bounds (Call.Command c onOff clock) = crossed bounds c
+crosses bounds (Call.Command r onOff clock) = crossed bounds (r .command)
 crosses bounds (Call.Start task clock) = false
 crosses bounds (Call.Step clock) = false
 crosses bounds (Call.Halt clock) = false

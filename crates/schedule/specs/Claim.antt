@@ -19,7 +19,7 @@ use Rattle.lamp.specs.declared.Call.{Call}
 use Rattle.lamp.specs.InRange.{InRangeLamp}
 use Rattle.commands.specs.Answers.{answer, allowed}
 use Rattle.schedule.specs.Calls.{next, after, accepts, idle, InRangeCalls, quiet, acceptedStep, steps, reached, paced}
-use Rattle.schedule.specs.Schedule.{HueCommand, asCommand, target, deltaFrom, time, taskOf, Fed, Shown, takes, scheduled}
+use Rattle.schedule.specs.Schedule.{HueCommand, asRequest, target, deltaFrom, time, taskOf, Fed, Shown, takes, scheduled}
 
 -- the way travelled, read off a hue: how far it is from the one found, on the side of the way's sign
 abbrev pub travelled : Fed → Lamp → ℕ
@@ -71,7 +71,7 @@ fed h l clock =
 
 -- a move to a hue, as a call, and a start of the task that it gives on the lamp `l`
 abbrev pub moveTo : HueCommand → OnOff → ℕ → Call
-moveTo h onOff clock = Call.Command (asCommand h) onOff clock
+moveTo h onOff clock = Call.Command (asRequest h) onOff clock
 
 abbrev pub startOf : HueCommand → Lamp → ℕ → Call
 startOf h l clock = Call.Start (taskOf h (l .color .hue)) clock
@@ -98,7 +98,7 @@ pub record Kept (l : Lamp) (h : HueCommand) (onOff : OnOff) (clock : ℕ) (rest 
 
 -- every move to a hue in the list, on the lamp that the calls before it left, that is accepted with leave to execute
 abbrev pub Everywhere : Lamp → List Call → Type 0
-Everywhere l calls = (before rest : List Call) (h : HueCommand) (onOff : OnOff) (clock : ℕ) → calls ≡ before ++ (moveTo h onOff clock ∷ rest) → accepts (after l before) (moveTo h onOff clock) ≡ true → allowed (after l before) (asCommand h) onOff ≡ true → Kept (after l before) h onOff clock rest
+Everywhere l calls = (before rest : List Call) (h : HueCommand) (onOff : OnOff) (clock : ℕ) → calls ≡ before ++ (moveTo h onOff clock ∷ rest) → accepts (after l before) (moveTo h onOff clock) ≡ true → allowed (after l before) (asRequest h) onOff ≡ true → Kept (after l before) h onOff clock rest
 
 -- the claim: from any lamp valid, for every list of calls
 abbrev pub Claim : Type 0

@@ -12,7 +12,7 @@ use Rattle.lamp.specs.declared.Call.{Call}
 use Rattle.lamp.specs.InRange.{InRangeLamp}
 use Rattle.commands.specs.Answers.{answer, allowed}
 use Rattle.schedule.specs.Calls.{next, after, accepts, idle, InRangeCalls, quiet, steps, paced}
-use Rattle.schedule.specs.Schedule.{HueCommand, asCommand}
+use Rattle.schedule.specs.Schedule.{HueCommand, asRequest}
 use Rattle.schedule.specs.Claim.{moveTo, startOf}
 
 pub record Fade : Type 0 where
@@ -66,7 +66,7 @@ pub record PremisedButHue (e : Fade) : Type 0 where
   pub inRangeLamp : InRangeLamp (e .lamp)
   pub inRangeCalls : InRangeCalls (listOf e)
   pub accepted : accepts (finds e) (commandCall e) ≡ true
-  pub mayExecute : allowed (finds e) (asCommand (e .move)) (e .onOff) ≡ true
+  pub mayExecute : allowed (finds e) (asRequest (e .move)) (e .onOff) ≡ true
   pub started : accepts (ready e) (startCall e) ≡ true
   pub undisturbed : quiet (begun e .lamp) (e .calls) ≡ true
 

@@ -9,6 +9,8 @@ use lib.IntN.{ℤ, natAbs}
 use Rattle.matter.specs.declared.limits.Bounds.{Bounds}
 use Rattle.matter.specs.declared.commands.Command.{Command}
 use Rattle.matter.specs.declared.commands.CommandOptions.{CommandOptions}
+use Rattle.matter.specs.declared.commands.Request.{Request}
+use Rattle.matter.specs.Requests.{request}
 use Rattle.matter.specs.declared.enums.DirectionEnum.{DirectionEnum}
 use Rattle.matter.specs.Limits.{clockLimit}
 use Rattle.matter.specs.Rules.{mayExecute}
@@ -19,7 +21,7 @@ use Rattle.tasks.specs.declared.TargetSaturation.{TargetSaturation}
 use Rattle.tasks.specs.declared.Task.{Task}
 use Rattle.tasks.specs.Valid.{taskValid}
 use Rattle.lamp.specs.declared.Call.{Call}
-use Rattle.commands.specs.Commands.{optionsOf, stopMode, numberCause, crossed}
+use Rattle.commands.specs.Commands.{checks, crossed}
 use Rattle.commands.specs.Answers.{clockOf}
 
 -- a move to a hue, plain or enhanced, without saturation
@@ -30,10 +32,12 @@ pub record HueCommand : Type 0 where
   pub tenths : ℕ
   pub options : CommandOptions
 
-abbrev pub asCommand : HueCommand → Command
-asCommand h =
-    cond (h .enhanced) (Command.EnhancedMoveToHue (h .hue) (h .direction) (h .tenths))
-    (Command.MoveToHue (h .hue) (h .direction) (h .tenths))
+abbrev pub asRequest : HueCommand → Request
+asRequest h =
+    request
+    (cond (h .enhanced) (Command.EnhancedMoveToHue (h .hue) (h .direction) (h .tenths))
+    (Command.MoveToHue (h .hue) (h .direction) (h .tenths)))
+    (h .options)
 
 -- "Target: the command's hue, a plain one times 256"
 abbrev pub target : HueCommand → ℕ
@@ -95,9 +99,10 @@ shownAt f clock =
 -- "a call is accepted where it meets no cause below, the clock being the last accepted call's and the lamp idle once done":
 -- the clock, and what the call itself can be refused for
 abbrev pub own : Fed → Call → Bool → Bool
-own f (Call.Command c onOff clock) done =
-    stopMode c
-    || (eqb (numberCause c) 0 && not (mayExecute onOff (cond (f .executeIfOff) 1 0) (optionsOf c .mask) (optionsOf c .over) && crossed (f .bounds) c))
+own f (Call.Command r onOff clock) done =
+    checks (r .command) .stop
+    || (eqb (checks (r .command) .cause) 0
+    && not (mayExecute onOff (cond (f .executeIfOff) 1 0) (r .options .mask) (r .options .overrides) && crossed (f .bounds) (r .command)))
 own f (Call.Start task clock) done = taskValid task
 own f (Call.Step clock) done = not done
 own f (Call.Halt clock) done = true
@@ -107,7 +112,7 @@ takes f s x = (leb (s .clock) (clockOf x) && leb (clockOf x) clockLimit) && own 
 
 -- "No other call moves it": an accepted step shows the fade at its clock, another accepted call only sets the clock
 abbrev pub whenTaken : Fed → Shown → Call → Shown
-whenTaken f s (Call.Command c onOff clock) = record { clock = clock; hue = s .hue; remaining = s .remaining; wait = s .wait; done = s .done }
+whenTaken f s (Call.Command r onOff clock) = record { clock = clock; hue = s .hue; remaining = s .remaining; wait = s .wait; done = s .done }
 whenTaken f s (Call.Start task clock) = record { clock = clock; hue = s .hue; remaining = s .remaining; wait = s .wait; done = s .done }
 whenTaken f s (Call.Step clock) = shownAt f clock
 whenTaken f s (Call.Halt clock) = record { clock = clock; hue = s .hue; remaining = s .remaining; wait = s .wait; done = s .done }
