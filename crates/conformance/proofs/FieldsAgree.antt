@@ -7,13 +7,14 @@ use native.Mathlib.Omega.{arith}
 use lib.Dec.{leb, ltb, eqb}
 use borrow.Author.Tests.{leb-true, leb-false, le-leb, lt-ltb, le-ltb, eqb-true, ne-eqb}
 use Rattle.matter.specs.declared.commands.Command.{Command}
+use Rattle.matter.specs.declared.commands.Request.{Request}
 use Rattle.matter.specs.declared.commands.CommandOptions.{CommandOptions}
 use Rattle.matter.specs.declared.enums.DirectionEnum.{DirectionEnum}
 use Rattle.matter.specs.declared.enums.MoveModeEnum.{MoveModeEnum}
 use Rattle.matter.specs.declared.enums.StepModeEnum.{StepModeEnum}
 use Rattle.matter.specs.declared.enums.OnOff.{OnOff}
 use Rattle.lamp.specs.declared.Lamp.{Lamp}
-use Rattle.commands.specs.Commands.{isStop, stopMode, numberCause, crossed}
+use Rattle.commands.specs.Commands.{isStop, checks, crossed}
 use Rattle.commands.specs.Answers.{allowed, afterClock}
 use Rattle.conformance.specs.Fields.{fieldsGood, invalidMove, invalid}
 
@@ -68,7 +69,7 @@ never-by true = refl
 never-by false = refl
 
 -- where the rest of the fields are good, ConstraintError is the port's answer exactly where a field is not
-pub fields-agree : (c : Command) → Roomy c → eqb (numberCause c) 1 ≡ not (fieldsGood c)
+pub fields-agree : (c : Command) → Roomy c → eqb (checks c .cause) 1 ≡ not (fieldsGood c)
 unfolding fieldsGood
 fields-agree (Command.MoveToHue hue direction time) r =
     rw (above hue, within 65534 time r) (refused-by (ltb 254 hue))
@@ -99,19 +100,19 @@ fields-agree Command.StopMoveStep r = refl
 abbrev no-options : CommandOptions
 no-options = record { mask = 0; overrides = 0 }
 
-pub time-differs : (fieldsGood (Command.MoveToHue 0 DirectionEnum.Shortest 65535) ≡ false) × (numberCause (Command.MoveToHue 0 DirectionEnum.Shortest 65535) ≡ 0)
+pub time-differs : (fieldsGood (Command.MoveToHue 0 DirectionEnum.Shortest 65535) ≡ false) × (checks (Command.MoveToHue 0 DirectionEnum.Shortest 65535) .cause ≡ 0)
 unfolding fieldsGood
 time-differs = (refl, refl)
 
-pub mireds-differ : (fieldsGood (Command.MoveToColorTemperature 65280 0) ≡ false) × (numberCause (Command.MoveToColorTemperature 65280 0) ≡ 0)
+pub mireds-differ : (fieldsGood (Command.MoveToColorTemperature 65280 0) ≡ false) × (checks (Command.MoveToColorTemperature 65280 0) .cause ≡ 0)
 unfolding fieldsGood
 mireds-differ = (refl, refl)
 
-pub limits-differ : (fieldsGood (Command.MoveColorTemperature MoveModeEnum.Up 1 65280 0) ≡ false) × (numberCause (Command.MoveColorTemperature MoveModeEnum.Up 1 65280 0) ≡ 0)
+pub limits-differ : (fieldsGood (Command.MoveColorTemperature MoveModeEnum.Up 1 65280 0) ≡ false) × (checks (Command.MoveColorTemperature MoveModeEnum.Up 1 65280 0) .cause ≡ 0)
 unfolding fieldsGood
 limits-differ = (refl, refl)
 
-pub step-time-differs : (fieldsGood (Command.StepHue StepModeEnum.Up 1 256) ≡ false) × (numberCause (Command.StepHue StepModeEnum.Up 1 256) ≡ 0)
+pub step-time-differs : (fieldsGood (Command.StepHue StepModeEnum.Up 1 256) ≡ false) × (checks (Command.StepHue StepModeEnum.Up 1 256) .cause ≡ 0)
 unfolding fieldsGood
 step-time-differs = (refl, refl)
 
@@ -133,35 +134,39 @@ one-by true = refl
 one-by false = refl
 
 module _ (l : Lamp) (onOff : OnOff) where
-  looked : (c : Command) → eqb (afterClock l c onOff) 2 ≡ cond (stopMode c) false (eqb (numberCause c) 2)
-  looked c = by (stopMode c)
+  looked : (r : Request) → eqb (afterClock l r onOff) 2 ≡ cond (checks (r .command) .stop) false (eqb (checks (r .command) .cause) 2)
+  looked r = by (checks (r .command) .stop)
     where
-      by : (s : Bool) → eqb (cond s 0 (cond (eqb (numberCause c) 0) (cond (allowed l c onOff && crossed (l .bounds) c) 3 0) (numberCause c))) 2 ≡ cond s false (eqb (numberCause c) 2)
+      by : (s : Bool) → eqb (cond s 0 (cond (eqb (checks (r .command) .cause) 0) (cond (allowed l r onOff && crossed (l .bounds) (r .command)) 3 0) (checks (r .command) .cause))) 2 ≡ cond s false (eqb (checks (r .command) .cause) 2)
       by true = refl
-      by false = limits-by (numberCause c) (eqb (numberCause c) 0) (allowed l c onOff) (crossed (l .bounds) c) refl
+      by false = limits-by (checks (r .command) .cause) (eqb (checks (r .command) .cause) 0) (allowed l r onOff) (crossed (l .bounds) (r .command)) refl
 
   move-by : (mode : MoveModeEnum) (rate : ℕ) → cond (isStop mode) false (eqb (cond (eqb rate 0) 2 0) 2) ≡ invalidMove mode rate
   move-by MoveModeEnum.Stop rate = refl
   move-by MoveModeEnum.Up rate = zero-by (eqb rate 0)
   move-by MoveModeEnum.Down rate = zero-by (eqb rate 0)
 
-  -- past form and clock, InvalidCommand is the port's answer exactly where the text's is
-  pub invalid-agree : (c : Command) → eqb (afterClock l c onOff) 2 ≡ invalid c
+  -- Stop mode and the numbers
+  own-agree : (c : Command) → cond (checks c .stop) false (eqb (checks c .cause) 2) ≡ invalid c
   unfolding invalid
-  invalid-agree (Command.MoveToHue hue direction time) = looked (Command.MoveToHue hue direction time) ∙ one-by (ltb 254 hue)
-  invalid-agree (Command.MoveHue mode rate enhanced) = looked (Command.MoveHue mode rate enhanced) ∙ move-by mode rate
-  invalid-agree (Command.StepHue mode size time) = looked (Command.StepHue mode size time) ∙ zero-by (eqb size 0)
-  invalid-agree (Command.MoveToSaturation saturation time) = looked (Command.MoveToSaturation saturation time) ∙ one-by (ltb 254 saturation)
-  invalid-agree (Command.MoveSaturation mode rate) = looked (Command.MoveSaturation mode rate) ∙ move-by mode rate
-  invalid-agree (Command.StepSaturation mode size time) = looked (Command.StepSaturation mode size time) ∙ zero-by (eqb size 0)
-  invalid-agree (Command.MoveToHueAndSaturation hue saturation time enhanced enhancedHue) =
-      looked (Command.MoveToHueAndSaturation hue saturation time enhanced enhancedHue) ∙ one-by ((not enhanced && ltb 254 hue) || ltb 254 saturation)
-  invalid-agree (Command.EnhancedMoveToHue hue direction time) = looked (Command.EnhancedMoveToHue hue direction time)
-  invalid-agree (Command.EnhancedMoveHue mode rate) = looked (Command.EnhancedMoveHue mode rate) ∙ move-by mode rate
-  invalid-agree (Command.EnhancedStepHue mode size time) = looked (Command.EnhancedStepHue mode size time) ∙ zero-by (eqb size 0)
-  invalid-agree (Command.MoveToColorTemperature mireds time) = looked (Command.MoveToColorTemperature mireds time) ∙ one-by (eqb mireds 0)
-  invalid-agree (Command.MoveColorTemperature mode rate min max) = looked (Command.MoveColorTemperature mode rate min max) ∙ move-by mode rate
-  invalid-agree (Command.StepColorTemperature mode size time min max) =
-      looked (Command.StepColorTemperature mode size time min max) ∙ zero-by (eqb size 0)
-  invalid-agree (Command.ColorLoopSet flags action direction time startHue) = looked (Command.ColorLoopSet flags action direction time startHue)
-  invalid-agree Command.StopMoveStep = looked Command.StopMoveStep
+  own-agree (Command.MoveToHue hue direction time) = one-by (ltb 254 hue)
+  own-agree (Command.MoveHue mode rate enhanced) = move-by mode rate
+  own-agree (Command.StepHue mode size time) = zero-by (eqb size 0)
+  own-agree (Command.MoveToSaturation saturation time) = one-by (ltb 254 saturation)
+  own-agree (Command.MoveSaturation mode rate) = move-by mode rate
+  own-agree (Command.StepSaturation mode size time) = zero-by (eqb size 0)
+  own-agree (Command.MoveToHueAndSaturation hue saturation time enhanced enhancedHue) =
+      one-by ((not enhanced && ltb 254 hue) || ltb 254 saturation)
+  own-agree (Command.EnhancedMoveToHue hue direction time) = refl
+  own-agree (Command.EnhancedMoveHue mode rate) = move-by mode rate
+  own-agree (Command.EnhancedStepHue mode size time) = zero-by (eqb size 0)
+  own-agree (Command.MoveToColorTemperature mireds time) = one-by (eqb mireds 0)
+  own-agree (Command.MoveColorTemperature mode rate min max) = move-by mode rate
+  own-agree (Command.StepColorTemperature mode size time min max) =
+      zero-by (eqb size 0)
+  own-agree (Command.ColorLoopSet flags action direction time startHue) = refl
+  own-agree Command.StopMoveStep = refl
+
+  -- past form and clock, InvalidCommand is the port's answer exactly where the text's is
+  pub invalid-agree : (r : Request) → eqb (afterClock l r onOff) 2 ≡ invalid (r .command)
+  invalid-agree r = looked r ∙ own-agree (r .command)

@@ -8,8 +8,10 @@ use native.Mathlib.Omega.{arith}
 use lib.Dec.{ltb, leb}
 use lib.IntN.{ℤ, pos}
 use borrow.Author.Tests.{leb-false, lt-leb, ltb-true, ltb-false, ne-eqb}
+use Rattle.matter.specs.Requests.{request}
 use Rattle.matter.specs.declared.limits.Bounds.{Bounds}
 use Rattle.matter.specs.declared.commands.Command.{Command}
+use Rattle.matter.specs.declared.commands.Request.{Request}
 use Rattle.matter.specs.declared.commands.CommandOptions.{CommandOptions}
 use Rattle.matter.specs.declared.enums.StepModeEnum.{StepModeEnum}
 use Rattle.matter.specs.declared.enums.MoveModeEnum.{MoveModeEnum}
@@ -32,7 +34,7 @@ use Rattle.matter.specs.Rules.{signed}
 use Rattle.lamp.specs.Passes.{moved, temperaturePass}
 use Rattle.lamp.specs.declared.Call.{Call}
 use Rattle.commands.specs.Answers.{cause, answer, allowed, commandDone}
-use Rattle.commands.specs.Commands.{CommandEffect, asked, lo, hi, stopMode, crossed, commandEffect}
+use Rattle.commands.specs.Commands.{CommandEffect, asked, lo, hi, checks, crossed, commandEffect}
 use Rattle.commands.proofs.Kept.{answer-both}
 use Rattle.conformance.specs.Limits.{Allowed, Closest}
 use Rattle.conformance.proofs.Ran.{granted-is}
@@ -67,7 +69,7 @@ module _ (bounds : Bounds) where
       }
 
   -- the limits of a step cross exactly where no mired is allowed
-  module _ (mode : StepModeEnum) (size time minimum maximum : ℕ) (options : CommandOptions) where
+  module _ (mode : StepModeEnum) (size time minimum maximum : ℕ) where
     abbrev theStep : Command
     theStep = Command.StepColorTemperature mode size time minimum maximum
 
@@ -119,9 +121,9 @@ module _ (l : Lamp) (mode : MoveModeEnum) (rate minimum maximum : ℕ) (options 
       (request (Command.MoveColorTemperature mode rate minimum maximum) options) onOff)
   unfolding commandEffect
   gives-by =
-      let c : Command = Command.MoveColorTemperature mode rate minimum maximum in
-      cond-both Gives (stopMode c) _ _ (λ s g. absurd (stop-refused (cc)))
-      (λ s. cond-both Gives (allowed l c onOff) _ _ (λ a g. cc)
+      let q : Request = request (Command.MoveColorTemperature mode rate minimum maximum) options in
+      cond-both Gives (checks (q .command) .stop) _ _ (λ s g. absurd (stop-refused (cc)))
+      (λ s. cond-both Gives (allowed l q onOff) _ _ (λ a g. cc)
       (λ a g. let z : _≡_ {A = ℕ} 0 1 = cc in absurd (omega arith)))
 
   task-is : task ≡ Task.ColorTemperatureMove asks

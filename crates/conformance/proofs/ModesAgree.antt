@@ -5,6 +5,8 @@ use mathlib.Core.Bool.{Bool, true, false, cond, true≢false, _||_, and-false}
 use mathlib.Core.Path.{_≡_, refl, sym, ap, _∙_}
 use lib.Dec.{eqb}
 use Rattle.matter.specs.declared.commands.Command.{Command}
+use Rattle.matter.specs.declared.commands.Request.{Request}
+use Rattle.matter.specs.Requests.{request, noOptions}
 use Rattle.matter.specs.declared.enums.ColorModeEnum.{ColorModeEnum}
 use Rattle.matter.specs.declared.enums.DirectionEnum.{DirectionEnum}
 use Rattle.matter.specs.declared.enums.EnhancedColorModeEnum.{EnhancedColorModeEnum}
@@ -154,11 +156,11 @@ end-temperature-modes l run p over =
 
 -- ---- on receipt the port leaves them, so they are the text's exactly where they were already
 
-module _ (l : Lamp) (c : Command) (onOff : OnOff) (clock : ℕ) where
-  pub modes-kept : isLoopSet c ≡ false → cause l (Call.Command c onOff clock) ≡ 0 → modesOf (answer l (Call.Command c onOff clock) .lamp .color) ≡ modesOf (l .color)
-  modes-kept h z = ap (λ (m : Lamp). modesOf (m .color)) (quiet-command l c onOff clock h z)
+module _ (l : Lamp) (r : Request) (onOff : OnOff) (clock : ℕ) where
+  pub modes-kept : isLoopSet (r .command) ≡ false → cause l (Call.Command r onOff clock) ≡ 0 → modesOf (answer l (Call.Command r onOff clock) .lamp .color) ≡ modesOf (l .color)
+  modes-kept h z = ap (λ (m : Lamp). modesOf (m .color)) (quiet-command l r onOff clock h z)
 
-  pub modes-differ : isLoopSet c ≡ false → cause l (Call.Command c onOff clock) ≡ 0 → (received (modesOf (l .color)) c ≡ modesOf (l .color) → ⊥) → modesOf (answer l (Call.Command c onOff clock) .lamp .color) ≡ received (modesOf (l .color)) c → ⊥
+  pub modes-differ : isLoopSet (r .command) ≡ false → cause l (Call.Command r onOff clock) ≡ 0 → (received (modesOf (l .color)) (r .command) ≡ modesOf (l .color) → ⊥) → modesOf (answer l (Call.Command r onOff clock) .lamp .color) ≡ received (modesOf (l .color)) (r .command) → ⊥
   modes-differ h z n e = n (sym e ∙ modes-kept h z)
 
 -- the smallest: MoveToHue to 0 of a fresh lamp, which is in XY mode
@@ -168,6 +170,6 @@ first = Command.MoveToHue 0 DirectionEnum.Shortest 0
 abbrev fresh : Lamp
 fresh = freshLamp (record { min = 1; max = 1 }) 31 0 0
 
-pub modes-first-differ : (received (modesOf (fresh .color)) first .color ≡ ColorModeEnum.CurrentHueAndCurrentSaturation) × (commandDone fresh first OnOff.On .lamp .color .mode ≡ ColorModeEnum.CurrentXAndCurrentY)
+pub modes-first-differ : (received (modesOf (fresh .color)) first .color ≡ ColorModeEnum.CurrentHueAndCurrentSaturation) × (commandDone fresh (request first noOptions) OnOff.On .lamp .color .mode ≡ ColorModeEnum.CurrentXAndCurrentY)
 unfolding received commandEffect defaultColorMode hasFlag
 modes-first-differ = (refl, refl)

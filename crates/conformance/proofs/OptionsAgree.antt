@@ -5,13 +5,14 @@ use mathlib.Core.Path.{_≡_, refl, sym}
 use native.Mathlib.Omega.{arith}
 use lib.Dec.{eqb}
 use Rattle.matter.specs.declared.commands.Command.{Command}
+use Rattle.matter.specs.declared.commands.Request.{Request}
 use Rattle.matter.specs.declared.enums.MoveModeEnum.{MoveModeEnum}
 use Rattle.matter.specs.declared.enums.OnOff.{OnOff}
 use Rattle.matter.specs.Flags.{hasFlag}
 use Rattle.matter.specs.Rules.{mayExecute}
 use Rattle.tasks.specs.declared.Task.{Task}
 use Rattle.lamp.specs.declared.Lamp.{Lamp}
-use Rattle.commands.specs.Commands.{optionsOf, stopMode, skip, giving}
+use Rattle.commands.specs.Commands.{checks, skip, giving}
 use Rattle.commands.specs.Answers.{commandDone}
 use Rattle.conformance.specs.Options.{bit, bitmap, temporaryBit, temporaryOptions, continues}
 
@@ -46,16 +47,16 @@ options-agree OnOff.Off options mask over = rw (execute-if-off options mask over
 options-agree OnOff.On options mask over = refl
 options-agree OnOff.NoHandler options mask over = refl
 
-module _ (l : Lamp) (c : Command) (onOff : OnOff) where
+module _ (l : Lamp) (r : Request) (onOff : OnOff) where
   -- a command that may not continue does nothing, unless it is in Stop mode
-  pub options-heeded : continues onOff (l .options) (optionsOf c .mask) (optionsOf c .over) ≡ false → stopMode c ≡ false → commandDone l c onOff ≡ skip l
-  options-heeded h s = rw (s, options-agree onOff (l .options) (optionsOf c .mask) (optionsOf c .over), h)
+  pub options-heeded : continues onOff (l .options) (r .options .mask) (r .options .overrides) ≡ false → checks (r .command) .stop ≡ false → commandDone l r onOff ≡ skip l
+  options-heeded h s = rw (s, options-agree onOff (l .options) (r .options .mask) (r .options .overrides), h)
 
   -- in Stop mode it gives the Stop task all the same, where the text's does nothing
-  pub options-passed-by : stopMode c ≡ true → commandDone l c onOff ≡ giving l Task.Stop
+  pub options-passed-by : checks (r .command) .stop ≡ true → commandDone l r onOff ≡ giving l Task.Stop
   options-passed-by s = rw s
 
 -- the smallest such command: MoveHue in Stop mode to a lamp that is off, with all options 0
-pub stop-mode-differs : (continues OnOff.Off 0 0 0 ≡ false) × (stopMode (Command.MoveHue MoveModeEnum.Stop 0 false) ≡ true)
+pub stop-mode-differs : (continues OnOff.Off 0 0 0 ≡ false) × (checks (Command.MoveHue MoveModeEnum.Stop 0 false) .stop ≡ true)
 unfolding continues temporaryOptions
 stop-mode-differs = (refl, refl)

@@ -10,13 +10,14 @@ use lib.Dec.{eqb}
 use lib.IntN.{pos, natAbs, _+ℤ_}
 use Rattle.matter.specs.declared.limits.Bounds.{Bounds}
 use Rattle.matter.specs.declared.commands.Command.{Command}
+use Rattle.matter.specs.declared.commands.Request.{Request}
 use Rattle.matter.specs.declared.commands.CommandOptions.{CommandOptions}
 use Rattle.matter.specs.declared.enums.DirectionEnum.{DirectionEnum}
 use Rattle.matter.specs.declared.enums.MoveModeEnum.{MoveModeEnum}
 use Rattle.matter.specs.declared.enums.OnOff.{OnOff}
 use Rattle.matter.specs.declared.enums.StepModeEnum.{StepModeEnum}
 use Rattle.matter.proofs.Laws.{cond-both}
-use Rattle.matter.specs.InRange.{InRangeCommand}
+use Rattle.matter.specs.InRange.{InRangeCommand, InRangeRequest}
 use Rattle.hue.specs.Hue.{pathDelta}
 use Rattle.progress.proofs.Laws.{clamp-keeps, clamp-within}
 use Rattle.progress.specs.Progress.{clamp}
@@ -33,7 +34,7 @@ use Rattle.lamp.specs.Valid.{lampValid}
 use Rattle.lamp.proofs.Kept.{valid-color, no-cause}
 use Rattle.lamp.specs.declared.Call.{Call}
 use Rattle.commands.specs.Answers.{allowed, commandCause, afterClock, cause, answer}
-use Rattle.commands.specs.Commands.{causeIf, stopMode, numberCause, asked, lo, hi, stored, temperatureTask, stepDelta, commandEffect}
+use Rattle.commands.specs.Commands.{causeIf, checks, asked, lo, hi, stored, temperatureTask, stepDelta, commandEffect}
 use Rattle.commands.proofs.Kept.{answer-both, granted-ready}
 use Rattle.commands.proofs.TaskValid.{given-valid}
 use Rattle.conformance.proofs.ArrivalsAgree.{move-to-follows, mireds-to-follow}
@@ -159,52 +160,52 @@ module _ (l : Lamp) (validity : lampValid l ≡ true) (hued : l .color .hue < 65
 
   -- a command with good fields
   abbrev Asked : Command → Type 0
-  Asked c = InRangeCommand c → numberCause c ≡ 0 → Does (l .bounds) (l .color) c (commandEffect l c .task)
+  Asked c = InRangeCommand c → checks c .cause ≡ 0 → Does (l .bounds) (l .color) c (commandEffect l c .task)
 
-  move-to-hue-does : (hue : ℕ) (direction : DirectionEnum) (time : ℕ) (options : CommandOptions) →
+  move-to-hue-does : (hue : ℕ) (direction : DirectionEnum) (time : ℕ) →
       Asked (Command.MoveToHue hue direction time)
   unfolding commandEffect
-  move-to-hue-does hue direction time options t z = (
+  move-to-hue-does hue direction time t z = (
     λ m clock. refl,
     λ m n begun b k r clock lasts.
         with-hue (move-to-follows m begun _ k n r clock lasts)
         (goes-to (stored hue) time direction _ _ _ (omega (arith, t .0))),
   )
 
-  move-hue-does : (mode : MoveModeEnum) (rate : ℕ) (enhanced : Bool) (options : CommandOptions) →
+  move-hue-does : (mode : MoveModeEnum) (rate : ℕ) (enhanced : Bool) →
       Asked (Command.MoveHue mode rate enhanced)
   unfolding commandEffect
-  move-hue-does mode rate true options t z =
+  move-hue-does mode rate true t z =
       (λ m clock. refl, λ m n begun b k r clock lasts. rw (mul-one rate) (hue-move-follows m begun _ k n r clock lasts))
-  move-hue-does mode rate false options t z =
+  move-hue-does mode rate false t z =
       (λ m clock. refl, λ m n begun b k r clock lasts. hue-move-follows m begun _ k n r clock lasts)
 
-  step-hue-does : (mode : StepModeEnum) (size time : ℕ) (options : CommandOptions) →
+  step-hue-does : (mode : StepModeEnum) (size time : ℕ) →
       Asked (Command.StepHue mode size time)
   unfolding commandEffect
-  step-hue-does mode size time options t z = (
+  step-hue-does mode size time t z = (
     λ m clock. refl,
     λ m n begun b k r clock lasts.
         with-hue (move-to-follows m begun _ k n r clock lasts)
         (step-goes mode (stored size) _ _ _ _ (omega (arith, not-0 size 1 z))),
   )
 
-  move-to-saturation-does : (saturation time : ℕ) (options : CommandOptions) →
+  move-to-saturation-does : (saturation time : ℕ) →
       Asked (Command.MoveToSaturation saturation time)
   unfolding commandEffect
-  move-to-saturation-does saturation time options t z =
+  move-to-saturation-does saturation time t z =
       (λ m clock. refl, λ m n begun b k r clock lasts. move-to-follows m begun _ k n r clock lasts)
 
-  move-saturation-does : (mode : MoveModeEnum) (rate : ℕ) (options : CommandOptions) →
+  move-saturation-does : (mode : MoveModeEnum) (rate : ℕ) →
       Asked (Command.MoveSaturation mode rate)
   unfolding commandEffect
-  move-saturation-does mode rate options t z =
+  move-saturation-does mode rate t z =
       (λ m clock. refl, λ m n begun b k r clock lasts. saturation-move-follows m begun _ (fair r) n r clock lasts)
 
-  step-saturation-does : (mode : StepModeEnum) (size time : ℕ) (options : CommandOptions) →
+  step-saturation-does : (mode : StepModeEnum) (size time : ℕ) →
       Asked (Command.StepSaturation mode size time)
   unfolding commandEffect
-  step-saturation-does mode size time options t z = (
+  step-saturation-does mode size time t z = (
     λ m clock. refl,
     λ m n begun b k r clock lasts.
         with-saturation (move-to-follows m begun _ k n r clock lasts)
@@ -212,10 +213,10 @@ module _ (l : Lamp) (validity : lampValid l ≡ true) (hued : l .color .hue < 65
         (saturation-step-agrees mode (l .color .saturation) size (valid-saturation _ _ _ (valid-color l validity)))),
   )
 
-  move-to-hue-and-saturation-does : (hue saturation time : ℕ) (enhanced : Bool) (enhancedHue : ℕ)
-      (options : CommandOptions) → Asked (Command.MoveToHueAndSaturation hue saturation time enhanced enhancedHue)
+  move-to-hue-and-saturation-does : (hue saturation time : ℕ) (enhanced : Bool) (enhancedHue : ℕ) →
+      Asked (Command.MoveToHueAndSaturation hue saturation time enhanced enhancedHue)
   unfolding commandEffect
-  move-to-hue-and-saturation-does hue saturation time enhanced enhancedHue options t z = (
+  move-to-hue-and-saturation-does hue saturation time enhanced enhancedHue t z = (
     λ m clock. refl,
     λ m n begun b k r clock lasts.
         with-hue (move-to-follows m begun _ k n r clock lasts)
@@ -223,34 +224,34 @@ module _ (l : Lamp) (validity : lampValid l ≡ true) (hued : l .color .hue < 65
         (cond-both (λ n. n < 65536) enhanced enhancedHue (stored hue) (λ e. t .3) (λ e. omega (arith, t .0)))),
   )
 
-  enhanced-move-to-hue-does : (hue : ℕ) (direction : DirectionEnum) (time : ℕ) (options : CommandOptions) →
+  enhanced-move-to-hue-does : (hue : ℕ) (direction : DirectionEnum) (time : ℕ) →
       Asked (Command.EnhancedMoveToHue hue direction time)
   unfolding commandEffect
-  enhanced-move-to-hue-does hue direction time options t z = (
+  enhanced-move-to-hue-does hue direction time t z = (
     λ m clock. refl,
     λ m n begun b k r clock lasts.
         with-hue (move-to-follows m begun _ k n r clock lasts) (goes-to hue time direction _ _ _ (t .0)),
   )
 
-  enhanced-move-hue-does : (mode : MoveModeEnum) (rate : ℕ) (options : CommandOptions) →
+  enhanced-move-hue-does : (mode : MoveModeEnum) (rate : ℕ) →
       Asked (Command.EnhancedMoveHue mode rate)
   unfolding commandEffect
-  enhanced-move-hue-does mode rate options t z =
+  enhanced-move-hue-does mode rate t z =
       (λ m clock. refl, λ m n begun b k r clock lasts. hue-move-follows m begun _ k n r clock lasts)
 
-  enhanced-step-hue-does : (mode : StepModeEnum) (size time : ℕ) (options : CommandOptions) →
+  enhanced-step-hue-does : (mode : StepModeEnum) (size time : ℕ) →
       Asked (Command.EnhancedStepHue mode size time)
   unfolding commandEffect
-  enhanced-step-hue-does mode size time options t z = (
+  enhanced-step-hue-does mode size time t z = (
     λ m clock. refl,
     λ m n begun b k r clock lasts.
         with-hue (move-to-follows m begun _ k n r clock lasts) (step-goes mode size _ _ _ _ (not-0 size 1 z)),
   )
 
-  move-to-color-temperature-does : (mireds time : ℕ) (options : CommandOptions) →
+  move-to-color-temperature-does : (mireds time : ℕ) →
       Asked (Command.MoveToColorTemperature mireds time)
   unfolding commandEffect
-  move-to-color-temperature-does mireds time options t z = (
+  move-to-color-temperature-does mireds time t z = (
     λ m clock. refl,
     λ m n begun b k r clock lasts.
         let selected : ℕ = clamp (l .bounds .min) (l .bounds .max) (pos mireds) in
@@ -264,10 +265,10 @@ module _ (l : Lamp) (validity : lampValid l ≡ true) (hued : l .color .hue < 65
         }),
   )
 
-  move-color-temperature-does : (mode : MoveModeEnum) (rate min max : ℕ) (options : CommandOptions) →
+  move-color-temperature-does : (mode : MoveModeEnum) (rate min max : ℕ) →
       Asked (Command.MoveColorTemperature mode rate min max)
   unfolding commandEffect
-  move-color-temperature-does mode rate min max options t z = (
+  move-color-temperature-does mode rate min max t z = (
     λ m clock. refl,
     λ m n begun b k r clock lasts least most ends allow.
         let e : lower (m .bounds) (asked (l .bounds .min) min) ≡ least =
@@ -287,10 +288,10 @@ module _ (l : Lamp) (validity : lampValid l ≡ true) (hued : l .color .hue < 65
         ∙ ap (λ (q : ℕ). moveTo mode least q (stepsMade rate (clock - begun)) (m .color .mireds)) f),
   )
 
-  step-color-temperature-does : (mode : StepModeEnum) (size time min max : ℕ) (options : CommandOptions) →
+  step-color-temperature-does : (mode : StepModeEnum) (size time min max : ℕ) →
       Asked (Command.StepColorTemperature mode size time min max)
   unfolding commandEffect
-  step-color-temperature-does mode size time min max options t z = (
+  step-color-temperature-does mode size time min max t z = (
     λ m clock. refl,
     λ m n begun b k r clock lasts least most ends allow.
         let from : ℕ = l .color .mireds in
@@ -310,52 +311,52 @@ module _ (l : Lamp) (validity : lampValid l ≡ true) (hued : l .color .hue < 65
   )
 
   does : (c : Command) → moves c ≡ true → Asked c
-  does (Command.MoveToHue hue direction time) v = move-to-hue-does hue direction time options
-  does (Command.MoveHue mode rate enhanced) v = move-hue-does mode rate enhanced options
-  does (Command.StepHue mode size time) v = step-hue-does mode size time options
-  does (Command.MoveToSaturation saturation time) v = move-to-saturation-does saturation time options
-  does (Command.MoveSaturation mode rate) v = move-saturation-does mode rate options
-  does (Command.StepSaturation mode size time) v = step-saturation-does mode size time options
+  does (Command.MoveToHue hue direction time) v = move-to-hue-does hue direction time
+  does (Command.MoveHue mode rate enhanced) v = move-hue-does mode rate enhanced
+  does (Command.StepHue mode size time) v = step-hue-does mode size time
+  does (Command.MoveToSaturation saturation time) v = move-to-saturation-does saturation time
+  does (Command.MoveSaturation mode rate) v = move-saturation-does mode rate
+  does (Command.StepSaturation mode size time) v = step-saturation-does mode size time
   does (Command.MoveToHueAndSaturation hue saturation time enhanced enhancedHue) v =
-      move-to-hue-and-saturation-does hue saturation time enhanced enhancedHue options
-  does (Command.EnhancedMoveToHue hue direction time) v = enhanced-move-to-hue-does hue direction time options
-  does (Command.EnhancedMoveHue mode rate) v = enhanced-move-hue-does mode rate options
-  does (Command.EnhancedStepHue mode size time) v = enhanced-step-hue-does mode size time options
-  does (Command.MoveToColorTemperature mireds time) v = move-to-color-temperature-does mireds time options
+      move-to-hue-and-saturation-does hue saturation time enhanced enhancedHue
+  does (Command.EnhancedMoveToHue hue direction time) v = enhanced-move-to-hue-does hue direction time
+  does (Command.EnhancedMoveHue mode rate) v = enhanced-move-hue-does mode rate
+  does (Command.EnhancedStepHue mode size time) v = enhanced-step-hue-does mode size time
+  does (Command.MoveToColorTemperature mireds time) v = move-to-color-temperature-does mireds time
   does (Command.MoveColorTemperature mode rate min max) v =
-      move-color-temperature-does mode rate min max options
+      move-color-temperature-does mode rate min max
   does (Command.StepColorTemperature mode size time min max) v =
-      step-color-temperature-does mode size time min max options
+      step-color-temperature-does mode size time min max
   does (Command.ColorLoopSet flags action direction time startHue) v = absurd (true≢false (sym v))
   does Command.StopMoveStep v = absurd (true≢false (sym v))
 
 -- an accepted command has no cause of its own numbers
-command-fields : (l : Lamp) (c : Command) (onOff : OnOff) (clock : ℕ) → cause l (Call.Command c onOff clock) ≡ 0 →
-    stopMode c ≡ false → numberCause c ≡ 0
+command-fields : (l : Lamp) (q : Request) (onOff : OnOff) (clock : ℕ) → cause l (Call.Command q onOff clock) ≡ 0 →
+    checks (q .command) .stop ≡ false → checks (q .command) .cause ≡ 0
 unfolding cause commandCause
-command-fields l c onOff clock z s =
-    no-cause (numberCause c) _ (rw s at (no-cause (firstCause l clock) (afterClock l c onOff) z .1)) .0
+command-fields l q onOff clock z s =
+    no-cause (checks (q .command) .cause) _ (rw s at (no-cause (firstCause l clock) (afterClock l q onOff) z .1)) .0
 
 -- an accepted command with leave to execute, in no Stop mode, does what the text asks
-pub receipt-agrees : (l : Lamp) (c : Command) (onOff : OnOff) (clock : ℕ) → l .color .hue < 65536 → InRangeCommand c →
-    moves c ≡ true → cause l (Call.Command c onOff clock) ≡ 0 → allowed l c onOff ≡ true → stopMode c ≡ false →
-    Gives l c (answer l (Call.Command c onOff clock) .task)
-receipt-agrees l c onOff clock h t v z a s =
+pub receipt-agrees : (l : Lamp) (q : Request) (onOff : OnOff) (clock : ℕ) → l .color .hue < 65536 → InRangeRequest q →
+    moves (q .command) ≡ true → cause l (Call.Command q onOff clock) ≡ 0 → allowed l q onOff ≡ true → checks (q .command) .stop ≡ false →
+    Gives l (q .command) (answer l (Call.Command q onOff clock) .task)
+receipt-agrees l q onOff clock h t v z a s =
     gives _ refl
-    (answer-both l (λ r. Does (l .bounds) (l .color) c (r .task)) (Call.Command c onOff clock)
-    (λ e. rw (s, a) (does (atClock l clock) (granted-ready l (Call.Command c onOff clock) z) h c v t
-    (command-fields l c onOff clock z s)))
+    (answer-both l (λ r. Does (l .bounds) (l .color) (q .command) (r .task)) (Call.Command q onOff clock)
+    (λ e. rw (s, a) (does (atClock l clock) (granted-ready l (Call.Command q onOff clock) z) h (q .command) v (t .command)
+    (command-fields l q onOff clock z s)))
     (λ k. absurd (k z)))
   where
-    gives : (given : GivenTask) → answer l (Call.Command c onOff clock) .task ≡ given →
-        Does (l .bounds) (l .color) c given → Gives l c given
+    gives : (given : GivenTask) → answer l (Call.Command q onOff clock) .task ≡ given →
+        Does (l .bounds) (l .color) (q .command) given → Gives l (q .command) given
     gives GivenTask.Nothing e d = absurd d
     gives (GivenTask.Given task) e d =
         record {
           task = task;
           is = refl;
           isValid =
-              given-valid l c onOff clock t task e
+              given-valid l q onOff clock t task e
               (λ p. true≢false (sym (d .0 l clock) ∙ ap (λ (x : Task). runs (saved l x clock)) p));
           follows = d .1;
         }

@@ -4,6 +4,7 @@ use Prim.Native.Nat.{ℕ}
 use mathlib.Core.Bool.{Bool, true, false, _&&_, true≢false}
 use mathlib.Core.Path.{_≡_, refl, sym, ap, _∙_}
 use native.Mathlib.Omega.{arith}
+use Rattle.matter.specs.Requests.{request}
 use Rattle.matter.specs.declared.commands.Command.{Command}
 use Rattle.matter.specs.declared.commands.CommandOptions.{CommandOptions}
 use Rattle.matter.specs.declared.enums.OnOff.{OnOff}
