@@ -20,8 +20,7 @@ use Rattle.tasks.specs.declared.Task.{Task}
 use Rattle.lamp.specs.declared.Lamp.{Lamp}
 use Rattle.lamp.specs.declared.LoopSettings.{LoopSettings}
 use Rattle.lamp.specs.declared.Answer.{Answer}
-use Rattle.commands.specs.Answers.{commandAnswer}
-use Rattle.worked_examples.specs.Cases.{lamp, noOptions, listed, bare, busy}
+use Rattle.worked_examples.specs.Cases.{lamp, plain, listed, bare, busy}
 
 -- ---- a row: a command, on or off, and its whole answer on a lamp
 
@@ -75,7 +74,7 @@ refusesOff c number = record { command = c; onOff = OnOff.Off; answer = bare num
 
 abbrev pub Says : Lamp → List Row → Type 0
 Says l rows =
-    map (λ (r : Row). commandAnswer l (r .command) (r .onOff) now) rows ≡ map (λ (r : Row). r .answer l) rows
+    map (λ (r : Row). plain l (r .command) (r .onOff) now) rows ≡ map (λ (r : Row). r .answer l) rows
 
 -- ---- the tasks, in 7 tenths
 
@@ -216,7 +215,7 @@ loopSaid a = (a .number, listed a, a .task, a .lamp .looping, a .wait)
 
 abbrev pub withFlags : ℕ → ℕ → Answer
 withFlags flags seconds =
-    commandAnswer lamp
+    plain lamp
     (Command.ColorLoopSet flags ColorLoopActionEnum.ActivateFromColorLoopStartEnhancedHue ColorLoopDirectionEnum.Decrement
     seconds 100)
     OnOff.On now

@@ -17,8 +17,7 @@ use Rattle.tasks.specs.Runs.{runs}
 use Rattle.lamp.specs.declared.Lamp.{Lamp}
 use Rattle.lamp.specs.declared.Answer.{Answer}
 use Rattle.lamp.specs.Calls.{stepAnswer, haltAnswer}
-use Rattle.commands.specs.Answers.{commandAnswer}
-use Rattle.worked_examples.specs.Cases.{noOptions, started, next, listed, idled, bare, loop, upBetween, busy}
+use Rattle.worked_examples.specs.Cases.{plain, started, next, listed, idled, bare, loop, upBetween, busy}
 use Rattle.worked_examples.specs.Answers.{now, later}
 use Rattle.worked_examples.specs.Runs.{Run, run, RunsReported, going, done, hue, enhanced, warmth}
 
@@ -80,7 +79,7 @@ moving =
 
 abbrev pub acted : ColorLoopActionEnum → Lamp → Answer
 acted action l =
-    commandAnswer l (Command.ColorLoopSet 1 action ColorLoopDirectionEnum.Decrement 1 0) OnOff.On now
+    plain l (Command.ColorLoopSet 1 action ColorLoopDirectionEnum.Decrement 1 0) OnOff.On now
 
 abbrev pub on : Answer
 on = acted ColorLoopActionEnum.ActivateFromColorLoopStartEnhancedHue moving

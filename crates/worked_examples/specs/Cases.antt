@@ -10,7 +10,7 @@ use lib.ListN.{take, replicate}
 use Rattle.matter.specs.declared.enums.ColorLoopActionEnum.{ColorLoopActionEnum}
 use Rattle.matter.specs.declared.enums.ColorLoopDirectionEnum.{ColorLoopDirectionEnum}
 use Rattle.matter.specs.declared.commands.Command.{Command}
-use Rattle.matter.specs.declared.commands.CommandOptions.{CommandOptions}
+use Rattle.matter.specs.Requests.{request, noOptions}
 use Rattle.matter.specs.declared.enums.DirectionEnum.{DirectionEnum}
 use Rattle.matter.specs.declared.enums.MoveModeEnum.{MoveModeEnum}
 use Rattle.matter.specs.declared.enums.OnOff.{OnOff}
@@ -34,12 +34,13 @@ use Rattle.commands.specs.Answers.{commandAnswer}
 abbrev pub lamp : Lamp
 lamp = freshLamp (record { min = 153; max = 500 }) 31 0 5000
 
-abbrev pub noOptions : CommandOptions
-noOptions = record { mask = 0; overrides = 0 }
+-- a command with neither option bit
+abbrev pub plain : Lamp → Command → OnOff → ℕ → Answer
+plain l c onOff clock = commandAnswer l (request c noOptions) onOff clock
 
 -- a command to a lamp that is on, at the lamp's clock
 abbrev pub given : Lamp → Command → Answer
-given l c = commandAnswer l c OnOff.On (l .clock)
+given l c = plain l c OnOff.On (l .clock)
 
 -- a call behind another: where that one was refused, its refusal stays, so that number 0 at the end says that all were
 -- accepted

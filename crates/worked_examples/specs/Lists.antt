@@ -18,8 +18,7 @@ use Rattle.tasks.specs.declared.Task.{Task}
 use Rattle.lamp.specs.declared.Lamp.{Lamp}
 use Rattle.lamp.specs.declared.Answer.{Answer}
 use Rattle.lamp.specs.Calls.{startAnswer}
-use Rattle.commands.specs.Answers.{commandAnswer}
-use Rattle.worked_examples.specs.Cases.{lamp, noOptions, given, answers, listed}
+use Rattle.worked_examples.specs.Cases.{lamp, plain, given, answers, listed}
 
 -- a move-to of a way, with a saturation or without, started on a lamp at clock 5000; and on the lamp of the cases
 abbrev pub begunOn : Lamp → HueDelta → TargetSaturation → ℕ → Bool → Answer
@@ -74,7 +73,7 @@ AtOnceReported =
 
 abbrev pub loopFlags : ℕ → ColorLoopActionEnum → Lamp → Answer
 loopFlags flags action l =
-    commandAnswer l (Command.ColorLoopSet flags action ColorLoopDirectionEnum.Increment 30 100) OnOff.On 5000
+    plain l (Command.ColorLoopSet flags action ColorLoopDirectionEnum.Increment 30 100) OnOff.On 5000
 
 abbrev pub looped : ColorLoopActionEnum → Lamp → Answer
 looped action l = loopFlags 15 action l

@@ -14,7 +14,7 @@ use Rattle.matter.specs.declared.enums.MoveModeEnum.{MoveModeEnum}
 use Rattle.matter.specs.declared.enums.StepModeEnum.{StepModeEnum}
 use Rattle.lamp.specs.declared.Lamp.{Lamp}
 use Rattle.lamp.specs.declared.Answer.{Answer}
-use Rattle.worked_examples.specs.Cases.{lamp, noOptions, started, answersOn, listed, idle, loop, upBetween}
+use Rattle.worked_examples.specs.Cases.{lamp, started, answersOn, listed, idle, loop, upBetween}
 
 -- ---- what is seen of an answer to a start or a step
 

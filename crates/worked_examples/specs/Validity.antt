@@ -18,8 +18,7 @@ use Rattle.tasks.specs.declared.Task.{Task}
 use Rattle.tasks.specs.declared.Running.{Running}
 use Rattle.lamp.specs.declared.Lamp.{Lamp}
 use Rattle.lamp.specs.Calls.{startAnswer, stepAnswer, haltAnswer}
-use Rattle.commands.specs.Answers.{commandAnswer}
-use Rattle.worked_examples.specs.Cases.{lamp, noOptions}
+use Rattle.worked_examples.specs.Cases.{lamp, plain}
 use Rattle.worked_examples.specs.Answers.{hueMove, saturationMove, miredsMove}
 use Rattle.worked_examples.specs.Runs.{Modes, xy, hue, enhanced, warmth}
 
@@ -207,7 +206,7 @@ ValidityReported =
 
 abbrev pub numbers : Lamp → Command → Task → ℕ → List ℕ
 numbers l c task clock =
-    commandAnswer l c OnOff.On clock .number ∷ startAnswer l task clock .number ∷ stepAnswer l clock .number
+    plain l c OnOff.On clock .number ∷ startAnswer l task clock .number ∷ stepAnswer l clock .number
     ∷ haltAnswer l clock .number
     ∷ []
 
