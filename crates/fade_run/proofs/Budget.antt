@@ -10,6 +10,8 @@ use lib.Dec.{eqb, leb}
 use borrow.Author.Tests.{eqb-true, eqb-false, leb-false, leb-true, le-leb}
 use Rattle.matter.specs.declared.limits.Bounds.{Bounds}
 use Rattle.matter.specs.declared.commands.Command.{Command}
+use Rattle.matter.specs.declared.commands.Request.{Request}
+use Rattle.matter.specs.Requests.{request, noOptions}
 use Rattle.matter.specs.declared.enums.OnOff.{OnOff}
 use Rattle.matter.specs.Causes.{accepted}
 use Rattle.matter.proofs.Laws.{cond-both, and-left, or-left}
@@ -142,8 +144,8 @@ module _ (l : Lamp) (task : HueSaturationMoveTo) (clock n : ℕ) (time : task .m
 -- ---- the budget is enough, whatever is asked for
 
 module _ (w : Wanted) (j : ℕ) where
-  abbrev asked : Command
-  asked = Command.MoveToHue (w .hue) (w .direction) (w .tenths)
+  abbrev asked : Request
+  asked = request (Command.MoveToHue (w .hue) (w .direction) (w .tenths)) noOptions
 
   abbrev task : Lamp → HueSaturationMoveTo
   task l = record { delta = HueDelta.By (pathDelta (l .color .hue) (stored (w .hue)) (w .direction)); saturation = TargetSaturation.Keep; ms = ms (w .tenths); enhanced = false }

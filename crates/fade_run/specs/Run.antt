@@ -5,6 +5,7 @@ use mathlib.Core.Bool.{Bool, true, false, cond, _&&_, _||_}
 use mathlib.Core.List.{List, [], _++_}
 use lib.Dec.{eqb, ltb}
 use Rattle.matter.specs.declared.commands.Command.{Command}
+use Rattle.matter.specs.Requests.{request, noOptions}
 use Rattle.matter.specs.declared.enums.OnOff.{OnOff}
 use Rattle.matter.specs.Causes.{accepted}
 use Rattle.tasks.specs.declared.GivenTask.{GivenTask}
@@ -70,7 +71,7 @@ afterCommand left clock a = cond (eqb (a .number) accepted) (startOf left clock 
 abbrev pub commanded : ℕ → Wanted → Lamp → Fade
 commanded left w l =
     afterCommand left (w .clock)
-    (commandAnswer l (request (Command.MoveToHue (w .hue) (w .direction) (w .tenths)) (record { mask = 0; overrides = 0 })) OnOff.On (w .clock))
+    (commandAnswer l (request (Command.MoveToHue (w .hue) (w .direction) (w .tenths)) noOptions) OnOff.On (w .clock))
 
 abbrev pub afterMaking : ℕ → Wanted → Made → Fade
 afterMaking left w (Made.Refused number) = Fade.Refused number

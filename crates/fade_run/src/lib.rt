@@ -13,6 +13,7 @@ use matter::Bounds;
 use matter::Command;
 use matter::CommandOptions;
 use matter::OnOff;
+use matter::Request;
 use tasks::GivenTask;
 use tasks::Task;
 ghost use mathlib.Core.Path.{_≡_};
@@ -79,10 +80,13 @@ fn command(lamp: Lamp, wanted: Wanted) -> Fade
         hue: wanted.hue,
         direction: direction,
         time: wanted.tenths,
-        options: CommandOptions { mask: 0, over: 0 },
+    };
+    let options = CommandOptions {
+        mask: 0,
+        overrides: 0,
     };
     after_command(
-        invoke(lamp, command, OnOff::On, wanted.clock),
+        invoke(lamp, Request { options, command }, OnOff::On, wanted.clock),
         wanted.clock,
         wanted.tenths,
     )
