@@ -1,17 +1,15 @@
 // The commands of the hue.
 // Carried over from project-chip/rs-matter, commit 43f61585a4 (Apache-2.0, see NOTICE), and changed.
-use crate::invoke;
 use crate::outcomes::Outcome;
 use crate::outcomes::given;
+use crate::with_options;
 use hue::hue_path_delta;
 use lamp::Answer;
 use lamp::Lamp;
 use matter::Command;
-use matter::CommandOptions;
 use matter::DirectionEnum;
 use matter::MoveModeEnum;
 use matter::OnOff;
-use matter::Request;
 use matter::StepModeEnum;
 use tasks::HueDelta;
 use tasks::HueMove;
@@ -169,11 +167,7 @@ pub fn cmd_move_to_hue(
         direction,
         time: transition_time_ds,
     };
-    let options = CommandOptions {
-        mask: options_mask,
-        overrides: options_override,
-    };
-    invoke(lamp, Request { options, command }, on_off, clock)
+    with_options(lamp, command, options_mask, options_override, on_off, clock)
 }
 
 // EnhancedMoveToHue: the same, to an enhanced hue.
@@ -194,11 +188,7 @@ pub fn cmd_enhanced_move_to_hue(
         direction,
         time: transition_time_ds,
     };
-    let options = CommandOptions {
-        mask: options_mask,
-        overrides: options_override,
-    };
-    invoke(lamp, Request { options, command }, on_off, clock)
+    with_options(lamp, command, options_mask, options_override, on_off, clock)
 }
 
 // MoveHue: at a rate in plain units a second, or in enhanced ones.
@@ -219,11 +209,7 @@ pub fn cmd_move_hue(
         rate,
         enhanced: is_enhanced,
     };
-    let options = CommandOptions {
-        mask: options_mask,
-        overrides: options_override,
-    };
-    invoke(lamp, Request { options, command }, on_off, clock)
+    with_options(lamp, command, options_mask, options_override, on_off, clock)
 }
 
 // EnhancedMoveHue: at a rate in enhanced units a second.
@@ -242,11 +228,7 @@ pub fn cmd_enhanced_move_hue(
         mode: move_mode,
         rate,
     };
-    let options = CommandOptions {
-        mask: options_mask,
-        overrides: options_override,
-    };
-    invoke(lamp, Request { options, command }, on_off, clock)
+    with_options(lamp, command, options_mask, options_override, on_off, clock)
 }
 
 // StepHue: by a step in plain units.
@@ -267,11 +249,7 @@ pub fn cmd_step_hue(
         size: step_size,
         time: transition_time_ds,
     };
-    let options = CommandOptions {
-        mask: options_mask,
-        overrides: options_override,
-    };
-    invoke(lamp, Request { options, command }, on_off, clock)
+    with_options(lamp, command, options_mask, options_override, on_off, clock)
 }
 
 // EnhancedStepHue: by a step in enhanced units.
@@ -292,11 +270,7 @@ pub fn cmd_enhanced_step_hue(
         size: step_size,
         time: transition_time_ds,
     };
-    let options = CommandOptions {
-        mask: options_mask,
-        overrides: options_override,
-    };
-    invoke(lamp, Request { options, command }, on_off, clock)
+    with_options(lamp, command, options_mask, options_override, on_off, clock)
 }
 
 // MoveToHueAndSaturation, and the enhanced one: the hue by its shortest way.
@@ -321,9 +295,5 @@ pub fn cmd_move_to_hue_and_saturation(
         enhanced: is_enhanced,
         enhanced_hue,
     };
-    let options = CommandOptions {
-        mask: options_mask,
-        overrides: options_override,
-    };
-    invoke(lamp, Request { options, command }, on_off, clock)
+    with_options(lamp, command, options_mask, options_override, on_off, clock)
 }

@@ -179,6 +179,21 @@ pub fn invoke(lamp: Lamp, request: Request, on_off: OnOff, clock: u64) -> Answer
     }
 }
 
+// A command with its options, as the `cmd_` functions take them.
+pub(crate) fn with_options(
+    lamp: Lamp,
+    command: Command,
+    mask: u8,
+    overrides: u8,
+    on_off: OnOff,
+    clock: u64,
+) -> Answer
+    ensures { λ r. ⌜ r ≡ commandAnswer lamp (request command (options mask overrides)) «on_off» clock ⌝ }
+{
+    let options = CommandOptions { mask, overrides };
+    invoke(lamp, Request { options, command }, on_off, clock)
+}
+
 // StopMoveStep.
 pub fn cmd_stop_move_step(
     lamp: Lamp,
@@ -190,11 +205,7 @@ pub fn cmd_stop_move_step(
     ensures { λ r. ⌜ r ≡ commandAnswer lamp (request Command.StopMoveStep (options «options_mask» «options_override»)) «on_off» clock ⌝ }
 {
     let command = Command::StopMoveStep;
-    let options = CommandOptions {
-        mask: options_mask,
-        overrides: options_override,
-    };
-    invoke(lamp, Request { options, command }, on_off, clock)
+    with_options(lamp, command, options_mask, options_override, on_off, clock)
 }
 
 // Any call of a lamp: the one door to commands, starts, steps and halts.

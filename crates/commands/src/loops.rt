@@ -1,7 +1,7 @@
 // The colour loop's command.
 // Carried over from project-chip/rs-matter, commit 43f61585a4 (Apache-2.0, see NOTICE), and changed.
-use crate::invoke;
 use crate::outcomes::Outcome;
+use crate::with_options;
 use lamp::Answer;
 use lamp::Lamp;
 use lamp::LoopSettings;
@@ -9,9 +9,7 @@ use matter::ACCEPTED;
 use matter::ColorLoopActionEnum;
 use matter::ColorLoopDirectionEnum;
 use matter::Command;
-use matter::CommandOptions;
 use matter::OnOff;
-use matter::Request;
 use matter::UPDATE_ACTION;
 use matter::UPDATE_DIRECTION;
 use matter::UPDATE_START_HUE;
@@ -220,9 +218,5 @@ pub fn cmd_color_loop_set(
         time,
         start_hue,
     };
-    let options = CommandOptions {
-        mask: options_mask,
-        overrides: options_override,
-    };
-    invoke(lamp, Request { options, command }, on_off, clock)
+    with_options(lamp, command, options_mask, options_override, on_off, clock)
 }

@@ -1,15 +1,13 @@
 // The commands of the saturation alone.
 // Carried over from project-chip/rs-matter, commit 43f61585a4 (Apache-2.0, see NOTICE), and changed.
-use crate::invoke;
 use crate::outcomes::Outcome;
 use crate::outcomes::given;
+use crate::with_options;
 use lamp::Answer;
 use lamp::Lamp;
 use matter::Command;
-use matter::CommandOptions;
 use matter::MoveModeEnum;
 use matter::OnOff;
-use matter::Request;
 use matter::StepModeEnum;
 use tasks::HueDelta;
 use tasks::HueSaturationMoveTo;
@@ -84,11 +82,7 @@ pub fn cmd_move_to_saturation(
         saturation,
         time: transition_time_ds,
     };
-    let options = CommandOptions {
-        mask: options_mask,
-        overrides: options_override,
-    };
-    invoke(lamp, Request { options, command }, on_off, clock)
+    with_options(lamp, command, options_mask, options_override, on_off, clock)
 }
 
 // MoveSaturation: at a rate in units a second.
@@ -107,11 +101,7 @@ pub fn cmd_move_saturation(
         mode: move_mode,
         rate,
     };
-    let options = CommandOptions {
-        mask: options_mask,
-        overrides: options_override,
-    };
-    invoke(lamp, Request { options, command }, on_off, clock)
+    with_options(lamp, command, options_mask, options_override, on_off, clock)
 }
 
 // StepSaturation: by a step, as far as 0 or 254.
@@ -132,9 +122,5 @@ pub fn cmd_step_saturation(
         size: step_size,
         time: transition_time_ds,
     };
-    let options = CommandOptions {
-        mask: options_mask,
-        overrides: options_override,
-    };
-    invoke(lamp, Request { options, command }, on_off, clock)
+    with_options(lamp, command, options_mask, options_override, on_off, clock)
 }

@@ -1,17 +1,15 @@
 // The commands of the colour temperature, with the caller's limits.
 // Carried over from project-chip/rs-matter, commit 43f61585a4 (Apache-2.0, see NOTICE), and changed.
 use crate::hues::step_delta;
-use crate::invoke;
 use crate::outcomes::Outcome;
 use crate::outcomes::given;
+use crate::with_options;
 use lamp::Answer;
 use lamp::Lamp;
 use matter::Bounds;
 use matter::Command;
-use matter::CommandOptions;
 use matter::MoveModeEnum;
 use matter::OnOff;
-use matter::Request;
 use matter::StepModeEnum;
 use progress::clamped_sum;
 use tasks::ColorTemperatureMove;
@@ -112,11 +110,7 @@ pub fn cmd_move_to_color_temperature(
         mireds,
         time: transition_time_ds,
     };
-    let options = CommandOptions {
-        mask: options_mask,
-        overrides: options_override,
-    };
-    invoke(lamp, Request { options, command }, on_off, clock)
+    with_options(lamp, command, options_mask, options_override, on_off, clock)
 }
 
 // MoveColorTemperature: at a rate in mireds a second, within the caller's limits, where 0 is the physical one.
@@ -139,11 +133,7 @@ pub fn cmd_move_color_temperature(
         min: color_temperature_minimum_mireds,
         max: color_temperature_maximum_mireds,
     };
-    let options = CommandOptions {
-        mask: options_mask,
-        overrides: options_override,
-    };
-    invoke(lamp, Request { options, command }, on_off, clock)
+    with_options(lamp, command, options_mask, options_override, on_off, clock)
 }
 
 // StepColorTemperature: by a step, within the caller's limits, where 0 is the physical one.
@@ -168,9 +158,5 @@ pub fn cmd_step_color_temperature(
         min: color_temperature_minimum_mireds,
         max: color_temperature_maximum_mireds,
     };
-    let options = CommandOptions {
-        mask: options_mask,
-        overrides: options_override,
-    };
-    invoke(lamp, Request { options, command }, on_off, clock)
+    with_options(lamp, command, options_mask, options_override, on_off, clock)
 }
