@@ -14,7 +14,7 @@ use borrow.Author.Tests.{ltb-false}
 use Rattle.matter.specs.declared.limits.Bounds.{Bounds}
 use Rattle.matter.proofs.Laws.{cond-both}
 use Rattle.matter.specs.Limits.{clockLimit}
-use Rattle.matter.specs.InRange.{Byte, Clock, InRangeBounds, InRangeOptions, InRangeCommand}
+use Rattle.matter.specs.InRange.{Byte, Clock, InRangeBounds, InRangeCommand, InRangeRequest}
 use Rattle.tasks.specs.declared.HueDelta.{HueDelta}
 use Rattle.tasks.specs.declared.TargetSaturation.{TargetSaturation}
 use Rattle.tasks.specs.declared.Task.{Task}
@@ -37,7 +37,7 @@ use Rattle.exports.specs.Kinds as K
 use Rattle.exports.specs.Words.{at, signed}
 use Rattle.exports.specs.Moves.{deltaOf, targetOf, moveToOf, hueMoveOf, saturationMoveOf, miredsToOf, miredsMoveOf, colorLoopOf, taskOf}
 use Rattle.exports.specs.Lamps.{lampWords}
-use Rattle.exports.specs.Calls.{optionsRead, hueCommand, saturationCommand, enhancedCommand, miredsCommand, loopCommand, commandOf, commandNumbers, startNumbers, callOf, unreadable, callKnown, sent}
+use Rattle.exports.specs.Calls.{hueCommand, saturationCommand, enhancedCommand, miredsCommand, loopCommand, commandOf, requestOf, commandNumbers, startNumbers, callOf, unreadable, callKnown, sent}
 use Rattle.exports.specs.Exported.{Answered, unreadableLamp, noRoom, made, taken, away, answered}
 use Rattle.exports.specs.RoundTrips.{Good, replied, left, Sending, wordsAfter, lampAfter, Clocks, RoundTrips}
 use Rattle.exports.proofs.Laws.{lamp-back}
@@ -73,52 +73,52 @@ task-in-range n =
     (λ e. cond-both InRangeTask (eqb (n .kind) 5) _ _ (λ e. record { rate = signed-in-range (n .a) (n .b); min = omega arith; max = omega arith })
     (λ e. cond-both InRangeTask (eqb (n .kind) 6) _ Task.Stop (λ e. omega arith) (λ e. tt))))))
 
-options-in-range : (n : CommandNumbers) → InRangeOptions (optionsRead n)
-unfolding optionsRead
-options-in-range n = record { mask = omega arith; overrides = omega arith }
-
 hue-in-range : (n : CommandNumbers) → InRangeCommand (hueCommand n)
 unfolding hueCommand
 hue-in-range n =
-    cond-both InRangeCommand (eqb (n .kind) K.moveToHue) _ _ (λ e. (omega arith, omega arith, options-in-range n))
-    (λ e. cond-both InRangeCommand (eqb (n .kind) K.moveHue) _ _ (λ e. (omega arith, options-in-range n)) (λ e. (omega arith, omega arith, options-in-range n)))
+    cond-both InRangeCommand (eqb (n .kind) K.moveToHue) _ _ (λ e. (omega arith, omega arith))
+    (λ e. cond-both InRangeCommand (eqb (n .kind) K.moveHue) _ _ (λ e. omega arith) (λ e. (omega arith, omega arith)))
 
 saturation-in-range : (n : CommandNumbers) → InRangeCommand (saturationCommand n)
 unfolding saturationCommand
 saturation-in-range n =
-    cond-both InRangeCommand (eqb (n .kind) K.moveToSaturation) _ _ (λ e. (omega arith, omega arith, options-in-range n))
-    (λ e. cond-both InRangeCommand (eqb (n .kind) K.moveSaturation) _ _ (λ e. (omega arith, options-in-range n))
-    (λ e. cond-both InRangeCommand (eqb (n .kind) K.stepSaturation) _ _ (λ e. (omega arith, omega arith, options-in-range n))
-    (λ e. (omega arith, omega arith, omega arith, omega arith, options-in-range n))))
+    cond-both InRangeCommand (eqb (n .kind) K.moveToSaturation) _ _ (λ e. (omega arith, omega arith))
+    (λ e. cond-both InRangeCommand (eqb (n .kind) K.moveSaturation) _ _ (λ e. omega arith)
+    (λ e. cond-both InRangeCommand (eqb (n .kind) K.stepSaturation) _ _ (λ e. (omega arith, omega arith))
+    (λ e. (omega arith, omega arith, omega arith, omega arith))))
 
 enhanced-in-range : (n : CommandNumbers) → InRangeCommand (enhancedCommand n)
 unfolding enhancedCommand
 enhanced-in-range n =
-    cond-both InRangeCommand (eqb (n .kind) K.enhancedMoveToHue) _ _ (λ e. (omega arith, omega arith, options-in-range n))
-    (λ e. cond-both InRangeCommand (eqb (n .kind) K.enhancedMoveHue) _ _ (λ e. (omega arith, options-in-range n)) (λ e. (omega arith, omega arith, options-in-range n)))
+    cond-both InRangeCommand (eqb (n .kind) K.enhancedMoveToHue) _ _ (λ e. (omega arith, omega arith))
+    (λ e. cond-both InRangeCommand (eqb (n .kind) K.enhancedMoveHue) _ _ (λ e. omega arith) (λ e. (omega arith, omega arith)))
 
 mireds-in-range : (n : CommandNumbers) → InRangeCommand (miredsCommand n)
 unfolding miredsCommand
 mireds-in-range n =
-    cond-both InRangeCommand (eqb (n .kind) K.moveToColorTemperature) _ _ (λ e. (omega arith, omega arith, options-in-range n))
-    (λ e. cond-both InRangeCommand (eqb (n .kind) K.moveColorTemperature) _ _ (λ e. (omega arith, omega arith, omega arith, options-in-range n))
-    (λ e. (omega arith, omega arith, omega arith, omega arith, options-in-range n)))
+    cond-both InRangeCommand (eqb (n .kind) K.moveToColorTemperature) _ _ (λ e. (omega arith, omega arith))
+    (λ e. cond-both InRangeCommand (eqb (n .kind) K.moveColorTemperature) _ _ (λ e. (omega arith, omega arith, omega arith))
+    (λ e. (omega arith, omega arith, omega arith, omega arith)))
 
 command-in-range : (n : CommandNumbers) → InRangeCommand (commandOf n)
 unfolding commandOf loopCommand
 command-in-range n =
     cond-both InRangeCommand (leb (n .kind) K.stepHue) _ _ (λ e. hue-in-range n)
     (λ e. cond-both InRangeCommand (leb (n .kind) K.moveToHueAndSaturation) _ _ (λ e. saturation-in-range n)
-    (λ e. cond-both InRangeCommand (eqb (n .kind) K.colorLoopSet) _ _ (λ e. (omega arith, omega arith, omega arith, options-in-range n))
-    (λ e. cond-both InRangeCommand (eqb (n .kind) K.stopMoveStep) _ _ (λ e. options-in-range n)
+    (λ e. cond-both InRangeCommand (eqb (n .kind) K.colorLoopSet) _ _ (λ e. (omega arith, omega arith, omega arith))
+    (λ e. cond-both InRangeCommand (eqb (n .kind) K.stopMoveStep) _ _ (λ e. tt)
     (λ e. cond-both InRangeCommand (leb K.enhancedMoveToHue (n .kind) && leb (n .kind) K.enhancedStepHue) _ _ (λ e. enhanced-in-range n) (λ e. mireds-in-range n)))))
+
+request-in-range : (n : CommandNumbers) → InRangeRequest (requestOf n)
+unfolding requestOf
+request-in-range n = record { options = record { mask = omega arith; overrides = omega arith }; command = command-in-range n }
 
 pub call-in-range : (call : List ℕ) → Clock (at call 1) → InRangeCall (callOf call)
 unfolding callOf
 call-in-range call clock =
     cond-both InRangeCall (eqb (at call 0) K.step) _ _ (λ e. clock)
     (λ e. cond-both InRangeCall (eqb (at call 0) K.start) _ _ (λ e. (task-in-range (startNumbers call), clock))
-    (λ e. cond-both InRangeCall (eqb (at call 0) K.halt) _ _ (λ e. clock) (λ e. (command-in-range (commandNumbers call), clock))))
+    (λ e. cond-both InRangeCall (eqb (at call 0) K.halt) _ _ (λ e. clock) (λ e. (request-in-range (commandNumbers call), clock))))
 
 -- ---- the number of an answer to a call that is read
 

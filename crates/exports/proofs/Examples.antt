@@ -8,7 +8,7 @@ use Rattle.exports.specs.Words.{flag, signed, signOf}
 use Rattle.exports.specs.Enums.{directionRead, moveModeRead, stepModeRead, loopActionRead, loopDirectionRead, colorModeRead, enhancedModeRead, onOffRead, directionKnown, moveModeKnown, stepModeKnown, loopActionKnown, loopDirectionKnown, colorModeKnown, enhancedModeKnown, onOffKnown}
 use Rattle.exports.specs.Moves.{deltaOf, targetOf, moveToOf, hueMoveOf, saturationMoveOf, miredsToOf, miredsMoveOf, colorLoopOf, taskOf, taskFits, taskKnown, recordKnown, taskNumbers, givenNumbers, recordNumbers}
 use Rattle.exports.specs.Lamps.{lampFits, lampKnown}
-use Rattle.exports.specs.Calls.{optionsRead, hueCommand, saturationCommand, enhancedCommand, miredsCommand, loopCommand, commandOf, commandFits, commandKnown, callOf, callKnown}
+use Rattle.exports.specs.Calls.{hueCommand, saturationCommand, enhancedCommand, miredsCommand, loopCommand, commandOf, requestOf, commandFits, commandKnown, callOf, callKnown}
 use Rattle.exports.specs.Exported.{made, answered}
 use Rattle.exports.specs.Examples.{EnumWords, CommandWords, StartWords, LampWords, AnswerWords, NumbersReturned}
 
@@ -35,7 +35,7 @@ enum-words =
     }
 
 pub command-words : CommandWords
-unfolding flag directionRead moveModeRead stepModeRead loopActionRead loopDirectionRead onOffRead directionKnown moveModeKnown stepModeKnown loopActionKnown loopDirectionKnown onOffKnown optionsRead hueCommand saturationCommand enhancedCommand miredsCommand loopCommand commandOf commandFits commandKnown callOf callKnown
+unfolding flag directionRead moveModeRead stepModeRead loopActionRead loopDirectionRead onOffRead directionKnown moveModeKnown stepModeKnown loopActionKnown loopDirectionKnown onOffKnown hueCommand saturationCommand enhancedCommand miredsCommand loopCommand commandOf requestOf commandFits commandKnown callOf callKnown
 command-words =
     record {
       move-to-hue = (refl, refl);

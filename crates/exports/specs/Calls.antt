@@ -6,7 +6,8 @@ use mathlib.Core.List.{List}
 use lib.Dec.{leb, ltb, eqb}
 use lib.ListN.{length}
 use Rattle.matter.specs.declared.commands.Command.{Command}
-use Rattle.matter.specs.declared.commands.CommandOptions.{CommandOptions}
+use Rattle.matter.specs.declared.commands.Request.{Request}
+use Rattle.matter.specs.Requests.{request, options}
 use Rattle.lamp.specs.declared.Lamp.{Lamp}
 use Rattle.lamp.specs.declared.Answer.{Answer}
 use Rattle.lamp.specs.Answers.{refusal}
@@ -27,9 +28,6 @@ unreadable = 100
 
 abbrev is : CommandNumbers → ℕ → Bool
 is n kind = eqb (n .kind) kind
-
-unfoldable pub optionsRead : CommandNumbers → CommandOptions
-optionsRead n = record { mask = byte (n .mask); overrides = byte (n .over) }
 
 unfoldable pub hueCommand : CommandNumbers → Command
 hueCommand n =
@@ -67,10 +65,13 @@ commandOf n =
     (cond (is n K.stopMoveStep) Command.StopMoveStep
     (cond (leb K.enhancedMoveToHue (n .kind) && leb (n .kind) K.enhancedStepHue) (enhancedCommand n) (miredsCommand n)))))
 
+unfoldable pub requestOf : CommandNumbers → Request
+requestOf n = request (commandOf n) (options (byte (n .mask)) (byte (n .overrides)))
+
 -- each argument is within its field: sixteen bits at most, eight for some, 0 or 1 for a flag
 unfoldable pub commandFits : CommandNumbers → Bool
 commandFits n =
-    leb (n .mask) 255 && leb (n .over) 255
+    leb (n .mask) 255 && leb (n .overrides) 255
     && leb (n .a) 65535
     && leb (n .b) 65535
     && leb (n .c) 65535
@@ -104,7 +105,7 @@ unfoldable pub callOf : List ℕ → Call
 callOf w =
     cond (eqb (at w 0) K.step) (Call.Step (at w 1))
     (cond (eqb (at w 0) K.start) (Call.Start (taskOf (startNumbers w)) (at w 1))
-    (cond (eqb (at w 0) K.halt) (Call.Halt (at w 1)) (Call.Command (commandOf (commandNumbers w)) (onOffRead (at w 2)) (at w 1))))
+    (cond (eqb (at w 0) K.halt) (Call.Halt (at w 1)) (Call.Command (requestOf (commandNumbers w)) (onOffRead (at w 2)) (at w 1))))
 
 -- words that are a call: ten of them, with a kind and enums' numbers that exist, and each within its field
 unfoldable pub callKnown : List ℕ → Bool

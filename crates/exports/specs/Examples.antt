@@ -7,6 +7,7 @@ use lib.IntN.{pos, negℤ}
 use lib.ListN.{replicate}
 use Rattle.matter.specs.declared.commands.Command.{Command}
 use Rattle.matter.specs.declared.commands.CommandOptions.{CommandOptions}
+use Rattle.matter.specs.Requests.{request}
 use Rattle.matter.specs.declared.enums.DirectionEnum.{DirectionEnum}
 use Rattle.matter.specs.declared.enums.MoveModeEnum.{MoveModeEnum}
 use Rattle.matter.specs.declared.enums.StepModeEnum.{StepModeEnum}
@@ -74,44 +75,45 @@ Reads w call = (callOf w ≡ call) × (callKnown w ≡ true)
 abbrev pub options : CommandOptions
 options = record { mask = 2; overrides = 3 }
 
--- a command's words at clock 5000, with those options; and the words of a start
+-- a command at clock 5000 with those options, in words and as a call; and the words of a start
 abbrev pub words : ℕ → ℕ → ℕ → ℕ → ℕ → ℕ → ℕ → List ℕ
 words kind onOff a b c d e = kind ∷ 5000 ∷ onOff ∷ 2 ∷ 3 ∷ a ∷ b ∷ c ∷ d ∷ e ∷ []
+
+abbrev pub sending : Command → OnOff → Call
+sending command onOff = Call.Command (request command options) onOff 5000
 
 abbrev pub startWords : ℕ → ℕ → ℕ → ℕ → ℕ → ℕ → ℕ → List ℕ
 startWords kind a b c d e f = 256 ∷ 5000 ∷ 0 ∷ kind ∷ a ∷ b ∷ c ∷ d ∷ e ∷ f ∷ []
 
 pub record CommandWords : Type 0 where
   pub move-to-hue :
-      Reads (words 0 1 128 3 20 0 0) (Call.Command (request (Command.MoveToHue 128 DirectionEnum.Down 20) options) OnOff.On 5000)
-  pub move-hue : Reads (words 1 0 3 50 1 0 0) (Call.Command (request (Command.MoveHue MoveModeEnum.Down 50 true) options) OnOff.Off 5000)
-  pub step-hue : Reads (words 2 2 1 7 20 0 0) (Call.Command (request (Command.StepHue StepModeEnum.Up 7 20) options) OnOff.NoHandler 5000)
-  pub move-to-saturation : Reads (words 3 1 200 20 0 0 0) (Call.Command (request (Command.MoveToSaturation 200 20) options) OnOff.On 5000)
+      Reads (words 0 1 128 3 20 0 0) (sending (Command.MoveToHue 128 DirectionEnum.Down 20) OnOff.On)
+  pub move-hue : Reads (words 1 0 3 50 1 0 0) (sending (Command.MoveHue MoveModeEnum.Down 50 true) OnOff.Off)
+  pub step-hue : Reads (words 2 2 1 7 20 0 0) (sending (Command.StepHue StepModeEnum.Up 7 20) OnOff.NoHandler)
+  pub move-to-saturation : Reads (words 3 1 200 20 0 0 0) (sending (Command.MoveToSaturation 200 20) OnOff.On)
   pub move-saturation :
-      Reads (words 4 1 1 9 0 0 0) (Call.Command (request (Command.MoveSaturation MoveModeEnum.Up 9) options) OnOff.On 5000)
+      Reads (words 4 1 1 9 0 0 0) (sending (Command.MoveSaturation MoveModeEnum.Up 9) OnOff.On)
   pub step-saturation :
-      Reads (words 5 1 3 9 20 0 0) (Call.Command (request (Command.StepSaturation StepModeEnum.Down 9 20) options) OnOff.On 5000)
+      Reads (words 5 1 3 9 20 0 0) (sending (Command.StepSaturation StepModeEnum.Down 9 20) OnOff.On)
   pub move-to-hue-and-saturation :
-      Reads (words 6 1 128 200 20 1 40000) (Call.Command (request (Command.MoveToHueAndSaturation 128 200 20 true 40000) options) OnOff.On 5000)
+      Reads (words 6 1 128 200 20 1 40000) (sending (Command.MoveToHueAndSaturation 128 200 20 true 40000) OnOff.On)
   pub move-to-color-temperature :
-      Reads (words 10 1 300 20 0 0 0) (Call.Command (request (Command.MoveToColorTemperature 300 20) options) OnOff.On 5000)
+      Reads (words 10 1 300 20 0 0 0) (sending (Command.MoveToColorTemperature 300 20) OnOff.On)
   pub enhanced-move-to-hue :
-      Reads (words 64 1 40000 1 20 0 0) (Call.Command (request (Command.EnhancedMoveToHue 40000 DirectionEnum.Longest 20) options) OnOff.On 5000)
+      Reads (words 64 1 40000 1 20 0 0) (sending (Command.EnhancedMoveToHue 40000 DirectionEnum.Longest 20) OnOff.On)
   pub enhanced-move-hue :
-      Reads (words 65 1 0 700 0 0 0) (Call.Command (request (Command.EnhancedMoveHue MoveModeEnum.Stop 700) options) OnOff.On 5000)
+      Reads (words 65 1 0 700 0 0 0) (sending (Command.EnhancedMoveHue MoveModeEnum.Stop 700) OnOff.On)
   pub enhanced-step-hue :
-      Reads (words 66 1 3 700 20 0 0) (Call.Command (request (Command.EnhancedStepHue StepModeEnum.Down 700 20) options) OnOff.On 5000)
+      Reads (words 66 1 3 700 20 0 0) (sending (Command.EnhancedStepHue StepModeEnum.Down 700 20) OnOff.On)
   pub color-loop-set :
       Reads (words 68 1 15 2 0 33 1234)
-      (Call.Command
-      (request (Command.ColorLoopSet 15 ColorLoopActionEnum.ActivateFromEnhancedCurrentHue ColorLoopDirectionEnum.Decrement 33 1234) options)
-      OnOff.On 5000)
-  pub stop-move-step : Reads (words 71 1 0 0 0 0 0) (Call.Command (request Command.StopMoveStep options) OnOff.On 5000)
+      (sending (Command.ColorLoopSet 15 ColorLoopActionEnum.ActivateFromEnhancedCurrentHue ColorLoopDirectionEnum.Decrement 33 1234) OnOff.On)
+  pub stop-move-step : Reads (words 71 1 0 0 0 0 0) (sending Command.StopMoveStep OnOff.On)
   pub move-color-temperature :
-      Reads (words 75 1 1 100 160 400 0) (Call.Command (request (Command.MoveColorTemperature MoveModeEnum.Up 100 160 400) options) OnOff.On 5000)
+      Reads (words 75 1 1 100 160 400 0) (sending (Command.MoveColorTemperature MoveModeEnum.Up 100 160 400) OnOff.On)
   pub step-color-temperature :
       Reads (words 76 1 1 30 20 160 400)
-      (Call.Command (request (Command.StepColorTemperature StepModeEnum.Up 30 20 160 400) options) OnOff.On 5000)
+      (sending (Command.StepColorTemperature StepModeEnum.Up 30 20 160 400) OnOff.On)
 
 -- down 2000 and to saturation 250 in 7.7 s, enhanced
 abbrev pub downAndTo : HueSaturationMoveTo

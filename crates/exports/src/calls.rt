@@ -4,14 +4,15 @@ use crate::enums;
 use crate::moves::TaskNumbers;
 use crate::words;
 use crate::words::at;
-use commands::invoke;
 use lamp::Answer;
+use lamp::Call;
 use lamp::Lamp;
 use matter::Command;
 use matter::CommandOptions;
+use matter::Request;
 ghost use mathlib.Core.Path.{_≡_};
 ghost use Rattle.exports.specs.Calls as C;
-ghost use Rattle.exports.specs.Calls.{optionsRead, hueCommand, saturationCommand, enhancedCommand, miredsCommand, loopCommand, commandOf, commandFits, commandKnown, commandNumbers, startNumbers, callKnown};
+ghost use Rattle.exports.specs.Calls.{hueCommand, saturationCommand, enhancedCommand, miredsCommand, loopCommand, commandOf, requestOf, commandFits, commandKnown, commandNumbers, startNumbers, callOf, callKnown};
 
 pub const CALL_WORDS: usize = 10;
 
@@ -59,7 +60,7 @@ pub const UNREADABLE: u8 = 100;
 pub struct CommandNumbers {
     pub kind: u64,
     pub mask: u64,
-    pub over: u64,
+    pub overrides: u64,
     pub a: u64,
     pub b: u64,
     pub c: u64,
@@ -68,25 +69,14 @@ pub struct CommandNumbers {
 }
 
 impl CommandNumbers {
-    fn options(self) -> CommandOptions
-        ensures { λ r. ⌜ r ≡ optionsRead self ⌝ }
-    {
-        CommandOptions {
-            mask: words::byte(self.mask),
-            over: words::byte(self.over),
-        }
-    }
-
     fn hue_command(self) -> Command
         ensures { λ r. ⌜ r ≡ hueCommand self ⌝ }
     {
-        let options = self.options();
         if self.kind == MOVE_TO_HUE {
             return Command::MoveToHue {
                 hue: words::byte(self.a),
                 direction: enums::direction(self.b),
                 time: words::short(self.c),
-                options: options,
             };
         }
         if self.kind == MOVE_HUE {
@@ -94,33 +84,28 @@ impl CommandNumbers {
                 mode: enums::move_mode(self.a),
                 rate: words::byte(self.b),
                 enhanced: words::flag(self.c),
-                options: options,
             };
         }
         Command::StepHue {
             mode: enums::step_mode(self.a),
             size: words::byte(self.b),
             time: words::short(self.c),
-            options: options,
         }
     }
 
     fn saturation_command(self) -> Command
         ensures { λ r. ⌜ r ≡ saturationCommand self ⌝ }
     {
-        let options = self.options();
         if self.kind == MOVE_TO_SATURATION {
             return Command::MoveToSaturation {
                 saturation: words::byte(self.a),
                 time: words::short(self.b),
-                options: options,
             };
         }
         if self.kind == MOVE_SATURATION {
             return Command::MoveSaturation {
                 mode: enums::move_mode(self.a),
                 rate: words::byte(self.b),
-                options: options,
             };
         }
         if self.kind == STEP_SATURATION {
@@ -128,7 +113,6 @@ impl CommandNumbers {
                 mode: enums::step_mode(self.a),
                 size: words::byte(self.b),
                 time: words::short(self.c),
-                options: options,
             };
         }
         Command::MoveToHueAndSaturation {
@@ -137,46 +121,39 @@ impl CommandNumbers {
             time: words::short(self.c),
             enhanced: words::flag(self.d),
             enhanced_hue: words::short(self.e),
-            options: options,
         }
     }
 
     fn enhanced_command(self) -> Command
         ensures { λ r. ⌜ r ≡ enhancedCommand self ⌝ }
     {
-        let options = self.options();
         if self.kind == ENHANCED_MOVE_TO_HUE {
             return Command::EnhancedMoveToHue {
                 hue: words::short(self.a),
                 direction: enums::direction(self.b),
                 time: words::short(self.c),
-                options: options,
             };
         }
         if self.kind == ENHANCED_MOVE_HUE {
             return Command::EnhancedMoveHue {
                 mode: enums::move_mode(self.a),
                 rate: words::short(self.b),
-                options: options,
             };
         }
         Command::EnhancedStepHue {
             mode: enums::step_mode(self.a),
             size: words::short(self.b),
             time: words::short(self.c),
-            options: options,
         }
     }
 
     fn mireds_command(self) -> Command
         ensures { λ r. ⌜ r ≡ miredsCommand self ⌝ }
     {
-        let options = self.options();
         if self.kind == MOVE_TO_COLOR_TEMPERATURE {
             return Command::MoveToColorTemperature {
                 mireds: words::short(self.a),
                 time: words::short(self.b),
-                options: options,
             };
         }
         if self.kind == MOVE_COLOR_TEMPERATURE {
@@ -185,7 +162,6 @@ impl CommandNumbers {
                 rate: words::short(self.b),
                 min: words::short(self.c),
                 max: words::short(self.d),
-                options: options,
             };
         }
         Command::StepColorTemperature {
@@ -194,21 +170,18 @@ impl CommandNumbers {
             time: words::short(self.c),
             min: words::short(self.d),
             max: words::short(self.e),
-            options: options,
         }
     }
 
     fn loop_command(self) -> Command
         ensures { λ r. ⌜ r ≡ loopCommand self ⌝ }
     {
-        let options = self.options();
         Command::ColorLoopSet {
             flags: words::byte(self.a),
             action: enums::loop_action(self.b),
             direction: enums::loop_direction(self.c),
             time: words::short(self.d),
             start_hue: words::short(self.e),
-            options: options,
         }
     }
 
@@ -225,13 +198,24 @@ impl CommandNumbers {
             return self.loop_command();
         }
         if self.kind == STOP_MOVE_STEP {
-            let options = self.options();
-            return Command::StopMoveStep { options: options };
+            return Command::StopMoveStep;
         }
         if (ENHANCED_MOVE_TO_HUE <= self.kind) & (self.kind <= ENHANCED_STEP_HUE) {
             return self.enhanced_command();
         }
         self.mireds_command()
+    }
+
+    fn request(self) -> Request
+        ensures { λ r. ⌜ r ≡ requestOf self ⌝ }
+    {
+        Request {
+            options: CommandOptions {
+                mask: words::byte(self.mask),
+                overrides: words::byte(self.overrides),
+            },
+            command: self.command(),
+        }
     }
 
     // Whether each argument is within its field: sixteen bits at most, eight for some, 0 or 1 for a flag.
@@ -240,7 +224,7 @@ impl CommandNumbers {
     {
         let k = self.kind;
         (self.mask <= 255)
-            & (self.over <= 255)
+            & (self.overrides <= 255)
             & (self.a <= 65535)
             & (self.b <= 65535)
             & (self.c <= 65535)
@@ -294,7 +278,7 @@ fn command_numbers(w: &[u64]) -> CommandNumbers
     CommandNumbers {
         kind: at(w, 0),
         mask: at(w, 3),
-        over: at(w, 4),
+        overrides: at(w, 4),
         a: at(w, 5),
         b: at(w, 6),
         c: at(w, 7),
@@ -331,25 +315,37 @@ pub(crate) fn call_known(w: &[u64]) -> bool
             | (command.known() & enums::on_off_known(at(w, 2))))
 }
 
+// The call that the words mean; `call_known` says whether they are one.
+pub fn call_of(w: &[u64]) -> Call
+    ensures { λ r. ⌜ r ≡ callOf (now (w .entry)) ⌝ }
+{
+    let kind = at(w, 0);
+    let clock = at(w, 1);
+    if kind == STEP {
+        return Call::Step { clock };
+    }
+    if kind == START {
+        let task = task_numbers(w).task();
+        return Call::Start { task, clock };
+    }
+    if kind == HALT {
+        return Call::Halt { clock };
+    }
+    let request = command_numbers(w).request();
+    let on_off = enums::on_off(at(w, 2));
+    Call::Command {
+        request,
+        on_off,
+        clock,
+    }
+}
+
 // Sends a call to the lamp. A kind past the last one is no call.
 pub fn sent(lamp: Lamp, w: &[u64]) -> Answer
     ensures { λ r. ⌜ r ≡ C.sent lamp (now (w .entry)) ⌝ }
 {
-    let kind = at(w, 0);
-    let clock = at(w, 1);
-    if HALT < kind {
+    if HALT < at(w, 0) {
         return lamp.refused(UNREADABLE);
     }
-    if kind == STEP {
-        return lamp.step(clock);
-    }
-    if kind == START {
-        let numbers = task_numbers(w);
-        return lamp.start(numbers.task(), clock);
-    }
-    if kind == HALT {
-        return lamp.halt(clock);
-    }
-    let numbers = command_numbers(w);
-    invoke(lamp, numbers.command(), enums::on_off(at(w, 2)), clock)
+    commands::call(lamp, call_of(w))
 }

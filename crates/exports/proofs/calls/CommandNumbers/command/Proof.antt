@@ -29,16 +29,13 @@ returns-3 c =
     let at-if1 = at-if2 .before .before in
     simp (c .loop-command .ensures, eq-eqb _ _ (c .before .if3 .taken), lt-leb _ _ (at-if2 .if2 .left), lt-leb _ _ (at-if1 .if1 .left))
 
-options-requires : tie.Need-options-requires
-options-requires c κs = search needs
-
 returns-4 : tie.Need-returns-4
 unfolding commandOf
 returns-4 c =
-    let at-if3 = c .before .before .before in
+    let at-if3 = c .before .before in
     let at-if2 = at-if3 .before .before in
     let at-if1 = at-if2 .before .before in
-    simp (c .options .ensures, eq-eqb _ _ (c .before .if4 .taken), ne-eqb _ _ (at-if3 .if3 .left), lt-leb _ _ (at-if2 .if2 .left), lt-leb _ _ (at-if1 .if1 .left))
+    simp (eq-eqb _ _ (c .if4 .taken), ne-eqb _ _ (at-if3 .if3 .left), lt-leb _ _ (at-if2 .if2 .left), lt-leb _ _ (at-if1 .if1 .left))
 
 enhanced-command-requires : tie.Need-enhanced-command-requires
 enhanced-command-requires c κs = search needs
@@ -74,7 +71,6 @@ command-spec =
     returns-2
     loop-command-requires
     returns-3
-    options-requires
     returns-4
     enhanced-command-requires
     returns-5

@@ -5,9 +5,6 @@ use borrow.Author.Needs.{needs}
 use Rattle.exports.proofs.calls.CommandNumbers.enhanced_command.Statement.{statement}
 use Rattle.exports.proofs.calls.CommandNumbers.enhanced_command.Tie as tie
 
-options-requires : tie.Need-options-requires
-options-requires c κs = search needs
-
 short-requires : tie.Need-short-requires
 short-requires c κs = search needs
 
@@ -22,8 +19,7 @@ unfolding enhancedCommand
 returns c =
     let at-short = c .before .before in
     let at-if1 = at-short .before in
-    let at-options = at-if1 .before .before in
-    simp (c .short2 .ensures, c .before .direction .ensures, at-short .short .ensures, eq-eqb _ _ (at-if1 .if1 .taken), at-options .options .ensures)
+    simp (c .short2 .ensures, c .before .direction .ensures, at-short .short .ensures, eq-eqb _ _ (at-if1 .if1 .taken))
 
 move-mode-requires : tie.Need-move-mode-requires
 move-mode-requires c κs = search needs
@@ -36,8 +32,7 @@ unfolding enhancedCommand
 returns-2 c =
     let at-if2 = c .before .before in
     let at-if1 = at-if2 .before .before in
-    let at-options = at-if1 .before .before in
-    simp (c .short3 .ensures, c .before .move-mode .ensures, eq-eqb _ _ (at-if2 .if2 .taken), ne-eqb _ _ (at-if1 .if1 .left), at-options .options .ensures)
+    simp (c .short3 .ensures, c .before .move-mode .ensures, eq-eqb _ _ (at-if2 .if2 .taken), ne-eqb _ _ (at-if1 .if1 .left))
 
 step-mode-requires : tie.Need-step-mode-requires
 step-mode-requires c κs = search needs
@@ -54,14 +49,12 @@ returns-3 c =
     let at-step-mode = c .before .before in
     let at-if2 = at-step-mode .before in
     let at-if1 = at-if2 .before .before in
-    let at-options = at-if1 .before .before in
-    simp (c .short5 .ensures, c .before .short4 .ensures, at-step-mode .step-mode .ensures, ne-eqb _ _ (at-if2 .if2 .left), ne-eqb _ _ (at-if1 .if1 .left), at-options .options .ensures)
+    simp (c .short5 .ensures, c .before .short4 .ensures, at-step-mode .step-mode .ensures, ne-eqb _ _ (at-if2 .if2 .left), ne-eqb _ _ (at-if1 .if1 .left))
 
 pub enhanced-command-spec : {M : Type 1} → statement M
 enhanced-command-spec =
     tie.close
     (tie.spec
-    options-requires
     short-requires
     direction-requires
     short-requires-2

@@ -5,9 +5,6 @@ use borrow.Author.Needs.{needs}
 use Rattle.exports.proofs.calls.CommandNumbers.hue_command.Statement.{statement}
 use Rattle.exports.proofs.calls.CommandNumbers.hue_command.Tie as tie
 
-options-requires : tie.Need-options-requires
-options-requires c κs = search needs
-
 byte-requires : tie.Need-byte-requires
 byte-requires c κs = search needs
 
@@ -22,8 +19,7 @@ unfolding hueCommand
 returns c =
     let at-byte = c .before .before in
     let at-if1 = at-byte .before in
-    let at-options = at-if1 .before .before in
-    simp (c .short .ensures, c .before .direction .ensures, at-byte .byte .ensures, eq-eqb _ _ (at-if1 .if1 .taken), at-options .options .ensures)
+    simp (c .short .ensures, c .before .direction .ensures, at-byte .byte .ensures, eq-eqb _ _ (at-if1 .if1 .taken))
 
 move-mode-requires : tie.Need-move-mode-requires
 move-mode-requires c κs = search needs
@@ -40,8 +36,7 @@ returns-2 c =
     let at-move-mode = c .before .before in
     let at-if2 = at-move-mode .before in
     let at-if1 = at-if2 .before .before in
-    let at-options = at-if1 .before .before in
-    simp (c .flag .ensures, c .before .byte2 .ensures, at-move-mode .move-mode .ensures, eq-eqb _ _ (at-if2 .if2 .taken), ne-eqb _ _ (at-if1 .if1 .left), at-options .options .ensures)
+    simp (c .flag .ensures, c .before .byte2 .ensures, at-move-mode .move-mode .ensures, eq-eqb _ _ (at-if2 .if2 .taken), ne-eqb _ _ (at-if1 .if1 .left))
 
 step-mode-requires : tie.Need-step-mode-requires
 step-mode-requires c κs = search needs
@@ -58,14 +53,12 @@ returns-3 c =
     let at-step-mode = c .before .before in
     let at-if2 = at-step-mode .before in
     let at-if1 = at-if2 .before .before in
-    let at-options = at-if1 .before .before in
-    simp (c .short2 .ensures, c .before .byte3 .ensures, at-step-mode .step-mode .ensures, ne-eqb _ _ (at-if2 .if2 .left), ne-eqb _ _ (at-if1 .if1 .left), at-options .options .ensures)
+    simp (c .short2 .ensures, c .before .byte3 .ensures, at-step-mode .step-mode .ensures, ne-eqb _ _ (at-if2 .if2 .left), ne-eqb _ _ (at-if1 .if1 .left))
 
 pub hue-command-spec : {M : Type 1} → statement M
 hue-command-spec =
     tie.close
     (tie.spec
-    options-requires
     byte-requires
     direction-requires
     short-requires

@@ -4,9 +4,6 @@ use borrow.Author.Needs.{needs}
 use Rattle.exports.proofs.calls.CommandNumbers.loop_command.Statement.{statement}
 use Rattle.exports.proofs.calls.CommandNumbers.loop_command.Tie as tie
 
-options-requires : tie.Need-options-requires
-options-requires c κs = search needs
-
 byte-requires : tie.Need-byte-requires
 byte-requires c κs = search needs
 
@@ -28,14 +25,12 @@ returns c =
     let at-loop-direction = c .before .before in
     let at-loop-action = at-loop-direction .before in
     let at-byte = at-loop-action .before in
-    let at-options = at-byte .before in
-    simp (c .short2 .ensures, c .before .short .ensures, at-loop-direction .loop-direction .ensures, at-loop-action .loop-action .ensures, at-byte .byte .ensures, at-options .options .ensures)
+    simp (c .short2 .ensures, c .before .short .ensures, at-loop-direction .loop-direction .ensures, at-loop-action .loop-action .ensures, at-byte .byte .ensures)
 
 pub loop-command-spec : {M : Type 1} → statement M
 loop-command-spec =
     tie.close
     (tie.spec
-    options-requires
     byte-requires
     loop-action-requires
     loop-direction-requires

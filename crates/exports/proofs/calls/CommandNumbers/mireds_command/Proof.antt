@@ -5,9 +5,6 @@ use borrow.Author.Needs.{needs}
 use Rattle.exports.proofs.calls.CommandNumbers.mireds_command.Statement.{statement}
 use Rattle.exports.proofs.calls.CommandNumbers.mireds_command.Tie as tie
 
-options-requires : tie.Need-options-requires
-options-requires c κs = search needs
-
 short-requires : tie.Need-short-requires
 short-requires c κs = search needs
 
@@ -16,7 +13,7 @@ short-requires-2 c κs = search needs
 
 returns : tie.Need-returns
 unfolding miredsCommand
-returns c = simp (c .short2 .ensures, c .before .short .ensures, eq-eqb _ _ (c .before .before .if1 .taken), c .before .before .before .before .options .ensures)
+returns c = simp (c .short2 .ensures, c .before .short .ensures, eq-eqb _ _ (c .before .before .if1 .taken))
 
 move-mode-requires : tie.Need-move-mode-requires
 move-mode-requires c κs = search needs
@@ -37,8 +34,7 @@ returns-2 c =
     let at-move-mode = at-short3 .before in
     let at-if2 = at-move-mode .before in
     let at-if1 = at-if2 .before .before in
-    let at-options = at-if1 .before .before in
-    simp (c .short5 .ensures, c .before .short4 .ensures, at-short3 .short3 .ensures, at-move-mode .move-mode .ensures, eq-eqb _ _ (at-if2 .if2 .taken), ne-eqb _ _ (at-if1 .if1 .left), at-options .options .ensures)
+    simp (c .short5 .ensures, c .before .short4 .ensures, at-short3 .short3 .ensures, at-move-mode .move-mode .ensures, eq-eqb _ _ (at-if2 .if2 .taken), ne-eqb _ _ (at-if1 .if1 .left))
 
 step-mode-requires : tie.Need-step-mode-requires
 step-mode-requires c κs = search needs
@@ -63,14 +59,12 @@ returns-3 c =
     let at-step-mode = at-short6 .before in
     let at-if2 = at-step-mode .before in
     let at-if1 = at-if2 .before .before in
-    let at-options = at-if1 .before .before in
-    simp (c .short9 .ensures, c .before .short8 .ensures, at-short7 .short7 .ensures, at-short6 .short6 .ensures, at-step-mode .step-mode .ensures, ne-eqb _ _ (at-if2 .if2 .left), ne-eqb _ _ (at-if1 .if1 .left), at-options .options .ensures)
+    simp (c .short9 .ensures, c .before .short8 .ensures, at-short7 .short7 .ensures, at-short6 .short6 .ensures, at-step-mode .step-mode .ensures, ne-eqb _ _ (at-if2 .if2 .left), ne-eqb _ _ (at-if1 .if1 .left))
 
 pub mireds-command-spec : {M : Type 1} → statement M
 mireds-command-spec =
     tie.close
     (tie.spec
-    options-requires
     short-requires
     short-requires-2
     returns

@@ -5,9 +5,6 @@ use borrow.Author.Needs.{needs}
 use Rattle.exports.proofs.calls.CommandNumbers.saturation_command.Statement.{statement}
 use Rattle.exports.proofs.calls.CommandNumbers.saturation_command.Tie as tie
 
-options-requires : tie.Need-options-requires
-options-requires c κs = search needs
-
 byte-requires : tie.Need-byte-requires
 byte-requires c κs = search needs
 
@@ -16,7 +13,7 @@ short-requires c κs = search needs
 
 returns : tie.Need-returns
 unfolding saturationCommand
-returns c = simp (c .short .ensures, c .before .byte .ensures, eq-eqb _ _ (c .before .before .if1 .taken), c .before .before .before .before .options .ensures)
+returns c = simp (c .short .ensures, c .before .byte .ensures, eq-eqb _ _ (c .before .before .if1 .taken))
 
 move-mode-requires : tie.Need-move-mode-requires
 move-mode-requires c κs = search needs
@@ -29,8 +26,7 @@ unfolding saturationCommand
 returns-2 c =
     let at-if2 = c .before .before in
     let at-if1 = at-if2 .before .before in
-    let at-options = at-if1 .before .before in
-    simp (c .byte2 .ensures, c .before .move-mode .ensures, eq-eqb _ _ (at-if2 .if2 .taken), ne-eqb _ _ (at-if1 .if1 .left), at-options .options .ensures)
+    simp (c .byte2 .ensures, c .before .move-mode .ensures, eq-eqb _ _ (at-if2 .if2 .taken), ne-eqb _ _ (at-if1 .if1 .left))
 
 step-mode-requires : tie.Need-step-mode-requires
 step-mode-requires c κs = search needs
@@ -48,8 +44,7 @@ returns-3 c =
     let at-if3 = at-step-mode .before in
     let at-if2 = at-if3 .before .before in
     let at-if1 = at-if2 .before .before in
-    let at-options = at-if1 .before .before in
-    simp (c .short2 .ensures, c .before .byte3 .ensures, at-step-mode .step-mode .ensures, eq-eqb _ _ (at-if3 .if3 .taken), ne-eqb _ _ (at-if2 .if2 .left), ne-eqb _ _ (at-if1 .if1 .left), at-options .options .ensures)
+    simp (c .short2 .ensures, c .before .byte3 .ensures, at-step-mode .step-mode .ensures, eq-eqb _ _ (at-if3 .if3 .taken), ne-eqb _ _ (at-if2 .if2 .left), ne-eqb _ _ (at-if1 .if1 .left))
 
 byte-requires-4 : tie.Need-byte-requires-4
 byte-requires-4 c κs = search needs
@@ -75,14 +70,12 @@ returns-4 c =
     let at-if3 = at-byte4 .before in
     let at-if2 = at-if3 .before .before in
     let at-if1 = at-if2 .before .before in
-    let at-options = at-if1 .before .before in
-    simp (c .short4 .ensures, c .before .flag .ensures, at-short3 .short3 .ensures, at-byte5 .byte5 .ensures, at-byte4 .byte4 .ensures, ne-eqb _ _ (at-if3 .if3 .left), ne-eqb _ _ (at-if2 .if2 .left), ne-eqb _ _ (at-if1 .if1 .left), at-options .options .ensures)
+    simp (c .short4 .ensures, c .before .flag .ensures, at-short3 .short3 .ensures, at-byte5 .byte5 .ensures, at-byte4 .byte4 .ensures, ne-eqb _ _ (at-if3 .if3 .left), ne-eqb _ _ (at-if2 .if2 .left), ne-eqb _ _ (at-if1 .if1 .left))
 
 pub saturation-command-spec : {M : Type 1} → statement M
 saturation-command-spec =
     tie.close
     (tie.spec
-    options-requires
     byte-requires
     short-requires
     returns
