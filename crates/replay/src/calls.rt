@@ -1,15 +1,15 @@
-// A line read as a call. A line whose last word does not end it, or that has a word not as asked, is unreadable.
+// Reading a line. One whose last word does not end it, or that has a word not as asked, is unreadable.
 use crate::enums;
 use crate::fields;
 use crate::invocations;
-use crate::invocations::Invocation;
+use crate::invocations::CallRead;
 use crate::records;
-use crate::starts;
-use crate::starts::Start;
 use crate::words;
 use crate::words::LOST;
+use lamp::Call;
 use lamp::Lamp;
 use matter::Bounds;
+use matter::CommandOptions;
 use matter::DirectionEnum;
 use matter::EnhancedColorModeEnum;
 use matter::OnOff;
@@ -56,8 +56,7 @@ pub struct RemainingAsked {
 pub struct LeaveAsked {
     pub on_off: OnOff,
     pub options: u8,
-    pub mask: u8,
-    pub over: u8,
+    pub given: CommandOptions,
 }
 
 // A leaf's function, asked for its answer: no lamp has a part in it.
@@ -68,303 +67,288 @@ pub enum Leaf {
     ModeOf(EnhancedColorModeEnum),
 }
 
-// A call on the lamp that there is.
-pub enum LampCall {
+// What is done on the lamp that there is.
+pub enum OnLamp {
+    Call(Call),
     Poke(Lamp),
     Record(Running),
     Show,
     SetHue(HueSetting),
     SetSaturation(SaturationSetting),
     SetMireds(MiredsSetting),
-    Invoke(Invocation),
-    Start(Start),
-    Step(u64),
-    Halt(u64),
 }
 
-pub enum Call {
+pub enum Line {
     Lamp(Lamp),
     New(Making),
-    OnLamp(LampCall),
+    OnLamp(OnLamp),
     StartLast(u64),
     Ask(Leaf),
     Unreadable,
 }
 
-fn lamp_call(line: &[u8], at: usize) -> Call {
-    let read = fields::idle_lamp(line, at);
-    if read.at != line.len() {
-        return Call::Unreadable;
-    }
-    let lamp = read.value;
-    Call::Lamp(lamp)
+struct LineRead {
+    value: Line,
+    at: usize,
 }
 
-fn poke_call(line: &[u8], at: usize) -> Call {
-    let read = fields::idle_lamp(line, at);
-    if read.at != line.len() {
-        return Call::Unreadable;
+fn lost_line() -> LineRead {
+    LineRead {
+        value: Line::Unreadable,
+        at: LOST,
     }
-    let lamp = read.value;
-    Call::OnLamp(LampCall::Poke(lamp))
 }
 
-fn new_call(line: &[u8], at: usize) -> Call {
+fn call_line(read: CallRead) -> LineRead {
+    let call = read.value;
+    LineRead {
+        value: Line::OnLamp(OnLamp::Call(call)),
+        at: read.at,
+    }
+}
+
+fn lamp_line(line: &[u8], at: usize) -> LineRead {
+    let read = fields::idle_lamp(line, at);
+    let lamp = read.value;
+    LineRead {
+        value: Line::Lamp(lamp),
+        at: read.at,
+    }
+}
+
+fn poke_line(line: &[u8], at: usize) -> LineRead {
+    let read = fields::idle_lamp(line, at);
+    let fields = read.value;
+    LineRead {
+        value: Line::OnLamp(OnLamp::Poke(fields)),
+        at: read.at,
+    }
+}
+
+fn making_line(line: &[u8], at: usize) -> LineRead {
     let limits = fields::bounds(line, at);
     let bounds = limits.value;
     let features = words::word(line, limits.at);
     let options = words::byte(line, features.at);
     let clock = words::long(line, options.at);
-    if clock.at != line.len() {
-        return Call::Unreadable;
+    LineRead {
+        value: Line::New(Making {
+            bounds,
+            features: features.value,
+            options: options.value,
+            clock: clock.value,
+        }),
+        at: clock.at,
     }
-    Call::New(Making {
-        bounds: bounds,
-        features: features.value,
-        options: options.value,
-        clock: clock.value,
-    })
 }
 
-fn record_call(line: &[u8], at: usize) -> Call {
+fn record_line(line: &[u8], at: usize) -> LineRead {
     let read = records::running(line, at);
-    if read.at != line.len() {
-        return Call::Unreadable;
-    }
     let running = read.value;
-    Call::OnLamp(LampCall::Record(running))
-}
-
-fn show_call(line: &[u8], at: usize) -> Call {
-    if at != line.len() {
-        return Call::Unreadable;
+    LineRead {
+        value: Line::OnLamp(OnLamp::Record(running)),
+        at: read.at,
     }
-    Call::OnLamp(LampCall::Show)
 }
 
-fn hue_call(line: &[u8], at: usize) -> Call {
+fn show_line(at: usize) -> LineRead {
+    LineRead {
+        value: Line::OnLamp(OnLamp::Show),
+        at,
+    }
+}
+
+fn start_last_line(line: &[u8], at: usize) -> LineRead {
+    let clock = words::long(line, at);
+    LineRead {
+        value: Line::StartLast(clock.value),
+        at: clock.at,
+    }
+}
+
+fn hue_line(line: &[u8], at: usize) -> LineRead {
     let hue = words::short(line, at);
     let is_end = words::flag(line, hue.at);
     let is_enhanced = words::flag(line, is_end.at);
     let clock = words::long(line, is_enhanced.at);
-    if clock.at != line.len() {
-        return Call::Unreadable;
+    LineRead {
+        value: Line::OnLamp(OnLamp::SetHue(HueSetting {
+            hue: hue.value,
+            is_end: is_end.value,
+            is_enhanced: is_enhanced.value,
+            clock: clock.value,
+        })),
+        at: clock.at,
     }
-    Call::OnLamp(LampCall::SetHue(HueSetting {
-        hue: hue.value,
-        is_end: is_end.value,
-        is_enhanced: is_enhanced.value,
-        clock: clock.value,
-    }))
 }
 
-fn saturation_call(line: &[u8], at: usize) -> Call {
+fn saturation_line(line: &[u8], at: usize) -> LineRead {
     let saturation = words::byte(line, at);
     let is_end = words::flag(line, saturation.at);
     let clock = words::long(line, is_end.at);
-    if clock.at != line.len() {
-        return Call::Unreadable;
+    LineRead {
+        value: Line::OnLamp(OnLamp::SetSaturation(SaturationSetting {
+            saturation: saturation.value,
+            is_end: is_end.value,
+            clock: clock.value,
+        })),
+        at: clock.at,
     }
-    Call::OnLamp(LampCall::SetSaturation(SaturationSetting {
-        saturation: saturation.value,
-        is_end: is_end.value,
-        clock: clock.value,
-    }))
 }
 
-fn mireds_call(line: &[u8], at: usize) -> Call {
+fn mireds_line(line: &[u8], at: usize) -> LineRead {
     let mireds = words::short(line, at);
     let is_end = words::flag(line, mireds.at);
     let clock = words::long(line, is_end.at);
-    if clock.at != line.len() {
-        return Call::Unreadable;
+    LineRead {
+        value: Line::OnLamp(OnLamp::SetMireds(MiredsSetting {
+            mireds: mireds.value,
+            is_end: is_end.value,
+            clock: clock.value,
+        })),
+        at: clock.at,
     }
-    Call::OnLamp(LampCall::SetMireds(MiredsSetting {
-        mireds: mireds.value,
-        is_end: is_end.value,
-        clock: clock.value,
-    }))
 }
 
-fn set_call(line: &[u8], at: usize) -> Call {
-    let hue = words::after(line, at, b"hue");
-    if hue != LOST {
-        return hue_call(line, hue);
+fn set_line(line: &[u8], at: usize) -> LineRead {
+    let name = words::start(line, at);
+    let end = words::end(line, name);
+    if words::is(line, name, b"hue") {
+        return hue_line(line, end);
     }
-    let saturation = words::after(line, at, b"sat");
-    if saturation != LOST {
-        return saturation_call(line, saturation);
+    if words::is(line, name, b"sat") {
+        return saturation_line(line, end);
     }
-    mireds_call(line, words::after(line, at, b"ct"))
+    if words::is(line, name, b"ct") {
+        return mireds_line(line, end);
+    }
+    lost_line()
 }
 
-fn invoke_call(line: &[u8], at: usize) -> Call {
-    let read = invocations::read(line, at);
-    if read.at != line.len() {
-        return Call::Unreadable;
-    }
-    let invocation = read.value;
-    Call::OnLamp(LampCall::Invoke(invocation))
-}
-
-fn start_call(line: &[u8], at: usize) -> Call {
-    let read = starts::start_of(line, at);
-    if read.at != line.len() {
-        return Call::Unreadable;
-    }
-    let start = read.value;
-    Call::OnLamp(LampCall::Start(start))
-}
-
-fn start_last_call(line: &[u8], at: usize) -> Call {
-    let clock = words::long(line, at);
-    if clock.at != line.len() {
-        return Call::Unreadable;
-    }
-    Call::StartLast(clock.value)
-}
-
-fn step_call(line: &[u8], at: usize) -> Call {
-    let clock = words::long(line, at);
-    if clock.at != line.len() {
-        return Call::Unreadable;
-    }
-    Call::OnLamp(LampCall::Step(clock.value))
-}
-
-fn halt_call(line: &[u8], at: usize) -> Call {
-    let clock = words::long(line, at);
-    if clock.at != line.len() {
-        return Call::Unreadable;
-    }
-    Call::OnLamp(LampCall::Halt(clock.value))
-}
-
-fn delta_call(line: &[u8], at: usize) -> Call {
+fn delta_line(line: &[u8], at: usize) -> LineRead {
     let current = words::short(line, at);
     let target = words::short(line, current.at);
     let read = enums::path_direction(line, target.at);
-    if read.at != line.len() {
-        return Call::Unreadable;
-    }
     let direction = read.value;
-    Call::Ask(Leaf::Delta(DeltaAsked {
-        current: current.value,
-        target: target.value,
-        direction: direction,
-    }))
+    LineRead {
+        value: Line::Ask(Leaf::Delta(DeltaAsked {
+            current: current.value,
+            target: target.value,
+            direction,
+        })),
+        at: read.at,
+    }
 }
 
-fn remaining_call(line: &[u8], at: usize) -> Call {
+fn remaining_line(line: &[u8], at: usize) -> LineRead {
     let old = words::short(line, at);
     let ms = words::long(line, old.at);
     let is_start = words::flag(line, ms.at);
-    if is_start.at != line.len() {
-        return Call::Unreadable;
+    LineRead {
+        value: Line::Ask(Leaf::Remaining(RemainingAsked {
+            old: old.value,
+            ms: ms.value,
+            is_start: is_start.value,
+        })),
+        at: is_start.at,
     }
-    Call::Ask(Leaf::Remaining(RemainingAsked {
-        old: old.value,
-        ms: ms.value,
-        is_start: is_start.value,
-    }))
 }
 
-fn leave_call(line: &[u8], at: usize) -> Call {
-    let read = enums::on_off(line, at);
-    let on_off = read.value;
-    let options = words::byte(line, read.at);
-    let mask = words::byte(line, options.at);
-    let over = words::byte(line, mask.at);
-    if over.at != line.len() {
-        return Call::Unreadable;
+fn leave_line(line: &[u8], at: usize) -> LineRead {
+    let switch = enums::on_off(line, at);
+    let on_off = switch.value;
+    let options = words::byte(line, switch.at);
+    let last = invocations::options(line, options.at);
+    let given = last.value;
+    LineRead {
+        value: Line::Ask(Leaf::Leave(LeaveAsked {
+            on_off,
+            options: options.value,
+            given,
+        })),
+        at: last.at,
     }
-    Call::Ask(Leaf::Leave(LeaveAsked {
-        on_off: on_off,
-        options: options.value,
-        mask: mask.value,
-        over: over.value,
-    }))
 }
 
-fn mode_of_call(line: &[u8], at: usize) -> Call {
+fn mode_of_line(line: &[u8], at: usize) -> LineRead {
     let read = enums::enhanced_mode(line, at);
-    if read.at != line.len() {
-        return Call::Unreadable;
-    }
     let mode = read.value;
-    Call::Ask(Leaf::ModeOf(mode))
+    LineRead {
+        value: Line::Ask(Leaf::ModeOf(mode)),
+        at: read.at,
+    }
 }
 
-fn leaf_call(line: &[u8], at: usize) -> Call {
-    let delta = words::after(line, at, b"delta");
-    if delta != LOST {
-        return delta_call(line, delta);
+fn leaf_line(line: &[u8], at: usize) -> LineRead {
+    let name = words::start(line, at);
+    let end = words::end(line, name);
+    if words::is(line, name, b"delta") {
+        return delta_line(line, end);
     }
-    let remaining = words::after(line, at, b"remaining");
-    if remaining != LOST {
-        return remaining_call(line, remaining);
+    if words::is(line, name, b"remaining") {
+        return remaining_line(line, end);
     }
-    let may_execute = words::after(line, at, b"may_execute");
-    if may_execute != LOST {
-        return leave_call(line, may_execute);
+    if words::is(line, name, b"leave") {
+        return leave_line(line, end);
     }
-    mode_of_call(line, words::after(line, at, b"mode_of"))
+    if words::is(line, name, b"mode_of") {
+        return mode_of_line(line, end);
+    }
+    lost_line()
 }
 
-// The calls that make a lamp, or change it by hand.
-fn bench_call(line: &[u8]) -> Call {
-    let lamp = words::first(line, b"lamp");
-    if lamp != LOST {
-        return lamp_call(line, lamp);
+// The lines that make a lamp, look at something on its own, or change the lamp by hand.
+fn other_line(line: &[u8], at: usize) -> LineRead {
+    if words::is(line, 0, b"leaf") {
+        return leaf_line(line, at);
     }
-    let new = words::first(line, b"new");
-    if new != LOST {
-        return new_call(line, new);
+    if words::is(line, 0, b"set") {
+        return set_line(line, at);
     }
-    let poke = words::first(line, b"poke");
-    if poke != LOST {
-        return poke_call(line, poke);
+    if words::is(line, 0, b"show") {
+        return show_line(at);
     }
-    record_call(line, words::first(line, b"record"))
+    if words::is(line, 0, b"lamp") {
+        return lamp_line(line, at);
+    }
+    if words::is(line, 0, b"new") {
+        return making_line(line, at);
+    }
+    if words::is(line, 0, b"poke") {
+        return poke_line(line, at);
+    }
+    if words::is(line, 0, b"record") {
+        return record_line(line, at);
+    }
+    lost_line()
 }
 
-// The calls that look at something on its own, and those of `bench_call`.
-fn other_call(line: &[u8]) -> Call {
-    let leaf = words::first(line, b"leaf");
-    if leaf != LOST {
-        return leaf_call(line, leaf);
+// The line by its first word.
+fn any_line(line: &[u8]) -> LineRead {
+    let at = words::end(line, 0);
+    if words::is(line, 0, b"cmd") {
+        return call_line(invocations::invoke(line, at));
     }
-    let set = words::first(line, b"set");
-    if set != LOST {
-        return set_call(line, set);
+    if words::is(line, 0, b"step") {
+        return call_line(invocations::step(line, at));
     }
-    let show = words::first(line, b"show");
-    if show != LOST {
-        return show_call(line, show);
+    if words::is(line, 0, b"startlast") {
+        return start_last_line(line, at);
     }
-    bench_call(line)
+    if words::is(line, 0, b"start") {
+        return call_line(invocations::begin(line, at));
+    }
+    if words::is(line, 0, b"halt") {
+        return call_line(invocations::halt(line, at));
+    }
+    other_line(line, at)
 }
 
-pub(crate) fn read(line: &[u8]) -> Call {
-    let command = words::first(line, b"cmd");
-    if command != LOST {
-        return invoke_call(line, command);
+pub(crate) fn read(line: &[u8]) -> Line {
+    let read = any_line(line);
+    if read.at != line.len() {
+        return Line::Unreadable;
     }
-    let step = words::first(line, b"step");
-    if step != LOST {
-        return step_call(line, step);
-    }
-    let last = words::first(line, b"startlast");
-    if last != LOST {
-        return start_last_call(line, last);
-    }
-    let start = words::first(line, b"start");
-    if start != LOST {
-        return start_call(line, start);
-    }
-    let halt = words::first(line, b"halt");
-    if halt != LOST {
-        return halt_call(line, halt);
-    }
-    other_call(line)
+    let found = read.value;
+    found
 }

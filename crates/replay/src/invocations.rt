@@ -1,188 +1,26 @@
-// Reading a command: its name, the on/off word, its arguments, the options' mask and override, and the clock.
+// Reading a call of the lamp: a command, a start, a step or a halt.
 use crate::enums;
+use crate::moves;
 use crate::words;
 use crate::words::LOST;
+use lamp::Call;
 use matter::Command;
 use matter::CommandOptions;
-use matter::OnOff;
-
-enum CommandName {
-    MoveToHue,
-    MoveHue,
-    StepHue,
-    EnhancedMoveToHue,
-    EnhancedMoveHue,
-    EnhancedStepHue,
-    MoveToSaturation,
-    MoveSaturation,
-    StepSaturation,
-    MoveToHueAndSaturation,
-    MoveToColorTemperature,
-    MoveColorTemperature,
-    StepColorTemperature,
-    ColorLoopSet,
-    StopMoveStep,
-}
-
-struct NameRead {
-    value: CommandName,
-    at: usize,
-}
-
-struct OptionsRead {
-    value: CommandOptions,
-    at: usize,
-}
+use matter::Request;
 
 struct CommandRead {
     value: Command,
     at: usize,
 }
 
-pub struct Invocation {
-    pub command: Command,
-    pub on_off: OnOff,
-    pub clock: u64,
-}
-
-pub struct InvocationRead {
-    pub value: Invocation,
+pub struct OptionsRead {
+    pub value: CommandOptions,
     pub at: usize,
 }
 
-// `color_loop_set` or `stop_move_step`.
-fn other_name(line: &[u8], at: usize) -> NameRead {
-    let looped = words::after(line, at, b"color_loop_set");
-    if looped != LOST {
-        return NameRead {
-            value: CommandName::ColorLoopSet,
-            at: looped,
-        };
-    }
-    NameRead {
-        value: CommandName::StopMoveStep,
-        at: words::after(line, at, b"stop_move_step"),
-    }
-}
-
-fn mireds_name(line: &[u8], at: usize) -> NameRead {
-    let to = words::after(line, at, b"move_to_color_temperature");
-    if to != LOST {
-        return NameRead {
-            value: CommandName::MoveToColorTemperature,
-            at: to,
-        };
-    }
-    let rated = words::after(line, at, b"move_color_temperature");
-    if rated != LOST {
-        return NameRead {
-            value: CommandName::MoveColorTemperature,
-            at: rated,
-        };
-    }
-    let step = words::after(line, at, b"step_color_temperature");
-    if step != LOST {
-        return NameRead {
-            value: CommandName::StepColorTemperature,
-            at: step,
-        };
-    }
-    other_name(line, at)
-}
-
-fn saturation_name(line: &[u8], at: usize) -> NameRead {
-    let to = words::after(line, at, b"move_to_saturation");
-    if to != LOST {
-        return NameRead {
-            value: CommandName::MoveToSaturation,
-            at: to,
-        };
-    }
-    let rated = words::after(line, at, b"move_saturation");
-    if rated != LOST {
-        return NameRead {
-            value: CommandName::MoveSaturation,
-            at: rated,
-        };
-    }
-    let step = words::after(line, at, b"step_saturation");
-    if step != LOST {
-        return NameRead {
-            value: CommandName::StepSaturation,
-            at: step,
-        };
-    }
-    let both = words::after(line, at, b"move_to_hue_and_saturation");
-    if both != LOST {
-        return NameRead {
-            value: CommandName::MoveToHueAndSaturation,
-            at: both,
-        };
-    }
-    mireds_name(line, at)
-}
-
-fn enhanced_name(line: &[u8], at: usize) -> NameRead {
-    let to = words::after(line, at, b"enhanced_move_to_hue");
-    if to != LOST {
-        return NameRead {
-            value: CommandName::EnhancedMoveToHue,
-            at: to,
-        };
-    }
-    let rated = words::after(line, at, b"enhanced_move_hue");
-    if rated != LOST {
-        return NameRead {
-            value: CommandName::EnhancedMoveHue,
-            at: rated,
-        };
-    }
-    let step = words::after(line, at, b"enhanced_step_hue");
-    if step != LOST {
-        return NameRead {
-            value: CommandName::EnhancedStepHue,
-            at: step,
-        };
-    }
-    saturation_name(line, at)
-}
-
-fn name(line: &[u8], at: usize) -> NameRead {
-    let to = words::after(line, at, b"move_to_hue");
-    if to != LOST {
-        return NameRead {
-            value: CommandName::MoveToHue,
-            at: to,
-        };
-    }
-    let rated = words::after(line, at, b"move_hue");
-    if rated != LOST {
-        return NameRead {
-            value: CommandName::MoveHue,
-            at: rated,
-        };
-    }
-    let step = words::after(line, at, b"step_hue");
-    if step != LOST {
-        return NameRead {
-            value: CommandName::StepHue,
-            at: step,
-        };
-    }
-    enhanced_name(line, at)
-}
-
-// The mask and the override.
-fn options(line: &[u8], at: usize) -> OptionsRead {
-    let mask = words::byte(line, at);
-    let over = words::byte(line, mask.at);
-    OptionsRead {
-        value: CommandOptions {
-            mask: mask.value,
-            over: over.value,
-        },
-        at: over.at,
-    }
+pub struct CallRead {
+    pub value: Call,
+    pub at: usize,
 }
 
 fn move_to_hue(line: &[u8], at: usize) -> CommandRead {
@@ -190,16 +28,13 @@ fn move_to_hue(line: &[u8], at: usize) -> CommandRead {
     let ways = enums::path_direction(line, hue.at);
     let direction = ways.value;
     let tenths = words::short(line, ways.at);
-    let last = options(line, tenths.at);
-    let given = last.value;
     CommandRead {
         value: Command::MoveToHue {
             hue: hue.value,
-            direction: direction,
+            direction,
             time: tenths.value,
-            options: given,
         },
-        at: last.at,
+        at: tenths.at,
     }
 }
 
@@ -208,16 +43,13 @@ fn move_hue(line: &[u8], at: usize) -> CommandRead {
     let mode = modes.value;
     let rate = words::byte(line, modes.at);
     let enhanced = words::flag(line, rate.at);
-    let last = options(line, enhanced.at);
-    let given = last.value;
     CommandRead {
         value: Command::MoveHue {
-            mode: mode,
+            mode,
             rate: rate.value,
             enhanced: enhanced.value,
-            options: given,
         },
-        at: last.at,
+        at: enhanced.at,
     }
 }
 
@@ -226,16 +58,13 @@ fn step_hue(line: &[u8], at: usize) -> CommandRead {
     let mode = modes.value;
     let size = words::byte(line, modes.at);
     let tenths = words::short(line, size.at);
-    let last = options(line, tenths.at);
-    let given = last.value;
     CommandRead {
         value: Command::StepHue {
-            mode: mode,
+            mode,
             size: size.value,
             time: tenths.value,
-            options: given,
         },
-        at: last.at,
+        at: tenths.at,
     }
 }
 
@@ -244,16 +73,13 @@ fn enhanced_move_to_hue(line: &[u8], at: usize) -> CommandRead {
     let ways = enums::path_direction(line, hue.at);
     let direction = ways.value;
     let tenths = words::short(line, ways.at);
-    let last = options(line, tenths.at);
-    let given = last.value;
     CommandRead {
         value: Command::EnhancedMoveToHue {
             hue: hue.value,
-            direction: direction,
+            direction,
             time: tenths.value,
-            options: given,
         },
-        at: last.at,
+        at: tenths.at,
     }
 }
 
@@ -261,15 +87,12 @@ fn enhanced_move_hue(line: &[u8], at: usize) -> CommandRead {
     let modes = enums::move_mode(line, at);
     let mode = modes.value;
     let rate = words::short(line, modes.at);
-    let last = options(line, rate.at);
-    let given = last.value;
     CommandRead {
         value: Command::EnhancedMoveHue {
-            mode: mode,
+            mode,
             rate: rate.value,
-            options: given,
         },
-        at: last.at,
+        at: rate.at,
     }
 }
 
@@ -278,31 +101,25 @@ fn enhanced_step_hue(line: &[u8], at: usize) -> CommandRead {
     let mode = modes.value;
     let size = words::short(line, modes.at);
     let tenths = words::short(line, size.at);
-    let last = options(line, tenths.at);
-    let given = last.value;
     CommandRead {
         value: Command::EnhancedStepHue {
-            mode: mode,
+            mode,
             size: size.value,
             time: tenths.value,
-            options: given,
         },
-        at: last.at,
+        at: tenths.at,
     }
 }
 
 fn move_to_saturation(line: &[u8], at: usize) -> CommandRead {
     let saturation = words::byte(line, at);
     let tenths = words::short(line, saturation.at);
-    let last = options(line, tenths.at);
-    let given = last.value;
     CommandRead {
         value: Command::MoveToSaturation {
             saturation: saturation.value,
             time: tenths.value,
-            options: given,
         },
-        at: last.at,
+        at: tenths.at,
     }
 }
 
@@ -310,15 +127,12 @@ fn move_saturation(line: &[u8], at: usize) -> CommandRead {
     let modes = enums::move_mode(line, at);
     let mode = modes.value;
     let rate = words::byte(line, modes.at);
-    let last = options(line, rate.at);
-    let given = last.value;
     CommandRead {
         value: Command::MoveSaturation {
-            mode: mode,
+            mode,
             rate: rate.value,
-            options: given,
         },
-        at: last.at,
+        at: rate.at,
     }
 }
 
@@ -327,16 +141,13 @@ fn step_saturation(line: &[u8], at: usize) -> CommandRead {
     let mode = modes.value;
     let size = words::byte(line, modes.at);
     let tenths = words::short(line, size.at);
-    let last = options(line, tenths.at);
-    let given = last.value;
     CommandRead {
         value: Command::StepSaturation {
-            mode: mode,
+            mode,
             size: size.value,
             time: tenths.value,
-            options: given,
         },
-        at: last.at,
+        at: tenths.at,
     }
 }
 
@@ -346,8 +157,6 @@ fn move_to_hue_and_saturation(line: &[u8], at: usize) -> CommandRead {
     let tenths = words::short(line, saturation.at);
     let enhanced = words::flag(line, tenths.at);
     let enhanced_hue = words::short(line, enhanced.at);
-    let last = options(line, enhanced_hue.at);
-    let given = last.value;
     CommandRead {
         value: Command::MoveToHueAndSaturation {
             hue: hue.value,
@@ -355,24 +164,20 @@ fn move_to_hue_and_saturation(line: &[u8], at: usize) -> CommandRead {
             time: tenths.value,
             enhanced: enhanced.value,
             enhanced_hue: enhanced_hue.value,
-            options: given,
         },
-        at: last.at,
+        at: enhanced_hue.at,
     }
 }
 
 fn move_to_color_temperature(line: &[u8], at: usize) -> CommandRead {
     let mireds = words::short(line, at);
     let tenths = words::short(line, mireds.at);
-    let last = options(line, tenths.at);
-    let given = last.value;
     CommandRead {
         value: Command::MoveToColorTemperature {
             mireds: mireds.value,
             time: tenths.value,
-            options: given,
         },
-        at: last.at,
+        at: tenths.at,
     }
 }
 
@@ -382,17 +187,14 @@ fn move_color_temperature(line: &[u8], at: usize) -> CommandRead {
     let rate = words::short(line, modes.at);
     let min = words::short(line, rate.at);
     let max = words::short(line, min.at);
-    let last = options(line, max.at);
-    let given = last.value;
     CommandRead {
         value: Command::MoveColorTemperature {
-            mode: mode,
+            mode,
             rate: rate.value,
             min: min.value,
             max: max.value,
-            options: given,
         },
-        at: last.at,
+        at: max.at,
     }
 }
 
@@ -403,18 +205,15 @@ fn step_color_temperature(line: &[u8], at: usize) -> CommandRead {
     let tenths = words::short(line, size.at);
     let min = words::short(line, tenths.at);
     let max = words::short(line, min.at);
-    let last = options(line, max.at);
-    let given = last.value;
     CommandRead {
         value: Command::StepColorTemperature {
-            mode: mode,
+            mode,
             size: size.value,
             time: tenths.value,
             min: min.value,
             max: max.value,
-            options: given,
         },
-        at: last.at,
+        at: max.at,
     }
 }
 
@@ -426,65 +225,133 @@ fn color_loop_set(line: &[u8], at: usize) -> CommandRead {
     let direction = ways.value;
     let seconds = words::short(line, ways.at);
     let start = words::short(line, seconds.at);
-    let last = options(line, start.at);
-    let given = last.value;
     CommandRead {
         value: Command::ColorLoopSet {
             flags: flags.value,
-            action: action,
-            direction: direction,
+            action,
+            direction,
             time: seconds.value,
             start_hue: start.value,
-            options: given,
         },
-        at: last.at,
+        at: start.at,
     }
 }
 
-fn stop_move_step(line: &[u8], at: usize) -> CommandRead {
-    let last = options(line, at);
-    let given = last.value;
+// Those of saturation and color temperature, the color loop and StopMoveStep.
+fn other_command(line: &[u8], name: usize, at: usize) -> CommandRead {
+    if words::is(line, name, b"move_to_saturation") {
+        return move_to_saturation(line, at);
+    }
+    if words::is(line, name, b"move_saturation") {
+        return move_saturation(line, at);
+    }
+    if words::is(line, name, b"step_saturation") {
+        return step_saturation(line, at);
+    }
+    if words::is(line, name, b"move_to_color_temperature") {
+        return move_to_color_temperature(line, at);
+    }
+    if words::is(line, name, b"move_color_temperature") {
+        return move_color_temperature(line, at);
+    }
+    if words::is(line, name, b"step_color_temperature") {
+        return step_color_temperature(line, at);
+    }
+    if words::is(line, name, b"color_loop_set") {
+        return color_loop_set(line, at);
+    }
+    let known = words::is(line, name, b"stop_move_step");
     CommandRead {
-        value: Command::StopMoveStep { options: given },
-        at: last.at,
+        value: Command::StopMoveStep,
+        at: if known { at } else { LOST },
     }
 }
 
-// The arguments of the command of that name.
-fn arguments(name: CommandName, line: &[u8], at: usize) -> CommandRead {
-    match name {
-        CommandName::MoveToHue => move_to_hue(line, at),
-        CommandName::MoveHue => move_hue(line, at),
-        CommandName::StepHue => step_hue(line, at),
-        CommandName::EnhancedMoveToHue => enhanced_move_to_hue(line, at),
-        CommandName::EnhancedMoveHue => enhanced_move_hue(line, at),
-        CommandName::EnhancedStepHue => enhanced_step_hue(line, at),
-        CommandName::MoveToSaturation => move_to_saturation(line, at),
-        CommandName::MoveSaturation => move_saturation(line, at),
-        CommandName::StepSaturation => step_saturation(line, at),
-        CommandName::MoveToHueAndSaturation => move_to_hue_and_saturation(line, at),
-        CommandName::MoveToColorTemperature => move_to_color_temperature(line, at),
-        CommandName::MoveColorTemperature => move_color_temperature(line, at),
-        CommandName::StepColorTemperature => step_color_temperature(line, at),
-        CommandName::ColorLoopSet => color_loop_set(line, at),
-        CommandName::StopMoveStep => stop_move_step(line, at),
+// The command whose name begins at `name`, with its arguments from `at` on.
+fn command(line: &[u8], name: usize, at: usize) -> CommandRead {
+    if words::is(line, name, b"move_to_hue") {
+        return move_to_hue(line, at);
+    }
+    if words::is(line, name, b"move_hue") {
+        return move_hue(line, at);
+    }
+    if words::is(line, name, b"step_hue") {
+        return step_hue(line, at);
+    }
+    if words::is(line, name, b"enhanced_move_to_hue") {
+        return enhanced_move_to_hue(line, at);
+    }
+    if words::is(line, name, b"enhanced_move_hue") {
+        return enhanced_move_hue(line, at);
+    }
+    if words::is(line, name, b"enhanced_step_hue") {
+        return enhanced_step_hue(line, at);
+    }
+    if words::is(line, name, b"move_to_hue_and_saturation") {
+        return move_to_hue_and_saturation(line, at);
+    }
+    other_command(line, name, at)
+}
+
+// The mask and the override.
+pub(crate) fn options(line: &[u8], at: usize) -> OptionsRead {
+    let mask = words::byte(line, at);
+    let overrides = words::byte(line, mask.at);
+    OptionsRead {
+        value: CommandOptions {
+            mask: mask.value,
+            overrides: overrides.value,
+        },
+        at: overrides.at,
     }
 }
 
-pub(crate) fn read(line: &[u8], at: usize) -> InvocationRead {
-    let names = name(line, at);
-    let which = names.value;
-    let switch = enums::on_off(line, names.at);
+// A command's name, the on/off word, its arguments, its options and the clock.
+pub(crate) fn invoke(line: &[u8], at: usize) -> CallRead {
+    let name = words::start(line, at);
+    let switch = enums::on_off(line, words::end(line, name));
     let on_off = switch.value;
-    let read = arguments(which, line, switch.at);
+    let read = command(line, name, switch.at);
     let command = read.value;
-    let clock = words::long(line, read.at);
-    InvocationRead {
-        value: Invocation {
-            command: command,
-            on_off: on_off,
+    let last = options(line, read.at);
+    let options = last.value;
+    let clock = words::long(line, last.at);
+    CallRead {
+        value: Call::Command {
+            request: Request { options, command },
+            on_off,
             clock: clock.value,
         },
+        at: clock.at,
+    }
+}
+
+pub(crate) fn begin(line: &[u8], at: usize) -> CallRead {
+    let name = words::start(line, at);
+    let read = moves::task(line, name, words::end(line, name));
+    let task = read.value;
+    let clock = words::long(line, read.at);
+    CallRead {
+        value: Call::Start {
+            task,
+            clock: clock.value,
+        },
+        at: clock.at,
+    }
+}
+
+pub(crate) fn step(line: &[u8], at: usize) -> CallRead {
+    let clock = words::long(line, at);
+    CallRead {
+        value: Call::Step { clock: clock.value },
+        at: clock.at,
+    }
+}
+
+pub(crate) fn halt(line: &[u8], at: usize) -> CallRead {
+    let clock = words::long(line, at);
+    CallRead {
+        value: Call::Halt { clock: clock.value },
         at: clock.at,
     }
 }

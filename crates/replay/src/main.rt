@@ -7,14 +7,11 @@ mod moves;
 mod print;
 mod records;
 mod run;
-mod starts;
 mod words;
 
 use libc::STDIN_FILENO;
 use libc::STDOUT_FILENO;
 use run::State;
-ghost use Prim.Native.Nat.{_≤_};
-ghost use lib.ListN.{length};
 ghost use Rattle.io.specs.Counts.{Counts};
 
 // Past this place the answers are written out before the next, so that the longest answer has room.
@@ -38,21 +35,6 @@ fn within(count: usize, buffer: &[u8]) -> usize
     } else {
         buffer.len()
     }
-}
-
-// The place of the next newline, or the block's end.
-fn line_end(block: &[u8], from: usize) -> usize
-    requires { ⌜ from ≤ length (now block) ⌝ }
-    ensures { λ r. ⌜ (from ≤ r) × (r ≤ length (now (block .entry))) ⌝ }
-{
-    let mut at = from;
-    while at < block.len() {
-        if block[at] == b'\n' {
-            break;
-        }
-        at += 1;
-    }
-    at
 }
 
 fn write_out(out: &[u8], at: usize) {
@@ -96,7 +78,7 @@ fn take_block(start: Replay, block: &[u8], line: &mut [u8], out: &mut [u8]) -> R
     let mut replay = start;
     let mut at = 0;
     while at < block.len() {
-        let end = line_end(block, at);
+        let end = words::find(block, at, b'\n');
         replay = take_part(replay, &block[at..end], end < block.len(), line, out);
         at = end + 1;
     }

@@ -1,4 +1,4 @@
-// Reading what a task asks for; a record has the same numbers after those it found at its start.
+// Reading a task: by its name, what it asks for. A record has the same numbers after its initial values.
 use crate::enums;
 use crate::words;
 use crate::words::LOST;
@@ -10,6 +10,7 @@ use tasks::HueMove;
 use tasks::HueSaturationMoveTo;
 use tasks::SaturationMove;
 use tasks::TargetSaturation;
+use tasks::Task;
 
 struct DeltaRead {
     value: HueDelta,
@@ -21,33 +22,8 @@ struct TargetRead {
     at: usize,
 }
 
-pub struct MoveToRead {
-    pub value: HueSaturationMoveTo,
-    pub at: usize,
-}
-
-pub struct HueMoveRead {
-    pub value: HueMove,
-    pub at: usize,
-}
-
-pub struct SaturationMoveRead {
-    pub value: SaturationMove,
-    pub at: usize,
-}
-
-pub struct MiredsToRead {
-    pub value: ColorTemperatureMoveTo,
-    pub at: usize,
-}
-
-pub struct MiredsMoveRead {
-    pub value: ColorTemperatureMove,
-    pub at: usize,
-}
-
-pub struct LoopRead {
-    pub value: ColorLoop,
+pub struct TaskRead {
+    pub value: Task,
     pub at: usize,
 }
 
@@ -83,87 +59,114 @@ fn target(line: &[u8], at: usize) -> TargetRead {
     }
 }
 
-pub(crate) fn move_to(line: &[u8], at: usize) -> MoveToRead {
+fn move_to(line: &[u8], at: usize) -> TaskRead {
     let ways = delta(line, at);
-    let way = ways.value;
+    let delta = ways.value;
     let targets = target(line, ways.at);
     let saturation = targets.value;
     let ms = words::word(line, targets.at);
     let enhanced = words::flag(line, ms.at);
-    MoveToRead {
-        value: HueSaturationMoveTo {
-            delta: way,
-            saturation: saturation,
+    TaskRead {
+        value: Task::HueSaturationMoveTo(HueSaturationMoveTo {
+            delta,
+            saturation,
             ms: ms.value,
             enhanced: enhanced.value,
-        },
+        }),
         at: enhanced.at,
     }
 }
 
-pub(crate) fn hue_move(line: &[u8], at: usize) -> HueMoveRead {
+fn hue_move(line: &[u8], at: usize) -> TaskRead {
     let modes = enums::move_mode(line, at);
-    let mode = modes.value;
+    let direction = modes.value;
     let rate = words::word(line, modes.at);
     let enhanced = words::flag(line, rate.at);
-    HueMoveRead {
-        value: HueMove {
-            direction: mode,
+    TaskRead {
+        value: Task::HueMove(HueMove {
+            direction,
             rate: rate.value,
             enhanced: enhanced.value,
-        },
+        }),
         at: enhanced.at,
     }
 }
 
-pub(crate) fn saturation_move(line: &[u8], at: usize) -> SaturationMoveRead {
+fn saturation_move(line: &[u8], at: usize) -> TaskRead {
     let modes = enums::move_mode(line, at);
-    let mode = modes.value;
+    let direction = modes.value;
     let rate = words::word(line, modes.at);
-    SaturationMoveRead {
-        value: SaturationMove {
-            direction: mode,
+    TaskRead {
+        value: Task::SaturationMove(SaturationMove {
+            direction,
             rate: rate.value,
-        },
+        }),
         at: rate.at,
     }
 }
 
-pub(crate) fn mireds_to(line: &[u8], at: usize) -> MiredsToRead {
-    let mireds = words::short(line, at);
-    let ms = words::word(line, mireds.at);
-    MiredsToRead {
-        value: ColorTemperatureMoveTo {
-            target: mireds.value,
+fn mireds_to(line: &[u8], at: usize) -> TaskRead {
+    let target = words::short(line, at);
+    let ms = words::word(line, target.at);
+    TaskRead {
+        value: Task::ColorTemperatureMoveTo(ColorTemperatureMoveTo {
+            target: target.value,
             ms: ms.value,
-        },
+        }),
         at: ms.at,
     }
 }
 
-pub(crate) fn mireds_move(line: &[u8], at: usize) -> MiredsMoveRead {
+fn mireds_move(line: &[u8], at: usize) -> TaskRead {
     let rate = words::signed(line, at);
     let min = words::short(line, rate.at);
     let max = words::short(line, min.at);
-    MiredsMoveRead {
-        value: ColorTemperatureMove {
+    TaskRead {
+        value: Task::ColorTemperatureMove(ColorTemperatureMove {
             rate: rate.value,
             min: min.value,
             max: max.value,
-        },
+        }),
         at: max.at,
     }
 }
 
-pub(crate) fn color_loop(line: &[u8], at: usize) -> LoopRead {
+fn color_loop(line: &[u8], at: usize) -> TaskRead {
     let ways = enums::loop_direction(line, at);
-    let way = ways.value;
+    let direction = ways.value;
     let seconds = words::short(line, ways.at);
-    LoopRead {
-        value: ColorLoop {
-            direction: way,
+    TaskRead {
+        value: Task::ColorLoop(ColorLoop {
+            direction,
             seconds: seconds.value,
-        },
+        }),
         at: seconds.at,
+    }
+}
+
+// The task whose name begins at `name`, with its numbers from `at` on.
+pub(crate) fn task(line: &[u8], name: usize, at: usize) -> TaskRead {
+    if words::is(line, name, b"move_to") {
+        return move_to(line, at);
+    }
+    if words::is(line, name, b"hue_move") {
+        return hue_move(line, at);
+    }
+    if words::is(line, name, b"sat_move") {
+        return saturation_move(line, at);
+    }
+    if words::is(line, name, b"ct_to") {
+        return mireds_to(line, at);
+    }
+    if words::is(line, name, b"ct_move") {
+        return mireds_move(line, at);
+    }
+    if words::is(line, name, b"loop") {
+        return color_loop(line, at);
+    }
+    let known = words::is(line, name, b"stop");
+    TaskRead {
+        value: Task::Stop,
+        at: if known { at } else { LOST },
     }
 }

@@ -1,4 +1,4 @@
-// Reading a running record: its name, what was found at its start, and its task.
+// Reading a running record: its name, the clock and the initial values at its start, and its task's numbers.
 use crate::moves;
 use crate::words;
 use crate::words::LOST;
@@ -9,139 +9,111 @@ use tasks::HueRun;
 use tasks::HueSaturationRun;
 use tasks::Running;
 use tasks::SaturationRun;
+use tasks::Task;
 
 pub struct RecordRead {
     pub value: Running,
     pub at: usize,
 }
 
-fn move_to(line: &[u8], at: usize) -> RecordRead {
+// The clock at a start and the initial values: a hue or mireds, a saturation, or a hue and a saturation.
+struct Initial {
+    start: u64,
+    number: u16,
+    saturation: u8,
+    at: usize,
+}
+
+fn initial_values(line: &[u8], name: usize, at: usize) -> Initial {
     let clock = words::long(line, at);
-    let hue = words::short(line, clock.at);
-    let saturation = words::byte(line, hue.at);
-    let found = moves::move_to(line, saturation.at);
-    let task = found.value;
-    RecordRead {
-        value: Running::HueSaturationMoveTo(HueSaturationRun {
+    if words::is(line, name, b"sat_move") {
+        let saturation = words::byte(line, clock.at);
+        return Initial {
             start: clock.value,
-            hue: hue.value,
+            number: 0,
             saturation: saturation.value,
-            task: task,
-        }),
-        at: found.at,
+            at: saturation.at,
+        };
     }
-}
-
-fn hue_move(line: &[u8], at: usize) -> RecordRead {
-    let clock = words::long(line, at);
-    let hue = words::short(line, clock.at);
-    let found = moves::hue_move(line, hue.at);
-    let task = found.value;
-    RecordRead {
-        value: Running::HueMove(HueRun {
+    let number = words::short(line, clock.at);
+    if words::is(line, name, b"move_to") {
+        let saturation = words::byte(line, number.at);
+        return Initial {
             start: clock.value,
-            hue: hue.value,
-            task: task,
-        }),
-        at: found.at,
-    }
-}
-
-fn saturation_move(line: &[u8], at: usize) -> RecordRead {
-    let clock = words::long(line, at);
-    let saturation = words::byte(line, clock.at);
-    let found = moves::saturation_move(line, saturation.at);
-    let task = found.value;
-    RecordRead {
-        value: Running::SaturationMove(SaturationRun {
-            start: clock.value,
+            number: number.value,
             saturation: saturation.value,
-            task: task,
-        }),
-        at: found.at,
+            at: saturation.at,
+        };
+    }
+    Initial {
+        start: clock.value,
+        number: number.value,
+        saturation: 0,
+        at: number.at,
     }
 }
 
-fn mireds_to(line: &[u8], at: usize) -> RecordRead {
-    let clock = words::long(line, at);
-    let mireds = words::short(line, clock.at);
-    let found = moves::mireds_to(line, mireds.at);
-    let task = found.value;
-    RecordRead {
-        value: Running::ColorTemperatureMoveTo(ColorTemperatureToRun {
-            start: clock.value,
-            mireds: mireds.value,
-            task: task,
+// The record of a task: the limits of a move of the color temperature stand where its task has the caller's.
+fn record(initial: Initial, task: Task) -> Running {
+    let start = initial.start;
+    let number = initial.number;
+    let saturation = initial.saturation;
+    match task {
+        Task::HueSaturationMoveTo(task) => Running::HueSaturationMoveTo(HueSaturationRun {
+            start,
+            hue: number,
+            saturation,
+            task,
         }),
-        at: found.at,
-    }
-}
-
-// The limits of the record stand where a task has the caller's.
-fn mireds_move(line: &[u8], at: usize) -> RecordRead {
-    let clock = words::long(line, at);
-    let mireds = words::short(line, clock.at);
-    let found = moves::mireds_move(line, mireds.at);
-    let task = found.value;
-    RecordRead {
-        value: Running::ColorTemperatureMove(ColorTemperatureRun {
-            start: clock.value,
-            mireds: mireds.value,
+        Task::HueMove(task) => Running::HueMove(HueRun {
+            start,
+            hue: number,
+            task,
+        }),
+        Task::SaturationMove(task) => Running::SaturationMove(SaturationRun {
+            start,
+            saturation,
+            task,
+        }),
+        Task::ColorTemperatureMoveTo(task) => {
+            Running::ColorTemperatureMoveTo(ColorTemperatureToRun {
+                start,
+                mireds: number,
+                task,
+            })
+        }
+        Task::ColorTemperatureMove(task) => Running::ColorTemperatureMove(ColorTemperatureRun {
+            start,
+            mireds: number,
             rate: task.rate,
             lo: task.min,
             hi: task.max,
         }),
-        at: found.at,
-    }
-}
-
-fn color_loop(line: &[u8], at: usize) -> RecordRead {
-    let clock = words::long(line, at);
-    let hue = words::short(line, clock.at);
-    let found = moves::color_loop(line, hue.at);
-    let task = found.value;
-    RecordRead {
-        value: Running::ColorLoop(ColorLoopRun {
-            start: clock.value,
-            hue: hue.value,
-            task: task,
+        Task::ColorLoop(task) => Running::ColorLoop(ColorLoopRun {
+            start,
+            hue: number,
+            task,
         }),
-        at: found.at,
+        Task::Stop => Running::Idle,
     }
-}
-
-// `ct_to`, `ct_move` or `loop`.
-fn other_record(line: &[u8], at: usize) -> RecordRead {
-    let to = words::after(line, at, b"ct_to");
-    if to != LOST {
-        return mireds_to(line, to);
-    }
-    let rated = words::after(line, at, b"ct_move");
-    if rated != LOST {
-        return mireds_move(line, rated);
-    }
-    color_loop(line, words::after(line, at, b"loop"))
 }
 
 pub(crate) fn running(line: &[u8], at: usize) -> RecordRead {
-    let idle = words::after(line, at, b"idle");
-    if idle != LOST {
+    let name = words::start(line, at);
+    let end = words::end(line, name);
+    if words::is(line, name, b"idle") {
         return RecordRead {
             value: Running::Idle,
-            at: idle,
+            at: end,
         };
     }
-    let to = words::after(line, at, b"move_to");
-    if to != LOST {
-        return move_to(line, to);
+    let stops = words::is(line, name, b"stop");
+    let initial = initial_values(line, name, end);
+    let read = moves::task(line, name, initial.at);
+    let task = read.value;
+    let running = record(initial, task);
+    RecordRead {
+        value: running,
+        at: if stops { LOST } else { read.at },
     }
-    let hue = words::after(line, at, b"hue_move");
-    if hue != LOST {
-        return hue_move(line, hue);
-    }
-    let saturation = words::after(line, at, b"sat_move");
-    if saturation != LOST {
-        return saturation_move(line, saturation);
-    }
-    other_record(line, at)
 }

@@ -1,21 +1,20 @@
 // What a call does, and its answer. A call that cannot be read, or has no lamp to act on, answers `error` and changes
 // nothing.
 use crate::calls;
-use crate::calls::Call;
 use crate::calls::DeltaAsked;
 use crate::calls::HueSetting;
-use crate::calls::LampCall;
 use crate::calls::Leaf;
 use crate::calls::LeaveAsked;
+use crate::calls::Line;
 use crate::calls::Making;
 use crate::calls::MiredsSetting;
+use crate::calls::OnLamp;
 use crate::calls::RemainingAsked;
 use crate::calls::SaturationSetting;
-use crate::invocations::Invocation;
 use crate::print;
-use crate::starts::Start;
 use color::ColorSet;
 use lamp::Answer;
+use lamp::Call;
 use lamp::Lamp;
 use lamp::Made;
 use matter::ACCEPTED;
@@ -24,7 +23,6 @@ use notices::Notices;
 use remaining_time::RemainingTime;
 use tasks::GivenTask;
 use tasks::Running;
-use tasks::Task;
 
 // A line of more bytes is unreadable.
 const LONGEST: usize = 4095;
@@ -201,51 +199,25 @@ fn set_mireds(lamp: Lamp, set: MiredsSetting) -> Answer {
     )
 }
 
-fn invoke(lamp: Lamp, invocation: Invocation) -> Answer {
-    let command = invocation.command;
-    let on_off = invocation.on_off;
-    commands::invoke(lamp, command, on_off, invocation.clock)
-}
-
-fn begin(lamp: Lamp, start: Start) -> Answer {
-    let task = start.task;
-    lamp.start(task, start.clock)
-}
-
-fn on_lamp(lamp: Lamp, call: LampCall) -> Answer {
-    match call {
-        LampCall::Poke(fields) => poked(lamp, fields),
-        LampCall::Record(running) => recorded(lamp, running),
-        LampCall::Show => shown(lamp),
-        LampCall::SetHue(set) => set_hue(lamp, set),
-        LampCall::SetSaturation(set) => set_saturation(lamp, set),
-        LampCall::SetMireds(set) => set_mireds(lamp, set),
-        LampCall::Invoke(invocation) => invoke(lamp, invocation),
-        LampCall::Start(start) => begin(lamp, start),
-        LampCall::Step(clock) => lamp.step(clock),
-        LampCall::Halt(clock) => lamp.halt(clock),
+fn on_lamp(lamp: Lamp, what: OnLamp) -> Answer {
+    match what {
+        OnLamp::Call(call) => commands::call(lamp, call),
+        OnLamp::Poke(fields) => poked(lamp, fields),
+        OnLamp::Record(running) => recorded(lamp, running),
+        OnLamp::Show => shown(lamp),
+        OnLamp::SetHue(set) => set_hue(lamp, set),
+        OnLamp::SetSaturation(set) => set_saturation(lamp, set),
+        OnLamp::SetMireds(set) => set_mireds(lamp, set),
     }
 }
 
-fn on_held(state: State, call: LampCall, out: &mut [u8], at: usize) -> Turn {
+fn on_held(state: State, what: OnLamp, out: &mut [u8], at: usize) -> Turn {
     let held = state.held;
     let task = state.task;
     match held {
         Held::Nothing => error(state, out, at),
-        Held::Lamp(lamp) => answered(task, on_lamp(lamp, call), out, at),
+        Held::Lamp(lamp) => answered(task, on_lamp(lamp, what), out, at),
     }
-}
-
-fn start_task(state: State, task: Task, clock: u64, out: &mut [u8], at: usize) -> Turn {
-    on_held(
-        state,
-        LampCall::Start(Start {
-            task: task,
-            clock: clock,
-        }),
-        out,
-        at,
-    )
 }
 
 // A start of the task that was given last.
@@ -253,7 +225,9 @@ fn start_last(state: State, clock: u64, out: &mut [u8], at: usize) -> Turn {
     let last = state.task;
     match last {
         GivenTask::Nothing => error(state, out, at),
-        GivenTask::Given(task) => start_task(state, task, clock, out, at),
+        GivenTask::Given(task) => {
+            on_held(state, OnLamp::Call(Call::Start { task, clock }), out, at)
+        }
     }
 }
 
@@ -282,7 +256,8 @@ fn remaining(asked: RemainingAsked, out: &mut [u8], at: usize) -> usize {
 
 fn may_execute(asked: LeaveAsked, out: &mut [u8], at: usize) -> usize {
     let on_off = asked.on_off;
-    let may = matter::should_continue(on_off, asked.options, asked.mask, asked.over);
+    let given = asked.given;
+    let may = matter::should_continue(on_off, asked.options, given.mask, given.overrides);
     bit(out, at, may)
 }
 
@@ -310,14 +285,14 @@ fn asked(state: State, leaf: Leaf, out: &mut [u8], at: usize) -> Turn {
     }
 }
 
-fn run(state: State, call: Call, out: &mut [u8], at: usize) -> Turn {
-    match call {
-        Call::Lamp(lamp) => placed(lamp, out, at),
-        Call::New(making) => make(state, making, out, at),
-        Call::OnLamp(call) => on_held(state, call, out, at),
-        Call::StartLast(clock) => start_last(state, clock, out, at),
-        Call::Ask(leaf) => asked(state, leaf, out, at),
-        Call::Unreadable => error(state, out, at),
+fn run(state: State, line: Line, out: &mut [u8], at: usize) -> Turn {
+    match line {
+        Line::Lamp(lamp) => placed(lamp, out, at),
+        Line::New(making) => make(state, making, out, at),
+        Line::OnLamp(what) => on_held(state, what, out, at),
+        Line::StartLast(clock) => start_last(state, clock, out, at),
+        Line::Ask(leaf) => asked(state, leaf, out, at),
+        Line::Unreadable => error(state, out, at),
     }
 }
 

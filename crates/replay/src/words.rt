@@ -2,6 +2,7 @@
 // that is not as asked gives the position LOST, at which nothing can be read and no line ends. So a row of readings
 // needs one test, at its end.
 ghost use Prim.Native.Nat.{_≤_};
+ghost use lib.ListN.{length};
 
 pub const LOST: usize = usize::MAX;
 
@@ -49,14 +50,38 @@ pub struct SignedRead {
     pub at: usize,
 }
 
+// The place of the next such byte from `from` on, or the end.
+pub(crate) fn find(bytes: &[u8], from: usize, byte: u8) -> usize
+    requires { ⌜ from ≤ length (now bytes) ⌝ }
+    ensures { λ r. ⌜ (from ≤ r) × (r ≤ length (now (bytes .entry))) ⌝ }
+{
+    let mut at = from;
+    while at < bytes.len() {
+        if bytes[at] == byte {
+            break;
+        }
+        at += 1;
+    }
+    at
+}
+
 // Where the next word begins.
-fn start(line: &[u8], at: usize) -> usize {
+pub(crate) fn start(line: &[u8], at: usize) -> usize {
     if at < line.len() {
         if line[at] == b' ' {
             return at + 1;
         }
     }
     LOST
+}
+
+// The end of the word that begins at `from`, whatever it is.
+pub(crate) fn end(line: &[u8], from: usize) -> usize {
+    if from <= line.len() {
+        find(line, from, b' ')
+    } else {
+        LOST
+    }
 }
 
 fn is_word_end(line: &[u8], at: usize) -> bool {
@@ -83,9 +108,9 @@ fn matched(line: &[u8], from: usize, text: &[u8]) -> usize {
     if is_word_end(line, at) { at } else { LOST }
 }
 
-// The end of the line's first word, where that word is `text`.
-pub(crate) fn first(line: &[u8], text: &[u8]) -> usize {
-    matched(line, 0, text)
+// Whether the word that begins at `from` is `text`.
+pub(crate) fn is(line: &[u8], from: usize, text: &[u8]) -> bool {
+    matched(line, from, text) != LOST
 }
 
 // The end of the next word, where that word is `text`.

@@ -1,15 +1,15 @@
--- `replay::line_end`: the place stays between where it began and the end of the block.
+-- `words::find`: the place stays between where it began and the end.
 use Prim.Native.Nat.{_≤_, _-_}
 use lib.ListN.{length}
 use borrow.Author.Needs.{needs}
-use Rattle.replay.proofs.line_end.Statement.{statement}
-use Rattle.replay.proofs.line_end.Tie as tie
+use Rattle.replay.proofs.words.find.Statement.{statement}
+use Rattle.replay.proofs.words.find.Tie as tie
 
 abbrev Inv-loop : tie.InvT-loop
-Inv-loop block from at₀ at = (from ≤ at) × (at ≤ length block)
+Inv-loop bytes from byte at₀ at = (from ≤ at) × (at ≤ length bytes)
 
 abbrev μ-loop : tie.MeasureT-loop
-μ-loop block from at₀ at = length block - at
+μ-loop bytes from byte at₀ at = length bytes - at
 
 loop-holds : tie.Need-loop-holds Inv-loop μ-loop
 loop-holds c = search needs
@@ -32,8 +32,8 @@ returns c = search needs
 returns-2 : tie.Need-returns-2 Inv-loop μ-loop
 returns-2 c = search needs
 
-pub line-end-spec : {M : Type 1} → statement M
-line-end-spec =
+pub find-spec : {M : Type 1} → statement M
+find-spec =
     tie.close
     (tie.spec
     Inv-loop
