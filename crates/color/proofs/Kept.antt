@@ -16,9 +16,10 @@ use Rattle.matter.specs.InRange.{Short}
 use Rattle.notices.proofs.Laws.{only-one}
 use Rattle.notices.specs.Names.{CurrentHue, EnhancedCurrentHue, CurrentSaturation, ColorTemperatureMireds}
 use Rattle.notices.specs.Notices.{only}
+use Rattle.color.specs.declared.Change.{Change}
 use Rattle.color.specs.declared.Color.{Color}
 use Rattle.color.specs.Valid.{modesAgree, colorValid}
-use Rattle.color.specs.Setters.{due, changeNotices, same, hueMode, keptHueMode, hueSet, hueReported, saturationSet, saturationReported, miredsSet, miredsReported}
+use Rattle.color.specs.Setters.{due, changeNotices, changeReported, same, hueMode, keptHueMode, hueSet, hueReported, saturationSet, saturationReported, miredsSet, miredsReported}
 
 -- ---- form lasts
 
@@ -125,6 +126,12 @@ reported-few false true true xs = simp length-append (omega arith)
 reported-few false true false xs = omega arith
 reported-few false false true xs = simp length-append (omega arith)
 reported-few false false false xs = omega arith
+
+-- a change reports at most six
+pub change-few : (change : Change) (active : Bool) → length (changeReported change active) ≤ 6
+change-few change active =
+    omega
+    (arith, only-one (change .enhanced) EnhancedCurrentHue, reported-few (change .same) active (change .due) (change .attribute ∷ only (change .enhanced) EnhancedCurrentHue))
 
 module _ (c : Color) (new : ℕ) (end : Bool) (clock : ℕ) (active : Bool) where
   -- `set_hue` reports at most six

@@ -1,13 +1,19 @@
 -- Laws that the proofs of several functions cite.
-use Prim.Native.Nat.{ℕ, _+_, _-_, _≤_}
-use mathlib.Core.Bool.{Bool, true, false, not, _&&_}
+use Prim.Native.Nat.{ℕ, _+_, _-_, _≤_, _<_}
+use mathlib.Core.Bool.{Bool, true, false, not, cond, _&&_}
 use mathlib.Core.Path.{_≡_, refl, sym}
-use mathlib.Core.List.{[], _∷_}
+use mathlib.Core.List.{[], _∷_, _++_}
 use native.Mathlib.Omega.{arith}
 use lib.Dec.{leb}
 use borrow.Author.Tests.{leb-true, leb-false, le-leb, lt-leb}
-use Rattle.notices.specs.Notices.{only, chosen}
-use Rattle.color.specs.Setters.{changeNotices}
+use Rattle.notices.specs.declared.Numeral.{Numeral}
+use Rattle.notices.specs.Notices.{only}
+use Rattle.notices.specs.Numerals.{consed, inFront}
+use Rattle.notices.specs.Names.{CurrentHue, EnhancedCurrentHue, CurrentSaturation, ColorTemperatureMireds, ColorMode, EnhancedColorMode, markedDirty}
+use Rattle.notices.proofs.Numerals.{Bytes, none, more, bytes-append, bytes-only}
+use Rattle.color.specs.declared.Change.{Change}
+use Rattle.color.specs.declared.Color.{Color}
+use Rattle.color.specs.Setters.{same, changeNotices, changeReported, changeOf, hueChange, hueReported, saturationChange, saturationReported, miredsChange, miredsReported}
 
 -- a second or more from the stamp to the clock, by the difference or by the sum
 by : (stamp clock : ℕ) (b : Bool) → stamp ≤ clock → leb 1000 (clock - stamp) ≡ b → leb (stamp + 1000) clock ≡ b
@@ -17,10 +23,53 @@ by stamp clock false h e = lt-leb (stamp + 1000) clock (omega (arith, leb-false 
 pub second-old : (stamp clock : ℕ) → stamp ≤ clock → leb 1000 (clock - stamp) ≡ leb (stamp + 1000) clock
 second-old stamp clock h = sym (by stamp clock (leb 1000 (clock - stamp)) h refl)
 
--- of six notices those that are reported are the change's
-pub change-chosen : (active reported enhanced : Bool) (attribute : ℕ)
-    → chosen (not active ∷ reported ∷ (reported && enhanced) ∷ reported ∷ reported ∷ true ∷ []) (13 ∷ attribute ∷ 3 ∷ 6 ∷ 7 ∷ 14 ∷ []) ≡ changeNotices active reported (attribute ∷ only enhanced 3)
-unfolding chosen
-change-chosen active false enhanced attribute = refl
-change-chosen active true false attribute = refl
-change-chosen active true true attribute = refl
+-- a change's notices, one after the other in front of a list
+pub change-in-front : (active due enhanced : Bool) (attribute : ℕ) (l : Numeral) →
+    inFront (only (not active) 13)
+    (inFront (only due attribute) (inFront (only (due && enhanced) 3) (inFront (only due 6) (inFront (only due 7) (consed l 14)))))
+    ≡ inFront (changeNotices active due (attribute ∷ only enhanced 3)) l
+unfolding inFront
+change-in-front true true true attribute l = refl
+change-in-front true true false attribute l = refl
+change-in-front true false enhanced attribute l = refl
+change-in-front false true true attribute l = refl
+change-in-front false true false attribute l = refl
+change-in-front false false enhanced attribute l = refl
+
+attribute-bytes : (enhanced : Bool) (attribute : ℕ) → attribute < 256 → Bytes (attribute ∷ only enhanced EnhancedCurrentHue)
+attribute-bytes enhanced attribute h = more h (bytes-only enhanced EnhancedCurrentHue (omega arith))
+
+due-bytes : (d enhanced : Bool) (attribute : ℕ) → attribute < 256 →
+    Bytes (cond d ((attribute ∷ only enhanced EnhancedCurrentHue) ++ (ColorMode ∷ EnhancedColorMode ∷ [])) [])
+due-bytes true enhanced attribute h = bytes-append (attribute-bytes enhanced attribute h) (more (omega arith) (more (omega arith) none))
+due-bytes false enhanced attribute h = none
+
+notices-bytes : (t d active enhanced : Bool) (attribute : ℕ) → attribute < 256 →
+    Bytes (cond t [] (changeNotices active d (attribute ∷ only enhanced EnhancedCurrentHue)))
+notices-bytes true d active enhanced attribute h = none
+notices-bytes false d active enhanced attribute h =
+    bytes-append (bytes-only (not active) markedDirty (omega arith)) (bytes-append (due-bytes d enhanced attribute h) (more (omega arith) none))
+
+-- what a setter's change reports is what the setter reports
+same-quiet : (t d active enhanced : Bool) (attribute : ℕ) →
+    changeReported (changeOf t d attribute enhanced) active
+    ≡ cond t [] (changeNotices active d (attribute ∷ only enhanced EnhancedCurrentHue))
+same-quiet true d active enhanced attribute = refl
+same-quiet false d active enhanced attribute = refl
+
+module _ (c : Color) (new : ℕ) (end : Bool) (clock : ℕ) (active : Bool) where
+  pub hue-change-reported : (enhanced : Bool) → changeReported (hueChange c new end enhanced clock) active ≡ hueReported c new end enhanced clock active
+  unfolding hueReported
+  hue-change-reported enhanced = same-quiet (same (c .hue) new end) _ active enhanced CurrentHue
+
+  pub saturation-change-reported : changeReported (saturationChange c new end clock) active ≡ saturationReported c new end clock active
+  unfolding saturationReported
+  saturation-change-reported = same-quiet (same (c .saturation) new end) _ active false CurrentSaturation
+
+  pub mireds-change-reported : changeReported (miredsChange c new end clock) active ≡ miredsReported c new end clock active
+  unfolding miredsReported
+  mireds-change-reported = same-quiet (same (c .mireds) new end) _ active false ColorTemperatureMireds
+
+-- a change's notices are bytes
+pub change-bytes : (change : Change) (active : Bool) → change .attribute < 256 → Bytes (changeReported change active)
+change-bytes change active h = notices-bytes (change .same) (change .due) active (change .enhanced) (change .attribute) h

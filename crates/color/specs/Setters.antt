@@ -1,15 +1,14 @@
 -- The setters: document 01, leaf 5.
 use Prim.Native.Nat.{ℕ, _+_}
-use mathlib.Core.Bool.{Bool, not, cond, _&&_, _||_}
+use mathlib.Core.Bool.{Bool, true, false, not, cond, _&&_, _||_}
 use mathlib.Core.List.{List, [], _∷_, _++_}
 use lib.Dec.{eqb, leb}
 use Rattle.matter.specs.declared.enums.ColorModeEnum.{ColorModeEnum}
 use Rattle.matter.specs.declared.enums.EnhancedColorModeEnum.{EnhancedColorModeEnum}
-use Rattle.notices.specs.declared.Notices.{Notices}
-use Rattle.notices.specs.Notices.{only, pushedAll}
+use Rattle.notices.specs.Notices.{only}
 use Rattle.notices.specs.Names.{CurrentHue, EnhancedCurrentHue, CurrentSaturation, ColorTemperatureMireds, ColorMode, EnhancedColorMode, markedDirty, scenesNotified}
 use Rattle.color.specs.declared.Color.{Color}
-use Rattle.color.specs.declared.ColorSet.{ColorSet}
+use Rattle.color.specs.declared.Change.{Change}
 
 -- "notices of the attribute and of both modes come at an end, or one second or more after its last"
 abbrev pub due : Bool → ℕ → ℕ → Bool
@@ -37,6 +36,20 @@ keptHueMode EnhancedColorModeEnum.CurrentXAndCurrentY = EnhancedColorModeEnum.Cu
 keptHueMode EnhancedColorModeEnum.ColorTemperatureMireds = EnhancedColorModeEnum.CurrentHueAndCurrentSaturation
 keptHueMode EnhancedColorModeEnum.EnhancedCurrentHueAndCurrentSaturation = EnhancedColorModeEnum.EnhancedCurrentHueAndCurrentSaturation
 
+-- what a change reports, with the loop active or not: nothing where the number is the same
+abbrev pub changeReported : Change → Bool → List ℕ
+changeReported change active =
+    cond (change .same) []
+    (changeNotices active (change .due) (change .attribute ∷ only (change .enhanced) EnhancedCurrentHue))
+
+-- a setter's change, from whether the number is the same and whether the attribute is due
+abbrev pub changeOf : Bool → Bool → ℕ → Bool → Change
+changeOf same due attribute enhanced = record { same = same; due = cond same false due; attribute = attribute; enhanced = enhanced }
+
+-- where nothing is set
+abbrev pub noChange : Change
+noChange = record { same = true; due = false; attribute = 0; enhanced = false }
+
 -- `set_hue` at this clock: the colour after it
 unfoldable pub hueSet : Color → ℕ → Bool → Bool → ℕ → Color
 hueSet c new end enhanced clock =
@@ -54,6 +67,11 @@ hueSet c new end enhanced clock =
             mireds = c .stamps .mireds;
           };
     })
+
+-- the change
+abbrev pub hueChange : Color → ℕ → Bool → Bool → ℕ → Change
+hueChange c new end enhanced clock =
+    changeOf (same (c .hue) new end) (due end (c .stamps .hue) clock) CurrentHue enhanced
 
 -- and what it reports, with the loop active or not
 unfoldable pub hueReported : Color → ℕ → Bool → Bool → ℕ → Bool → List ℕ
@@ -79,6 +97,11 @@ saturationSet c new end clock =
           };
     })
 
+-- the change
+abbrev pub saturationChange : Color → ℕ → Bool → ℕ → Change
+saturationChange c new end clock =
+    changeOf (same (c .saturation) new end) (due end (c .stamps .saturation) clock) CurrentSaturation false
+
 -- and what it reports
 unfoldable pub saturationReported : Color → ℕ → Bool → ℕ → Bool → List ℕ
 saturationReported c new end clock active =
@@ -103,12 +126,13 @@ miredsSet c new end clock =
           };
     })
 
+-- the change
+abbrev pub miredsChange : Color → ℕ → Bool → ℕ → Change
+miredsChange c new end clock =
+    changeOf (same (c .mireds) new end) (due end (c .stamps .mireds) clock) ColorTemperatureMireds false
+
 -- and what it reports
 unfoldable pub miredsReported : Color → ℕ → Bool → ℕ → Bool → List ℕ
 miredsReported c new end clock active =
     cond (same (c .mireds) new end) []
     (changeNotices active (due end (c .stamps .mireds) clock) (ColorTemperatureMireds ∷ []))
-
--- a setter's answer: the colour, and its notices behind those so far
-abbrev pub answered : Color → Notices → List ℕ → ColorSet
-answered c list reported = record { color = c; notices = pushedAll list reported }

@@ -6,14 +6,12 @@ use matter::ColorModeEnum;
 use matter::EnhancedColorModeEnum;
 use matter::color_mode_of;
 use matter::default_color_mode;
-use notices::Notices;
+use notices::Numeral;
 use progress::clamped_sum;
 ghost use mathlib.Core.Path.{_≡_};
 ghost use mathlib.Core.Bool.{cond};
-ghost use mathlib.Core.List.{_∷_};
-ghost use Rattle.notices.specs.Notices.{only, pushedAll};
-ghost use Rattle.notices.specs.Names.{EnhancedCurrentHue};
-ghost use Rattle.color.specs.Setters.{due, changeNotices, hueMode, keptHueMode, hueSet, hueReported, saturationSet, saturationReported, miredsSet, miredsReported, answered};
+ghost use Rattle.notices.specs.Numerals.{inFront};
+ghost use Rattle.color.specs.Setters.{due, changeReported, hueMode, keptHueMode, hueSet, saturationSet, miredsSet, noChange, hueChange, saturationChange, miredsChange};
 ghost use Rattle.color.specs.Valid.{modesAgree, colorValid};
 ghost use Rattle.color.specs.Making.{newColor};
 
@@ -34,10 +32,19 @@ pub struct Color {
     pub stamps: Stamps,
 }
 
-// The colour after a setter, and the list with what the setter reports.
+// What a setter has to report: whether the number stays the same, which reports nothing; else whether the attribute is due; its
+// notice; and whether it is an enhanced hue.
+pub struct Change {
+    pub same: bool,
+    pub due: bool,
+    pub attribute: u8,
+    pub enhanced: bool,
+}
+
+// The colour after a setter, and the change.
 pub struct ColorSet {
     pub color: Color,
-    pub notices: Notices,
+    pub change: Change,
 }
 
 // Whether an attribute is reported: at an end, or one second or more after it last was. A stamp after the clock is never
@@ -54,42 +61,11 @@ fn is_due(is_end: bool, stamp: u64, clock: u64) -> bool
     1000 <= clock - stamp
 }
 
-// The stamp of an attribute that is reported, or not, at this clock.
+// The stamp of an attribute that is reported at this clock, or not.
 fn stamp_at(reported: bool, clock: u64, stamp: u64) -> u64
     ensures { λ r. ⌜ r ≡ cond reported clock stamp ⌝ }
 {
     if reported { clock } else { stamp }
-}
-
-// What a change reports: persistence first, unless the loop is active; where it is due the attribute, with an enhanced
-// hue that too, and both modes; scenes last.
-fn report_change(
-    list: Notices,
-    loop_active: bool,
-    reported: bool,
-    attribute: u8,
-    is_enhanced: bool,
-) -> Notices
-    ensures { λ r. ⌜ r ≡ pushedAll list (changeNotices «loop_active» reported (attribute ∷ only «is_enhanced» EnhancedCurrentHue)) ⌝ }
-{
-    list.push_each(
-        [
-            !loop_active,
-            reported,
-            reported & is_enhanced,
-            reported,
-            reported,
-            true,
-        ],
-        [
-            notices::MARKED_DIRTY,
-            attribute,
-            notices::ENHANCED_CURRENT_HUE,
-            notices::COLOR_MODE,
-            notices::ENHANCED_COLOR_MODE,
-            notices::SCENES_NOTIFIED,
-        ],
-    )
 }
 
 fn hue_mode(is_enhanced: bool) -> EnhancedColorModeEnum
@@ -128,6 +104,37 @@ fn modes_agree(mode: ColorModeEnum, emode: EnhancedColorModeEnum) -> bool
     mode.number() == color_mode_of(emode).number()
 }
 
+impl Change {
+    // Where nothing is set.
+    pub fn none() -> Self
+        ensures { λ r. ⌜ r ≡ noChange ⌝ }
+    {
+        Change {
+            same: true,
+            due: false,
+            attribute: 0,
+            enhanced: false,
+        }
+    }
+
+    // The change's notices in front of a list: persistence first, unless the loop is active; where it is due the attribute,
+    // with an enhanced hue that too, and both modes; scenes last.
+    pub fn cons(self, list: Numeral, loop_active: bool) -> Numeral
+        ensures { λ r. ⌜ r ≡ inFront (changeReported self «loop_active») list ⌝ }
+    {
+        if self.same {
+            return list;
+        }
+        let due = self.due;
+        list.cons(notices::SCENES_NOTIFIED)
+            .cons_if(due, notices::ENHANCED_COLOR_MODE)
+            .cons_if(due, notices::COLOR_MODE)
+            .cons_if(due & self.enhanced, notices::ENHANCED_CURRENT_HUE)
+            .cons_if(due, self.attribute)
+            .cons_if(!loop_active, notices::MARKED_DIRTY)
+    }
+}
+
 impl Color {
     // The colour of a fresh lamp with these features and bounds.
     pub fn new(feature_map: u32, bounds: Bounds) -> Self
@@ -149,34 +156,24 @@ impl Color {
     }
 
     // Sets the hue, and reports it as plain or enhanced.
-    pub fn set_hue(
-        self,
-        list: Notices,
-        new_eh: u16,
-        is_end: bool,
-        is_enhanced: bool,
-        clock: u64,
-        loop_active: bool,
-    ) -> ColorSet
-        ensures { λ r. ⌜ r ≡ answered (hueSet self «new_eh» «is_end» «is_enhanced» clock) list (hueReported self «new_eh» «is_end» «is_enhanced» clock «loop_active») ⌝ }
+    pub fn set_hue(self, new_eh: u16, is_end: bool, is_enhanced: bool, clock: u64) -> ColorSet
+        ensures { λ r. ⌜ r ≡ record { color = hueSet self «new_eh» «is_end» «is_enhanced» clock; change = hueChange self «new_eh» «is_end» «is_enhanced» clock } ⌝ }
     {
         if (self.hue == new_eh) & !is_end {
             return ColorSet {
                 color: self,
-                notices: list,
+                change: Change {
+                    same: true,
+                    due: false,
+                    attribute: notices::CURRENT_HUE,
+                    enhanced: is_enhanced,
+                },
             };
         }
         let stamps = self.stamps;
-        let reported = is_due(is_end, stamps.hue, clock);
-        let stamp = stamp_at(reported, clock, stamps.hue);
+        let due = is_due(is_end, stamps.hue, clock);
+        let stamp = stamp_at(due, clock, stamps.hue);
         let emode = hue_mode(is_enhanced);
-        let next = report_change(
-            list,
-            loop_active,
-            reported,
-            notices::CURRENT_HUE,
-            is_enhanced,
-        );
         ColorSet {
             color: Color {
                 hue: new_eh,
@@ -188,39 +185,35 @@ impl Color {
                 },
                 ..self
             },
-            notices: next,
+            change: Change {
+                same: false,
+                due: due,
+                attribute: notices::CURRENT_HUE,
+                enhanced: is_enhanced,
+            },
         }
     }
 
     // Sets the saturation.
-    pub fn set_saturation(
-        self,
-        list: Notices,
-        new_sat: u8,
-        is_end: bool,
-        clock: u64,
-        loop_active: bool,
-    ) -> ColorSet
-        ensures { λ r. ⌜ r ≡ answered (saturationSet self «new_sat» «is_end» clock) list (saturationReported self «new_sat» «is_end» clock «loop_active») ⌝ }
+    pub fn set_saturation(self, new_sat: u8, is_end: bool, clock: u64) -> ColorSet
+        ensures { λ r. ⌜ r ≡ record { color = saturationSet self «new_sat» «is_end» clock; change = saturationChange self «new_sat» «is_end» clock } ⌝ }
     {
         if (self.saturation == new_sat) & !is_end {
             return ColorSet {
                 color: self,
-                notices: list,
+                change: Change {
+                    same: true,
+                    due: false,
+                    attribute: notices::CURRENT_SATURATION,
+                    enhanced: false,
+                },
             };
         }
         let stamps = self.stamps;
-        let reported = is_due(is_end, stamps.saturation, clock);
-        let stamp = stamp_at(reported, clock, stamps.saturation);
+        let due = is_due(is_end, stamps.saturation, clock);
+        let stamp = stamp_at(due, clock, stamps.saturation);
         let old = self.emode;
         let emode = kept_hue_mode(old);
-        let next = report_change(
-            list,
-            loop_active,
-            reported,
-            notices::CURRENT_SATURATION,
-            false,
-        );
         ColorSet {
             color: Color {
                 saturation: new_sat,
@@ -232,37 +225,33 @@ impl Color {
                 },
                 ..self
             },
-            notices: next,
+            change: Change {
+                same: false,
+                due: due,
+                attribute: notices::CURRENT_SATURATION,
+                enhanced: false,
+            },
         }
     }
 
     // Sets the mireds.
-    pub fn set_color_temperature(
-        self,
-        list: Notices,
-        new_mireds: u16,
-        is_end: bool,
-        clock: u64,
-        loop_active: bool,
-    ) -> ColorSet
-        ensures { λ r. ⌜ r ≡ answered (miredsSet self «new_mireds» «is_end» clock) list (miredsReported self «new_mireds» «is_end» clock «loop_active») ⌝ }
+    pub fn set_color_temperature(self, new_mireds: u16, is_end: bool, clock: u64) -> ColorSet
+        ensures { λ r. ⌜ r ≡ record { color = miredsSet self «new_mireds» «is_end» clock; change = miredsChange self «new_mireds» «is_end» clock } ⌝ }
     {
         if (self.mireds == new_mireds) & !is_end {
             return ColorSet {
                 color: self,
-                notices: list,
+                change: Change {
+                    same: true,
+                    due: false,
+                    attribute: notices::COLOR_TEMPERATURE_MIREDS,
+                    enhanced: false,
+                },
             };
         }
         let stamps = self.stamps;
-        let reported = is_due(is_end, stamps.mireds, clock);
-        let stamp = stamp_at(reported, clock, stamps.mireds);
-        let next = report_change(
-            list,
-            loop_active,
-            reported,
-            notices::COLOR_TEMPERATURE_MIREDS,
-            false,
-        );
+        let due = is_due(is_end, stamps.mireds, clock);
+        let stamp = stamp_at(due, clock, stamps.mireds);
         ColorSet {
             color: Color {
                 mireds: new_mireds,
@@ -274,7 +263,12 @@ impl Color {
                 },
                 ..self
             },
-            notices: next,
+            change: Change {
+                same: false,
+                due: due,
+                attribute: notices::COLOR_TEMPERATURE_MIREDS,
+                enhanced: false,
+            },
         }
     }
 

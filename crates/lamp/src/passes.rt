@@ -1,7 +1,7 @@
-// One pass of each transition, on a lamp that is at the call's clock: document 01, leaf 6. A pass is given the list of
-// what was reported so far.
+// One pass of each transition: document 01, leaf 6. A pass is given what it needs of the lamp and says what it changes; its
+// notices are put together once, from the last to the first.
 // Carried over from project-chip/rs-matter, commit 43f61585a4 (Apache-2.0, see NOTICE), and changed.
-use crate::Lamp;
+use color::Change;
 use color::Color;
 use color::ColorSet;
 use hue::moved_hue;
@@ -9,7 +9,7 @@ use matter::Bounds;
 use matter::MoveModeEnum;
 use notices::DEVICE_HUE_SATURATION;
 use notices::DEVICE_MIREDS;
-use notices::Notices;
+use notices::Numeral;
 use notices::REMAINING_TIME;
 use progress::TICK;
 use progress::clamped_sum;
@@ -21,6 +21,7 @@ use progress::part;
 use progress::time_left;
 use progress::wait_for_end;
 use progress::wait_for_turn;
+use remaining_time::RemainingTime;
 use tasks::ColorLoopRun;
 use tasks::ColorTemperatureRun;
 use tasks::ColorTemperatureToRun;
@@ -32,19 +33,49 @@ use tasks::SaturationRun;
 use tasks::TargetSaturation;
 ghost use mathlib.Core.Path.{_≡_};
 ghost use mathlib.Core.Bool.{true, cond};
-ghost use Prim.Native.Nat.{_-_};
+ghost use Prim.Native.Nat.{_-_, _≤_};
 ghost use lib.IntN.{pos, _-ℤ_};
-ghost use Rattle.color.specs.Setters.{answered};
+ghost use lib.ListN.{length};
+ghost use Rattle.notices.specs.Numerals.{empty, inFront};
+ghost use Rattle.notices.proofs.Numerals.{Bytes};
 ghost use Rattle.tasks.specs.Valid.{deltaValid, moveToValid, hueMoveValid, saturationMoveValid, rateValid};
-ghost use Rattle.matter.specs.Rules.{signed};
-ghost use Rattle.lamp.specs.Passes.{atEnd, hueMoved, hueMovedReported, saturationNow, saturationMoved, saturationMovedReported, miredsNow, saturationDone, miredsDone, unless, waiting, hueSaturationPass, temperatureToPass, huePass, saturationPass, temperaturePass, loopPass};
-ghost use Rattle.lamp.specs.Passed.{passedOf};
+ghost use Rattle.lamp.specs.Passes.{hueMoved, saturationNow, saturationMoved, miredsNow, saturationDone, miredsDone, unless, waiting};
+ghost use Rattle.lamp.specs.Passed.{hueMovedChange, saturationMovedChange, hueSaturationMoved, temperatureToMoved, timed, huePassed, saturationPassed, temperaturePassed, loopPassed, passed, nothingPassed, leftBy, passReported};
 
-// What a pass leaves: the lamp, the list with what it reports, and the wait.
+// What a pass is given of the lamp.
+pub struct Found {
+    pub clock: u64,
+    pub bounds: Bounds,
+    pub remaining: RemainingTime,
+    pub color: Color,
+}
+
+// What a move-to moves: the colour, its changes in their order, and the notice of the device that is written.
+pub struct Moved {
+    pub color: Color,
+    pub first: Change,
+    pub second: Change,
+    pub device: u8,
+}
+
+// What a pass leaves: what moves, whether the remaining time is reported, the wait, the remaining time, and whether the
+// transition ends.
 pub struct Passed {
-    pub lamp: Lamp,
-    pub notices: Notices,
+    pub color: Color,
+    pub first: Change,
+    pub second: Change,
+    pub device: u8,
+    pub time: bool,
     pub wait: u64,
+    pub remaining: RemainingTime,
+    pub ends: bool,
+}
+
+// A start or a step: whether the full time is reported first, the pass, and the record that stays.
+pub struct Left {
+    pub full: bool,
+    pub passed: Passed,
+    pub running: Running,
 }
 
 // The way from one number to another, with its sign.
@@ -74,28 +105,37 @@ fn left_unless(is_end: bool, passed: u64, ms: u32) -> u64
     if is_end { 0 } else { time_left(passed, ms) }
 }
 
+pub(crate) fn left_by(full: bool, passed: Passed, running: Running) -> Left
+    ensures { λ r. ⌜ r ≡ leftBy full passed running ⌝ }
+{
+    let stays = running_unless(passed.ends, running);
+    Left {
+        full: full,
+        passed: passed,
+        running: stays,
+    }
+}
+
 // The hue's part of a move-to, where it moves the hue.
 fn move_hue(
     color: Color,
-    list: Notices,
     delta: HueDelta,
     start: u16,
     permille: u16,
     is_enhanced: bool,
     clock: u64,
-    loop_active: bool,
 ) -> ColorSet
     requires { ⌜ deltaValid delta ≡ true ⌝ }
-    ensures { λ r. ⌜ r ≡ answered (hueMoved color delta start permille «is_enhanced» clock) list (hueMovedReported color delta start permille «is_enhanced» clock «loop_active») ⌝ }
+    ensures { λ r. ⌜ r ≡ record { color = hueMoved color delta start permille «is_enhanced» clock; change = hueMovedChange color delta start permille «is_enhanced» clock } ⌝ }
 {
     match delta {
         HueDelta::Keep => ColorSet {
             color: color,
-            notices: list,
+            change: Change::none(),
         },
         HueDelta::By(way) => {
             let now = moved_hue(start, part(way, permille));
-            color.set_hue(list, now, 1000 <= permille, is_enhanced, clock, loop_active)
+            color.set_hue(now, 1000 <= permille, is_enhanced, clock)
         }
     }
 }
@@ -115,23 +155,21 @@ fn saturation_now(start: u8, target: u8, permille: u16) -> u8
 // The saturation's part of a move-to, where it moves the saturation.
 fn move_saturation(
     color: Color,
-    list: Notices,
     target: TargetSaturation,
     start: u8,
     permille: u16,
     clock: u64,
-    loop_active: bool,
 ) -> ColorSet
-    ensures { λ r. ⌜ r ≡ answered (saturationMoved color target start permille clock) list (saturationMovedReported color target start permille clock «loop_active») ⌝ }
+    ensures { λ r. ⌜ r ≡ record { color = saturationMoved color target start permille clock; change = saturationMovedChange color target start permille clock } ⌝ }
 {
     match target {
         TargetSaturation::Keep => ColorSet {
             color: color,
-            notices: list,
+            change: Change::none(),
         },
         TargetSaturation::To(saturation) => {
             let now = saturation_now(start, saturation, permille);
-            color.set_saturation(list, now, 1000 <= permille, clock, loop_active)
+            color.set_saturation(now, 1000 <= permille, clock)
         }
     }
 }
@@ -166,130 +204,128 @@ fn mireds_done(rate: i64, lo: u16, hi: u16, now: u16) -> bool
     ((0 < rate) & (now == hi)) | ((rate < 0) & (now == lo))
 }
 
-impl Lamp {
+impl Passed {
+    // What the pass reports, in the order in which it comes.
+    pub(crate) fn reported(self, loop_active: bool) -> Numeral
+        ensures { λ r. ⌜ (r ≡ inFront (passReported self «loop_active») empty) × (length (passReported self «loop_active») ≤ 15) × Bytes (passReported self «loop_active») ⌝ }
+    {
+        let first = self.first;
+        let second = self.second;
+        let list = Numeral::new()
+            .cons_if(self.time, REMAINING_TIME)
+            .cons_if(0 < self.device, self.device);
+        first.cons(second.cons(list, loop_active), loop_active)
+    }
+}
+
+impl Found {
     pub(crate) fn move_to_hue_saturation_transition(
         self,
-        list: Notices,
         run: HueSaturationRun,
         permille: u16,
-    ) -> Passed
+    ) -> Moved
         requires { ⌜ moveToValid (run .task) ≡ true ⌝ }
-        ensures { λ r. ⌜ r ≡ passedOf list (hueSaturationPass self run permille) ⌝ }
+        ensures { λ r. ⌜ r ≡ hueSaturationMoved self run permille ⌝ }
     {
         let task = run.task;
         let delta = task.delta;
         let target = task.saturation;
         let old = self.color;
-        let active = self.looping.active;
-        let hued = move_hue(
-            old,
-            list,
-            delta,
-            run.hue,
-            permille,
-            task.enhanced,
-            self.clock,
-            active,
-        );
-        let color = hued.color;
-        let reported = hued.notices;
-        let set = move_saturation(
-            color,
-            reported,
-            target,
-            run.saturation,
-            permille,
-            self.clock,
-            active,
-        );
-        let is_end = 1000 <= permille;
-        let passed = elapsed(run.start, self.clock);
-        let remaining = self.remaining;
-        let w = remaining.write_remaining_time_quietly(left_unless(is_end, passed, task.ms), false);
-        let next = set.color;
-        let reports = set.notices;
-        let left = w.remaining;
-        Passed {
-            lamp: Lamp {
-                color: next,
-                remaining: left,
-                running: running_unless(is_end, Running::HueSaturationMoveTo(run)),
-                ..self
-            },
-            notices: reports
-                .push(DEVICE_HUE_SATURATION)
-                .push_if(w.reported, REMAINING_TIME),
-            wait: wait_unless(is_end, wait_for_end(passed, task.ms)),
+        let hued = move_hue(old, delta, run.hue, permille, task.enhanced, self.clock);
+        let between = hued.color;
+        let set = move_saturation(between, target, run.saturation, permille, self.clock);
+        let color = set.color;
+        let first = hued.change;
+        let second = set.change;
+        Moved {
+            color: color,
+            first: first,
+            second: second,
+            device: DEVICE_HUE_SATURATION,
         }
     }
 
     pub(crate) fn move_to_color_temperature_transition(
         self,
-        list: Notices,
         run: ColorTemperatureToRun,
         permille: u16,
-    ) -> Passed
-        ensures { λ r. ⌜ r ≡ passedOf list (temperatureToPass self run permille) ⌝ }
+    ) -> Moved
+        ensures { λ r. ⌜ r ≡ temperatureToMoved self run permille ⌝ }
     {
         let task = run.task;
         let bounds = self.bounds;
         let now = mireds_now(bounds, run.mireds, task.target, permille);
-        let is_end = 1000 <= permille;
         let old = self.color;
-        let set = old.set_color_temperature(list, now, is_end, self.clock, self.looping.active);
-        let passed = elapsed(run.start, self.clock);
-        let remaining = self.remaining;
-        let w = remaining.write_remaining_time_quietly(left_unless(is_end, passed, task.ms), false);
-        let next = set.color;
-        let reports = set.notices;
-        let left = w.remaining;
-        Passed {
-            lamp: Lamp {
-                color: next,
-                remaining: left,
-                running: running_unless(is_end, Running::ColorTemperatureMoveTo(run)),
-                ..self
-            },
-            notices: reports
-                .push(DEVICE_MIREDS)
-                .push_if(w.reported, REMAINING_TIME),
-            wait: wait_unless(is_end, wait_for_end(passed, task.ms)),
+        let set = old.set_color_temperature(now, 1000 <= permille, self.clock);
+        let color = set.color;
+        let first = set.change;
+        Moved {
+            color: color,
+            first: first,
+            second: Change::none(),
+            device: DEVICE_MIREDS,
         }
     }
 
-    pub(crate) fn hue_move_transition(self, list: Notices, run: HueRun) -> Passed
+    // A move-to's pass: after what moves, the remaining time.
+    pub(crate) fn timed(self, moved: Moved, start: u64, ms: u32, permille: u16) -> Passed
+        ensures { λ r. ⌜ r ≡ timed self moved start ms permille ⌝ }
+    {
+        let ends = 1000 <= permille;
+        let passed = elapsed(start, self.clock);
+        let remaining = self.remaining;
+        let w = remaining.write_remaining_time_quietly(left_unless(ends, passed, ms), false);
+        let left = w.remaining;
+        let color = moved.color;
+        let first = moved.first;
+        let second = moved.second;
+        Passed {
+            color: color,
+            first: first,
+            second: second,
+            device: moved.device,
+            time: w.reported,
+            wait: wait_unless(ends, wait_for_end(passed, ms)),
+            remaining: left,
+            ends: ends,
+        }
+    }
+
+    // A pass that moves one attribute and leaves the remaining time.
+    fn passed(self, set: ColorSet, device: u8, wait: u64, ends: bool) -> Passed
+        ensures { λ r. ⌜ r ≡ passed self (set .color) (set .change) device wait ends ⌝ }
+    {
+        let color = set.color;
+        let first = set.change;
+        let remaining = self.remaining;
+        Passed {
+            color: color,
+            first: first,
+            second: Change::none(),
+            device: device,
+            time: false,
+            wait: wait_unless(ends, wait),
+            remaining: remaining,
+            ends: ends,
+        }
+    }
+
+    pub(crate) fn hue_move_transition(self, run: HueRun) -> Passed
         requires { ⌜ hueMoveValid (run .task) ≡ true ⌝ }
-        ensures { λ r. ⌜ r ≡ passedOf list (huePass self run) ⌝ }
+        ensures { λ r. ⌜ r ≡ huePassed self run ⌝ }
     {
         let task = run.task;
         let direction = task.direction;
         let rate = direction.signed(task.rate);
         let now = moved_hue(run.hue, delta_at_rate(rate, elapsed(run.start, self.clock)));
         let old = self.color;
-        let set = old.set_hue(
-            list,
-            now,
-            false,
-            task.enhanced,
-            self.clock,
-            self.looping.active,
-        );
-        let next = set.color;
-        let reports = set.notices;
-        Passed {
-            lamp: Lamp {
-                color: next,
-                running: Running::HueMove(run),
-                ..self
-            },
-            notices: reports.push(DEVICE_HUE_SATURATION),
-            wait: TICK,
-        }
+        let set = old.set_hue(now, false, task.enhanced, self.clock);
+        self.passed(set, DEVICE_HUE_SATURATION, TICK, false)
     }
 
-    pub(crate) fn saturation_move_transition(self, list: Notices, run: SaturationRun) -> Passed
+    pub(crate) fn saturation_move_transition(self, run: SaturationRun) -> Passed
         requires { ⌜ saturationMoveValid (run .task) ≡ true ⌝ }
-        ensures { λ r. ⌜ r ≡ passedOf list (saturationPass self run) ⌝ }
+        ensures { λ r. ⌜ r ≡ saturationPassed self run ⌝ }
     {
         let task = run.task;
         let direction = task.direction;
@@ -298,67 +334,46 @@ impl Lamp {
             run.saturation,
             delta_at_rate(rate, elapsed(run.start, self.clock)),
         );
-        let is_end = saturation_done(direction, now);
+        let ends = saturation_done(direction, now);
         let old = self.color;
-        let set = old.set_saturation(list, now, is_end, self.clock, self.looping.active);
-        let next = set.color;
-        let reports = set.notices;
-        Passed {
-            lamp: Lamp {
-                color: next,
-                running: running_unless(is_end, Running::SaturationMove(run)),
-                ..self
-            },
-            notices: reports.push(DEVICE_HUE_SATURATION),
-            wait: wait_unless(is_end, TICK),
-        }
+        let set = old.set_saturation(now, ends, self.clock);
+        self.passed(set, DEVICE_HUE_SATURATION, TICK, ends)
     }
 
-    pub(crate) fn color_temperature_move_transition(
-        self,
-        list: Notices,
-        run: ColorTemperatureRun,
-    ) -> Passed
+    pub(crate) fn color_temperature_move_transition(self, run: ColorTemperatureRun) -> Passed
         requires { ⌜ rateValid (run .rate) ≡ true ⌝ }
-        ensures { λ r. ⌜ r ≡ passedOf list (temperaturePass self run) ⌝ }
+        ensures { λ r. ⌜ r ≡ temperaturePassed self run ⌝ }
     {
         let way = delta_at_rate(run.rate, elapsed(run.start, self.clock));
         let now = clamped_sum(run.lo, run.hi, run.mireds, way);
-        let is_end = mireds_done(run.rate, run.lo, run.hi, now);
+        let ends = mireds_done(run.rate, run.lo, run.hi, now);
         let old = self.color;
-        let set = old.set_color_temperature(list, now, is_end, self.clock, self.looping.active);
-        let next = set.color;
-        let reports = set.notices;
-        Passed {
-            lamp: Lamp {
-                color: next,
-                running: running_unless(is_end, Running::ColorTemperatureMove(run)),
-                ..self
-            },
-            notices: reports.push(DEVICE_MIREDS),
-            wait: wait_unless(is_end, TICK),
-        }
+        let set = old.set_color_temperature(now, ends, self.clock);
+        self.passed(set, DEVICE_MIREDS, TICK, ends)
     }
 
-    pub(crate) fn color_loop_transition(self, list: Notices, run: ColorLoopRun) -> Passed
-        ensures { λ r. ⌜ r ≡ passedOf list (loopPass self run) ⌝ }
+    pub(crate) fn color_loop_transition(self, run: ColorLoopRun) -> Passed
+        ensures { λ r. ⌜ r ≡ loopPassed self run ⌝ }
     {
         let task = run.task;
         let direction = task.direction;
         let passed = elapsed(run.start, self.clock);
         let now = moved_hue(run.hue, loop_delta(direction, passed, task.seconds));
         let old = self.color;
-        let set = old.set_hue(list, now, false, true, self.clock, self.looping.active);
-        let next = set.color;
-        let reports = set.notices;
-        Passed {
-            lamp: Lamp {
-                color: next,
-                running: Running::ColorLoop(run),
-                ..self
-            },
-            notices: reports.push(DEVICE_HUE_SATURATION),
-            wait: wait_for_turn(passed, task.seconds),
-        }
+        let set = old.set_hue(now, false, true, self.clock);
+        let wait = wait_for_turn(passed, task.seconds);
+        self.passed(set, DEVICE_HUE_SATURATION, wait, false)
+    }
+
+    // Where nothing runs, nothing changes, and no device is written.
+    pub(crate) fn no_transition(self) -> Passed
+        ensures { λ r. ⌜ r ≡ nothingPassed self ⌝ }
+    {
+        let color = self.color;
+        let set = ColorSet {
+            color: color,
+            change: Change::none(),
+        };
+        self.passed(set, 0, 0, true)
     }
 }

@@ -1,2 +1,3 @@
 pub mod Names
 pub mod Notices
+pub mod Numerals

@@ -10,12 +10,6 @@ use Rattle.notices.specs.declared.Notices.{Notices}
 abbrev pub only : Bool → ℕ → List ℕ
 only test number = cond test (number ∷ []) []
 
--- of these notices, those whose tests hold
-unfoldable pub chosen : List Bool → List ℕ → List ℕ
-chosen [] numbers = []
-chosen (test ∷ tests) [] = []
-chosen (test ∷ tests) (number ∷ numbers) = only test number ++ chosen tests numbers
-
 -- a list in its sixteen places: its numbers, then zeros
 unfoldable pub filled : List ℕ → List ℕ
 filled xs = xs ++ replicate (16 - length xs) 0

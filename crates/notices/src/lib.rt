@@ -1,7 +1,9 @@
 // What a call reports, in the order in which it comes: a list of notice numbers in sixteen places, unused places 0.
+use std::num::wrapping_add_usize;
 ghost use mathlib.Core.Path.{_≡_};
 ghost use mathlib.Core.List.{[]};
-ghost use Rattle.notices.specs.Notices.{pushed, pushedAll, only, chosen, noted};
+ghost use Rattle.notices.specs.Notices.{pushed, only, noted};
+ghost use Rattle.notices.specs.Numerals.{empty, consed, inFront, placed};
 
 // The numbers of the notices, as document 01 lists them.
 pub const REMAINING_TIME: u8 = 1;
@@ -67,33 +69,76 @@ impl Notices {
             self
         }
     }
+}
 
-    // One notice more where the test holds.
-    pub fn push_if(self, test: bool, number: u8) -> Self
-        ensures { λ r. ⌜ r ≡ pushedAll self (only test number) ⌝ }
+// A digit's weight in a word, and that of a word's last digit.
+const DIGIT: u64 = 256;
+
+const LAST: u64 = 72057594037927936;
+
+// A list while it is built, from its last notice to its first: a numeral of sixteen digits of a byte, the first notice the
+// lowest, in two words.
+pub struct Numeral {
+    pub low: u64,
+    pub high: u64,
+    pub len: usize,
+}
+
+impl Numeral {
+    pub fn new() -> Self
+        ensures { λ r. ⌜ r ≡ empty ⌝ }
     {
-        if test { self.push(number) } else { self }
+        Numeral {
+            low: 0,
+            high: 0,
+            len: 0,
+        }
     }
 
-    // Of six notices those whose tests hold, one after the other.
-    pub fn push_each(self, tests: [bool; 6], numbers: [u8; 6]) -> Self
-        ensures { λ r. ⌜ r ≡ pushedAll self (chosen tests numbers) ⌝ }
+    // A notice in front of the list.
+    pub fn cons(self, number: u8) -> Self
+        ensures { λ r. ⌜ r ≡ consed self number ⌝ }
     {
-        let mut places = self.places;
-        let mut len = self.len;
-        let mut i = 0;
-        while i < 6 {
-            if tests[i] {
-                if len < 16 {
-                    places[len] = numbers[i];
-                    len += 1;
-                }
-            }
-            i += 1;
+        Numeral {
+            low: self.low % LAST * DIGIT + (number as u64),
+            high: self.high % LAST * DIGIT + self.low / LAST,
+            len: wrapping_add_usize(self.len, 1),
         }
+    }
+
+    // A notice in front where the test holds.
+    pub fn cons_if(self, test: bool, number: u8) -> Self
+        ensures { λ r. ⌜ r ≡ inFront (only test number) self ⌝ }
+    {
+        if test { self.cons(number) } else { self }
+    }
+
+    // The list in its places.
+    pub fn notices(self) -> Notices
+        ensures { λ r. ⌜ r ≡ placed self ⌝ }
+    {
+        let low = self.low;
+        let high = self.high;
         Notices {
-            places: places,
-            len: len,
+            places: [
+                (low % 256) as u8,
+                (low / 256 % 256) as u8,
+                (low / 65536 % 256) as u8,
+                (low / 16777216 % 256) as u8,
+                (low / 4294967296 % 256) as u8,
+                (low / 1099511627776 % 256) as u8,
+                (low / 281474976710656 % 256) as u8,
+                (low / 72057594037927936 % 256) as u8,
+                (high % 256) as u8,
+                (high / 256 % 256) as u8,
+                (high / 65536 % 256) as u8,
+                (high / 16777216 % 256) as u8,
+                (high / 4294967296 % 256) as u8,
+                (high / 1099511627776 % 256) as u8,
+                (high / 281474976710656 % 256) as u8,
+                (high / 72057594037927936 % 256) as u8,
+            ],
+            len: self.len,
         }
     }
 }

@@ -20,32 +20,32 @@ pub enum TargetSaturation {
     To(u8),
 }
 
-// To a hue, a saturation or both: the way of the hue, the target, the time in milliseconds, and whether the hue is reported
+// To a hue, a saturation or both: the way of the hue, the time in milliseconds, the target, and whether the hue is reported
 // as an enhanced one.
 pub struct HueSaturationMoveTo {
     pub delta: HueDelta,
-    pub saturation: TargetSaturation,
     pub ms: u32,
+    pub saturation: TargetSaturation,
     pub enhanced: bool,
 }
 
 // The hue at a rate, in enhanced units a second.
 pub struct HueMove {
-    pub direction: MoveModeEnum,
     pub rate: u32,
+    pub direction: MoveModeEnum,
     pub enhanced: bool,
 }
 
 // The saturation at a rate, in units a second.
 pub struct SaturationMove {
-    pub direction: MoveModeEnum,
     pub rate: u32,
+    pub direction: MoveModeEnum,
 }
 
 // To a target in mireds, in a time in milliseconds.
 pub struct ColorTemperatureMoveTo {
-    pub target: u16,
     pub ms: u32,
+    pub target: u16,
 }
 
 // The mireds at a signed rate a second, between the caller's limits.
@@ -101,9 +101,9 @@ pub struct ColorTemperatureToRun {
 pub struct ColorTemperatureRun {
     pub start: u64,
     pub mireds: u16,
-    pub rate: i64,
     pub lo: u16,
     pub hi: u16,
+    pub rate: i64,
 }
 
 pub struct ColorLoopRun {
@@ -112,6 +112,8 @@ pub struct ColorLoopRun {
     pub task: ColorLoop,
 }
 
+// The loop's four numbers stand in the variant itself: they fill the bytes between the tag and a record's clock, so that no
+// copy of a lamp carries a gap (docs/SPEED.md).
 pub enum Running {
     Idle,
     HueSaturationMoveTo(HueSaturationRun),
@@ -119,7 +121,12 @@ pub enum Running {
     SaturationMove(SaturationRun),
     ColorTemperatureMoveTo(ColorTemperatureToRun),
     ColorTemperatureMove(ColorTemperatureRun),
-    ColorLoop(ColorLoopRun),
+    ColorLoop {
+        direction: ColorLoopDirectionEnum,
+        hue: u16,
+        seconds: u16,
+        start: u64,
+    },
 }
 
 // Whole tenths of a second, of which there are at most 65,535.
@@ -252,7 +259,7 @@ impl Running {
             Running::SaturationMove(_) => true,
             Running::ColorTemperatureMoveTo(_) => true,
             Running::ColorTemperatureMove(_) => true,
-            Running::ColorLoop(_) => true,
+            Running::ColorLoop { .. } => true,
         }
     }
 
@@ -290,7 +297,7 @@ impl Running {
                     & within_bounds(bounds, run.hi)
                     & (run.start <= clock)
             }
-            Running::ColorLoop(run) => run.start <= clock,
+            Running::ColorLoop { start, .. } => start <= clock,
         }
     }
 }

@@ -1,11 +1,9 @@
--- `Lamp::start`: the cause picks the definition's case. A start reports at most fourteen notices, so that the list holds them all.
+-- The cause picks the definition's case; what the start leaves is its effect, and the list holds all that it reports.
 use native.Mathlib.Omega.{arith}
-use mathlib.Core.List.{[]}
 use borrow.Author.Tests.{eq-eqb, ne-eqb, not-true, not-false}
-use Rattle.notices.proofs.Laws.{pushed-all-noted}
-use Rattle.lamp.specs.Answers.{atClock}
-use Rattle.lamp.specs.Calls.{started, startAnswer}
-use Rattle.lamp.proofs.Kept.{started-few}
+use Rattle.lamp.specs.Calls.{startAnswer}
+use Rattle.lamp.specs.Passed.{passReported}
+use Rattle.lamp.proofs.Passed.{left-placed}
 use borrow.Author.Needs.{needs}
 use Rattle.lamp.proofs.Lamp.start.Statement.{statement}
 use Rattle.lamp.proofs.Lamp.start.Tie as tie
@@ -34,11 +32,11 @@ returns-2 c =
     let k3 = k2 .before .before in
     rw (c .refused2 .ensures, ← k3 .first-cause .ensures, eq-eqb (k3 .first-cause .result) 0 (omega arith), ← k2 .is-valid .ensures, not-true (k2 .is-valid .result) (k1 .if2 .taken))
 
-at-clock-requires : tie.Need-at-clock-requires
-at-clock-requires c κs = search needs
-
 begin-requires : tie.Need-begin-requires
-begin-requires c κs = rw (← c .before .before .is-valid .ensures) (not-false _ (c .before .if2 .left))
+begin-requires c κs = rw (← c .before .is-valid .ensures) (not-false _ (c .if2 .left))
+
+reported-requires : tie.Need-reported-requires
+reported-requires c κs = search needs
 
 accepted-requires : tie.Need-accepted-requires
 accepted-requires c κs = search needs
@@ -47,13 +45,13 @@ returns-3 : tie.Need-returns-3
 unfolding startAnswer
 returns-3 c =
     let k1 = c .before in
-    let k2 = k1 .before in
+    let k2 = k1 .before .before in
     let k3 = k2 .before in
     let k4 = k3 .before in
     let k5 = k4 .before .before in
-    let k6 = k5 .before in
-    let few = started-few (atClock (k6 .args .self) (k6 .args .clock)) (k6 .args .task) in
-    rw (c .accepted .ensures, k1 .begin .ensures, k2 .at-clock .ensures, ← k5 .first-cause .ensures, eq-eqb (k5 .first-cause .result) 0 (omega arith), ← k4 .is-valid .ensures, not-false (k4 .is-valid .result) (k3 .if2 .left), pushed-all-noted [] (started (atClock (k6 .args .self) (k6 .args .clock)) (k6 .args .task) .reported) (omega arith))
+    let left = k2 .begin .result in
+    let active = k5 .before .args .self .looping .active in
+    rw (c .accepted .ensures, k1 .reported .ensures .0, ← k5 .first-cause .ensures, eq-eqb (k5 .first-cause .result) 0 (omega arith), ← k4 .is-valid .ensures, not-false (k4 .is-valid .result) (k3 .if2 .left), ← k2 .begin .ensures, left-placed (left .full) (passReported (left .passed) active) (k1 .reported .ensures .1) (k1 .reported .ensures .2))
 
 pub start-spec : {M : Type 1} → statement M
 start-spec =
@@ -65,7 +63,7 @@ start-spec =
     is-valid-requires
     refused-requires-2
     returns-2
-    at-clock-requires
     begin-requires
+    reported-requires
     accepted-requires
     returns-3)

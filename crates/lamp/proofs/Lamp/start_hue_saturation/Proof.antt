@@ -1,6 +1,7 @@
--- `Lamp::start_hue_saturation`: each call's contract is its part of the definition; what is reported before the pass stands before it.
-use Rattle.notices.proofs.Laws.{pushed-append}
-use Rattle.lamp.specs.Calls.{hueSaturationStart}
+-- Each call's contract is its part of the definition.
+use Rattle.lamp.specs.Answers.{atClock}
+use Rattle.lamp.specs.Calls.{fullWritten, hueSaturationStart}
+use Rattle.lamp.proofs.Passed.{hue-saturation-begun}
 use borrow.Author.Needs.{needs}
 use Rattle.lamp.proofs.Lamp.start_hue_saturation.Statement.{statement}
 use Rattle.lamp.proofs.Lamp.start_hue_saturation.Tie as tie
@@ -11,12 +12,6 @@ cast-write-remaining-time-quietly c = search needs
 write-remaining-time-quietly-requires : tie.Need-write-remaining-time-quietly-requires
 write-remaining-time-quietly-requires c κs = search needs
 
-new-requires : tie.Need-new-requires
-new-requires c κs = search needs
-
-push-if-requires : tie.Need-push-if-requires
-push-if-requires c κs = search needs
-
 no-hue-delta-requires : tie.Need-no-hue-delta-requires
 no-hue-delta-requires c κs = search needs
 
@@ -26,19 +21,31 @@ no-saturation-delta-requires c κs = search needs
 start-permille-requires : tie.Need-start-permille-requires
 start-permille-requires c κs = search needs
 
+found-requires : tie.Need-found-requires
+found-requires c κs = search needs
+
 move-to-hue-saturation-transition-requires : tie.Need-move-to-hue-saturation-transition-requires
 move-to-hue-saturation-transition-requires c κs = search needs
+
+timed-requires : tie.Need-timed-requires
+timed-requires c κs = search needs
+
+left-by-requires : tie.Need-left-by-requires
+left-by-requires c κs = search needs
 
 returns : tie.Need-returns
 unfolding hueSaturationStart
 returns c =
     let k1 = c .before in
-    let k2 = k1 .before .before .before .before in
+    let k2 = k1 .before in
     let k3 = k2 .before in
-    let k4 = k3 .before .before in
+    let k4 = k3 .before in
     let k5 = k4 .before in
     let k6 = k5 .before in
-    rw (c .move-to-hue-saturation-transition .ensures, k1 .start-permille .ensures, k2 .no-saturation-delta .ensures, k3 .no-hue-delta .ensures, k4 .push-if .ensures, k5 .new .ensures, k6 .write-remaining-time-quietly .ensures, pushed-append)
+    let k7 = k6 .before .before in
+    let args = k7 .before .before .before .args in
+    rw (c .left-by .ensures, k1 .timed .ensures, k2 .move-to-hue-saturation-transition .ensures, k3 .found .ensures, k4 .start-permille .ensures, k5 .no-saturation-delta .ensures, k6 .no-hue-delta .ensures, k7 .write-remaining-time-quietly .ensures)
+    (hue-saturation-begun (atClock (args .self) (args .clock)) (fullWritten (args .self) (args .task .ms)) _ _)
 
 pub start-hue-saturation-spec : {M : Type 1} → statement M
 start-hue-saturation-spec =
@@ -46,10 +53,11 @@ start-hue-saturation-spec =
     (tie.spec
     cast-write-remaining-time-quietly
     write-remaining-time-quietly-requires
-    new-requires
-    push-if-requires
     no-hue-delta-requires
     no-saturation-delta-requires
     start-permille-requires
+    found-requires
     move-to-hue-saturation-transition-requires
+    timed-requires
+    left-by-requires
     returns)

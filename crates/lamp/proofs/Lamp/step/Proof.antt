@@ -1,13 +1,12 @@
--- `Lamp::step`: the cause picks the definition's case. What runs stays valid as the clock goes on, and a step reports at most fourteen
--- notices, so that the list holds them all.
+-- The cause picks the definition's case. What runs stays valid as the clock goes on; what the step leaves is its effect, and the
+-- list holds all that it reports.
 use native.Mathlib.Omega.{arith}
-use mathlib.Core.List.{[]}
 use borrow.Author.Tests.{ltb-false, not-true, not-false}
-use Rattle.notices.proofs.Laws.{pushed-all-noted}
-use Rattle.lamp.specs.Answers.{atClock}
 use Rattle.lamp.specs.Valid.{lampValid}
-use Rattle.lamp.specs.Calls.{stepped, stepAnswer}
-use Rattle.lamp.proofs.Kept.{running-later, stepped-few}
+use Rattle.lamp.specs.Calls.{stepAnswer}
+use Rattle.lamp.specs.Passed.{passReported}
+use Rattle.lamp.proofs.Kept.{running-later}
+use Rattle.lamp.proofs.Passed.{left-placed}
 use Rattle.matter.proofs.Laws.{each, or-left}
 use borrow.Author.Needs.{needs}
 use Rattle.lamp.proofs.Lamp.step.Statement.{statement}
@@ -51,19 +50,21 @@ returns-3 c =
     let k5 = k4 .before in
     rw (c .refused3 .ensures, ← k5 .is-valid .ensures, not-false (k5 .is-valid .result) (k4 .if1 .left), ← k3 .is-running .ensures, not-false (k3 .is-running .result) (k2 .if2 .left), k1 .if3 .taken)
 
-at-clock-requires : tie.Need-at-clock-requires
-at-clock-requires c κs = search needs
-
 pass-requires : tie.Need-pass-requires
 unfolding lampValid
 pass-requires c κs =
-    let k1 = c .before in
-    let k2 = k1 .before .before .before .before in
+    let k1 = c .before .before in
+    let k2 = k1 .before in
     let k3 = k2 .before in
     let k4 = k3 .before in
-    let valid = rw (k3 .is-valid .ensures) at (not-false (k3 .is-valid .result) (k2 .if1 .left)) in
-    rw (c .at-clock .ensures)
-    (running-later (k4 .args .self .running) (k4 .args .self .bounds) (k4 .args .self .clock) (k4 .args .clock) (each _ valid .1 .1 .0) (ltb-false _ _ (or-left _ _ (k1 .if3 .left))))
+    let self = k4 .before .args .self in
+    let valid = rw (k4 .is-valid .ensures) at (not-false (k4 .is-valid .result) (k3 .if1 .left)) in (
+      running-later (self .running) (self .bounds) (self .clock) (k4 .before .args .clock) (each _ valid .1 .1 .0) (ltb-false _ _ (or-left _ _ (c .if3 .left))),
+      rw (← k2 .is-running .ensures) (not-false _ (k1 .if2 .left)),
+    )
+
+reported-requires : tie.Need-reported-requires
+reported-requires c κs = search needs
 
 accepted-requires : tie.Need-accepted-requires
 accepted-requires c κs = search needs
@@ -72,15 +73,15 @@ returns-4 : tie.Need-returns-4
 unfolding stepAnswer
 returns-4 c =
     let k1 = c .before in
-    let k2 = k1 .before in
+    let k2 = k1 .before .before in
     let k3 = k2 .before in
     let k4 = k3 .before .before in
     let k5 = k4 .before in
     let k6 = k5 .before in
     let k7 = k6 .before in
-    let k8 = k7 .before in
-    let few = stepped-few (atClock (k8 .args .self) (k8 .args .clock)) (k8 .args .self .running) in
-    rw (c .accepted .ensures, k1 .pass .ensures, k2 .at-clock .ensures, ← k7 .is-valid .ensures, not-false (k7 .is-valid .result) (k6 .if1 .left), ← k5 .is-running .ensures, not-false (k5 .is-running .result) (k4 .if2 .left), k3 .if3 .left, pushed-all-noted [] (stepped (atClock (k8 .args .self) (k8 .args .clock)) (k8 .args .self .running) .reported) (omega arith))
+    let left = k2 .pass .result in
+    let active = k7 .before .args .self .looping .active in
+    rw (c .accepted .ensures, k1 .reported .ensures .0, ← k7 .is-valid .ensures, not-false (k7 .is-valid .result) (k6 .if1 .left), ← k5 .is-running .ensures, not-false (k5 .is-running .result) (k4 .if2 .left), k3 .if3 .left, ← k2 .pass .ensures, left-placed (left .full) (passReported (left .passed) active) (k1 .reported .ensures .1) (k1 .reported .ensures .2))
 
 pub step-spec : {M : Type 1} → statement M
 step-spec =
@@ -94,7 +95,7 @@ step-spec =
     returns-2
     refused-requires-3
     returns-3
-    at-clock-requires
     pass-requires
+    reported-requires
     accepted-requires
     returns-4)

@@ -89,19 +89,23 @@ returns-5 c =
     let at-self4 = at-is-valid-time .before .before .before in
     simp (c .before .within-bounds2 .ensures, at-within-bounds .within-bounds .ensures, at-is-valid-time .is-valid-time .ensures, at-self4 .self4 .given .1)
 
+-- the rate is read as it is
+read-rate : (c : tie.After-struct-told) → toZ w64 (ofZ w64 (c .before .before .self5 .given .0 .0 .rate)) ≡ c .before .before .self5 .given .0 .0 .rate
+read-rate c = search needs
+
 returns-6 : tie.Need-returns-6
 unfolding runningValid allTrue
 returns-6 c =
     let at-within-bounds4 = c .before .before in
     let at-within-bounds3 = at-within-bounds4 .before .before in
     let at-is-valid-rate = at-within-bounds3 .before in
-    let at-self5 = at-is-valid-rate .before .before .before in
-    let e : toZ w64 (ofZ w64 (at-self5 .self5 .given .0 .0 .rate)) ≡ at-self5 .self5 .given .0 .0 .rate = search needs in
-    simp (e, c .before .within-bounds5 .ensures, at-within-bounds4 .within-bounds4 .ensures, at-within-bounds3 .within-bounds3 .ensures, at-is-valid-rate .is-valid-rate .ensures, at-self5 .self5 .given .1)
+    let at-struct = at-is-valid-rate .before in
+    let at-self5 = at-struct .before .before in
+    simp (read-rate at-struct, c .before .within-bounds5 .ensures, at-within-bounds4 .within-bounds4 .ensures, at-within-bounds3 .within-bounds3 .ensures, at-is-valid-rate .is-valid-rate .ensures, at-self5 .self5 .given .1)
 
 returns-7 : tie.Need-returns-7
 unfolding runningValid allTrue
-returns-7 c = simp (c .before .before .self6 .given .1)
+returns-7 c = simp (c .before .self6 .given .1)
 
 pub is-valid-spec : {M : Type 1} → statement M
 is-valid-spec =

@@ -1,17 +1,15 @@
--- `Lamp::color_temperature_move_transition`: each call's contract is its part of the definition; a rate valid is within ±65,535, so
--- that it is read as it is.
+-- Each call's contract is its part of the definition; a valid rate is within ±65,535, so that it is read as it is.
 use mathlib.Core.Path.{_≡_, ap, _∙_}
-use mir.Syntax.{w64}
 use mir.Val.{toZ, ofZ}
+use Rattle.progress.specs.Progress.{limited}
+use Rattle.lamp.proofs.Shared.{rate-same}
+use mir.Syntax.{w64}
 use mir.ValLaws.{toZ-ofZ}
 use borrow.Author.Needs.{sfits-of}
-use Rattle.progress.specs.Progress.{limited}
-use Rattle.lamp.specs.Passes.{temperaturePass}
-use Rattle.lamp.proofs.Shared.{rate-same}
-use Rattle.notices.proofs.Laws.{pushed-behind}
+use Rattle.lamp.specs.Passed.{temperaturePassed}
 use borrow.Author.Needs.{needs}
-use Rattle.lamp.proofs.Lamp.color_temperature_move_transition.Statement.{statement}
-use Rattle.lamp.proofs.Lamp.color_temperature_move_transition.Tie as tie
+use Rattle.lamp.proofs.passes.Found.color_temperature_move_transition.Statement.{statement}
+use Rattle.lamp.proofs.passes.Found.color_temperature_move_transition.Tie as tie
 
 -- the rate that is handed over, as it is read and as `delta_at_rate` limits it
 module _ (c : tie.After-struct-told) where
@@ -36,27 +34,19 @@ mireds-done-requires c κs = search needs
 set-color-temperature-requires : tie.Need-set-color-temperature-requires
 set-color-temperature-requires c κs = search needs
 
-running-unless-requires : tie.Need-running-unless-requires
-running-unless-requires c κs = search needs
-
-push-requires : tie.Need-push-requires
-push-requires c κs = search needs
-
-wait-unless-requires : tie.Need-wait-unless-requires
-wait-unless-requires c κs = search needs
+passed-requires : tie.Need-passed-requires
+passed-requires c κs = search needs
 
 returns : tie.Need-returns
-unfolding temperaturePass
+unfolding temperaturePassed
 returns c =
     let k1 = c .before in
-    let k2 = k1 .before .before .before .before in
-    let k3 = k2 .before .before .before in
-    let k4 = k3 .before .before in
-    let k5 = k4 .before .before in
+    let k2 = k1 .before .before in
+    let k3 = k2 .before .before in
+    let k4 = k3 .before in
+    let k5 = k4 .before in
     let k6 = k5 .before in
-    let k7 = k6 .before in
-    let k8 = k7 .before in
-    rw (c .wait-unless .ensures, k1 .push .ensures, k2 .running-unless .ensures, k3 .set-color-temperature .ensures, k4 .mireds-done .ensures, k5 .clamped-sum .ensures, toZ-ofZ w64 (k6 .delta-at-rate .result) (sfits-of (k6 .delta-at-rate .ok)), k6 .delta-at-rate .ensures, rate k7, read k7, k8 .elapsed .ensures, pushed-behind)
+    rw (c .passed .ensures, k1 .set-color-temperature .ensures, k2 .mireds-done .ensures, k3 .clamped-sum .ensures, toZ-ofZ w64 (k4 .delta-at-rate .result) (sfits-of (k4 .delta-at-rate .ok)), k4 .delta-at-rate .ensures, rate k5, read k5, k6 .elapsed .ensures)
 
 pub color-temperature-move-transition-spec : {M : Type 1} → statement M
 color-temperature-move-transition-spec =
@@ -67,7 +57,5 @@ color-temperature-move-transition-spec =
     clamped-sum-requires
     mireds-done-requires
     set-color-temperature-requires
-    running-unless-requires
-    push-requires
-    wait-unless-requires
+    passed-requires
     returns)

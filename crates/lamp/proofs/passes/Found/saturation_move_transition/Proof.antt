@@ -1,4 +1,4 @@
--- `Lamp::saturation_move_transition`: each call's contract is its part of the definition; a rate valid is read as it is.
+-- Each call's contract is its part of the definition; a valid rate is read as it is.
 use Prim.Native.Nat.{_≤_}
 use native.Mathlib.Omega.{arith}
 use borrow.Author.Tests.{leb-true}
@@ -7,12 +7,11 @@ use Rattle.tasks.specs.Valid.{saturationMoveValid}
 use mir.Syntax.{w64}
 use mir.ValLaws.{toZ-ofZ}
 use borrow.Author.Needs.{sfits-of}
-use Rattle.lamp.specs.Passes.{saturationPass}
-use Rattle.notices.proofs.Laws.{pushed-behind}
 use Rattle.lamp.proofs.Shared.{signed-same}
+use Rattle.lamp.specs.Passed.{saturationPassed}
 use borrow.Author.Needs.{needs}
-use Rattle.lamp.proofs.Lamp.saturation_move_transition.Statement.{statement}
-use Rattle.lamp.proofs.Lamp.saturation_move_transition.Tie as tie
+use Rattle.lamp.proofs.passes.Found.saturation_move_transition.Statement.{statement}
+use Rattle.lamp.proofs.passes.Found.saturation_move_transition.Tie as tie
 
 small-rate : (c : tie.Start) → c .args .run .task .rate ≤ 255
 unfolding saturationMoveValid
@@ -36,28 +35,20 @@ saturation-done-requires c κs = search needs
 set-saturation-requires : tie.Need-set-saturation-requires
 set-saturation-requires c κs = search needs
 
-running-unless-requires : tie.Need-running-unless-requires
-running-unless-requires c κs = search needs
-
-push-requires : tie.Need-push-requires
-push-requires c κs = search needs
-
-wait-unless-requires : tie.Need-wait-unless-requires
-wait-unless-requires c κs = search needs
+passed-requires : tie.Need-passed-requires
+passed-requires c κs = search needs
 
 returns : tie.Need-returns
-unfolding saturationPass
+unfolding saturationPassed
 returns c =
     let k1 = c .before in
-    let k2 = k1 .before .before .before .before in
-    let k3 = k2 .before .before .before in
-    let k4 = k3 .before .before in
+    let k2 = k1 .before .before in
+    let k3 = k2 .before in
+    let k4 = k3 .before in
     let k5 = k4 .before in
     let k6 = k5 .before in
-    let k7 = k6 .before in
-    let k8 = k7 .before in
-    let run = k8 .before .before .args .run in
-    rw (c .wait-unless .ensures, k1 .push .ensures, k2 .running-unless .ensures, k3 .set-saturation .ensures, k4 .saturation-done .ensures, k5 .moved-saturation .ensures, toZ-ofZ w64 (k6 .delta-at-rate .result) (sfits-of (k6 .delta-at-rate .ok)), k6 .delta-at-rate .ensures, k7 .elapsed .ensures, toZ-ofZ w64 (k8 .signed .result) (sfits-of (k8 .signed .ok)), k8 .signed .ensures, signed-same (run .task .direction) (run .task .rate) (omega (arith, small-rate (k8 .before .before))), pushed-behind)
+    let run = k6 .before .before .args .run in
+    rw (c .passed .ensures, k1 .set-saturation .ensures, k2 .saturation-done .ensures, k3 .moved-saturation .ensures, toZ-ofZ w64 (k4 .delta-at-rate .result) (sfits-of (k4 .delta-at-rate .ok)), k4 .delta-at-rate .ensures, k5 .elapsed .ensures, toZ-ofZ w64 (k6 .signed .result) (sfits-of (k6 .signed .ok)), k6 .signed .ensures, signed-same (run .task .direction) (run .task .rate) (omega (arith, small-rate (k6 .before .before))))
 
 pub saturation-move-transition-spec : {M : Type 1} → statement M
 saturation-move-transition-spec =
@@ -69,7 +60,5 @@ saturation-move-transition-spec =
     moved-saturation-requires
     saturation-done-requires
     set-saturation-requires
-    running-unless-requires
-    push-requires
-    wait-unless-requires
+    passed-requires
     returns)
