@@ -4,3 +4,4 @@ pub mod TaskValid
 pub mod Table
 pub mod Leaves
 pub mod Built
+pub mod LoopLaws

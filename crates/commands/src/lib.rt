@@ -124,7 +124,7 @@ fn execute(lamp: Lamp, command: Command, clock: u64) -> Outcome
 
 // A command's checks in their order: 8 and 4, Stop mode, its own numbers, off, crossed limits.
 fn outcome(lamp: Lamp, request: Request, on_off: OnOff, clock: u64) -> Outcome
-    ensures { λ r. ⌜ r ≡ outcomeOf (commandAnswer lamp request «on_off» clock) ⌝ }
+    ensures { λ r. ⌜ r ≡ outcomeOf lamp request «on_off» clock ⌝ }
 {
     let cause = lamp.first_cause(clock);
     if cause != ACCEPTED {
@@ -163,7 +163,7 @@ pub fn invoke(lamp: Lamp, request: Request, on_off: OnOff, clock: u64) -> Answer
     let o = outcome(lamp, request, on_off, clock);
     let color = o.color;
     let looping = o.looping;
-    let notices = o.notices;
+    let reported = o.reported;
     let task = o.task;
     Answer {
         number: o.number,
@@ -173,7 +173,7 @@ pub fn invoke(lamp: Lamp, request: Request, on_off: OnOff, clock: u64) -> Answer
             looping: looping,
             ..lamp
         },
-        notices: notices,
+        notices: reported.notices(),
         task: task,
         wait: 0,
     }

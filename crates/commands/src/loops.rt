@@ -1,6 +1,7 @@
 // The colour loop's command.
 // Carried over from project-chip/rs-matter, commit 43f61585a4 (Apache-2.0, see NOTICE), and changed.
 use crate::outcomes::Outcome;
+use crate::outcomes::skipped;
 use crate::with_options;
 use lamp::Answer;
 use lamp::Lamp;
@@ -15,18 +16,18 @@ use matter::UPDATE_DIRECTION;
 use matter::UPDATE_START_HUE;
 use matter::UPDATE_TIME;
 use matter::contains;
-use notices::Notices;
+use notices::Numeral;
 use tasks::ColorLoop;
 use tasks::GivenTask;
 use tasks::Task;
 ghost use mathlib.Core.Path.{_≡_};
 ghost use mathlib.Core.Bool.{cond};
 ghost use mathlib.Core.List.{[]};
-ghost use Rattle.notices.specs.Notices.{noted, pushedAll};
-ghost use Rattle.commands.specs.Commands.{updated, updatedReported, deactivated, activated, acted, loopSet};
+ghost use Rattle.notices.specs.Numerals.{inFront};
+ghost use Rattle.commands.specs.Commands.{skip, updated, updatedReported, deactivated, activated, acted, loopSet};
 ghost use Rattle.matter.specs.Requests.{request, options};
 ghost use Rattle.commands.specs.Answers.{commandAnswer};
-ghost use Rattle.commands.specs.Outcomes.{outcomeOf, acceptedOutcome, pushedAnswer};
+ghost use Rattle.commands.specs.Outcomes.{acceptedOutcome};
 
 fn word_if(test: bool, new: u16, old: u16) -> u16
     ensures { λ r. ⌜ r ≡ cond test new old ⌝ }
@@ -64,111 +65,98 @@ fn updated_settings(
     }
 }
 
-fn updated_notices(flags: u8) -> Notices
-    ensures { λ r. ⌜ r ≡ pushedAll (noted []) (updatedReported flags) ⌝ }
+// The update's notices in front of a list.
+fn cons_updated(list: Numeral, flags: u8) -> Numeral
+    ensures { λ r. ⌜ r ≡ inFront (updatedReported flags) list ⌝ }
 {
     let bits = flags as u32;
-    Notices::new()
-        .push_if(
-            contains(bits, UPDATE_DIRECTION),
-            notices::COLOR_LOOP_DIRECTION,
-        )
-        .push_if(contains(bits, UPDATE_TIME), notices::COLOR_LOOP_TIME)
-        .push_if(
+    list.cons(notices::MARKED_DIRTY)
+        .cons_if(
             contains(bits, UPDATE_START_HUE),
             notices::COLOR_LOOP_START_ENHANCED_HUE,
         )
-        .push(notices::MARKED_DIRTY)
-}
-
-fn outcome_of(lamp: Lamp, list: Notices, task: GivenTask) -> Outcome
-    ensures { λ r. ⌜ r ≡ record { number = 0; color = lamp .color; looping = lamp .looping; notices = list; task = task } ⌝ }
-{
-    let color = lamp.color;
-    let looping = lamp.looping;
-    Outcome {
-        number: ACCEPTED,
-        color: color,
-        looping: looping,
-        notices: list,
-        task: task,
-    }
+        .cons_if(contains(bits, UPDATE_TIME), notices::COLOR_LOOP_TIME)
+        .cons_if(
+            contains(bits, UPDATE_DIRECTION),
+            notices::COLOR_LOOP_DIRECTION,
+        )
 }
 
 // Off: where the loop is active, the stored hue comes back and the Stop task is given.
-fn deactivate(lamp: Lamp, list: Notices) -> Outcome
-    ensures { λ r. ⌜ r ≡ outcomeOf (pushedAnswer list (deactivated lamp [])) ⌝ }
+fn deactivate(lamp: Lamp) -> Outcome
+    ensures { λ r. ⌜ r ≡ acceptedOutcome (deactivated lamp []) ⌝ }
 {
     if !lamp.looping.active {
-        return outcome_of(lamp, list, GivenTask::Nothing);
+        return skipped(lamp);
     }
-    let reported = list.push(notices::TASK_GIVEN)
-        .push(notices::COLOR_LOOP_ACTIVE);
-    let color = lamp.color;
-    let set = color.set_hue(reported, lamp.looping.stored, true, true, lamp.clock, false);
-    let next = set.color;
-    let reports = set.notices;
     let old = lamp.looping;
-    let changed = Lamp {
+    let color = lamp.color;
+    let set = color.set_hue(lamp.looping.stored, true, true, lamp.clock);
+    let next = set.color;
+    let change = set.change;
+    let device = Numeral::new().cons(notices::DEVICE_HUE_SATURATION);
+    Outcome {
+        number: ACCEPTED,
         color: next,
         looping: LoopSettings {
             active: false,
             ..old
         },
-        ..lamp
-    };
-    outcome_of(
-        changed,
-        reports.push(notices::DEVICE_HUE_SATURATION),
-        GivenTask::Given(Task::Stop),
-    )
+        reported: change
+            .cons(device, false)
+            .cons(notices::COLOR_LOOP_ACTIVE)
+            .cons(notices::TASK_GIVEN),
+        task: GivenTask::Given(Task::Stop),
+    }
 }
 
 // On: the hue is stored, unless the loop is active already, the first hue is set, and the loop's task is given.
-fn activate(lamp: Lamp, list: Notices, seed: u16) -> Outcome
-    ensures { λ r. ⌜ r ≡ outcomeOf (pushedAnswer list (activated lamp [] seed)) ⌝ }
+fn activate(lamp: Lamp, seed: u16) -> Outcome
+    ensures { λ r. ⌜ r ≡ acceptedOutcome (activated lamp [] seed) ⌝ }
 {
     let old = lamp.looping;
     let active = old.active;
-    let reported = list.push_if(!active, notices::COLOR_LOOP_STORED_ENHANCED_HUE)
-        .push_if(!active, notices::COLOR_LOOP_ACTIVE);
     let color = lamp.color;
-    let set = color.set_hue(reported, seed, true, true, lamp.clock, true);
+    let set = color.set_hue(seed, true, true, lamp.clock);
     let next = set.color;
-    let reports = set.notices;
+    let change = set.change;
+    let given = Numeral::new()
+        .cons(notices::TASK_GIVEN)
+        .cons(notices::DEVICE_HUE_SATURATION);
     let stored = word_if(active, old.stored, lamp.color.hue);
     let direction = old.direction;
-    let changed = Lamp {
+    Outcome {
+        number: ACCEPTED,
         color: next,
         looping: LoopSettings {
             active: true,
             stored: stored,
             ..old
         },
-        ..lamp
-    };
-    let task = Task::ColorLoop(ColorLoop {
-        direction: direction,
-        seconds: old.time,
-    });
-    outcome_of(
-        changed,
-        reports
-            .push(notices::DEVICE_HUE_SATURATION)
-            .push(notices::TASK_GIVEN),
-        GivenTask::Given(task),
-    )
+        reported: change
+            .cons(given, true)
+            .cons_if(!active, notices::COLOR_LOOP_ACTIVE)
+            .cons_if(!active, notices::COLOR_LOOP_STORED_ENHANCED_HUE),
+        task: GivenTask::Given(Task::ColorLoop(ColorLoop {
+            direction: direction,
+            seconds: old.time,
+        })),
+    }
 }
 
-fn act(lamp: Lamp, list: Notices, action: ColorLoopActionEnum) -> Outcome
-    ensures { λ r. ⌜ r ≡ outcomeOf (pushedAnswer list (acted lamp [] action)) ⌝ }
+// The action, where the update has one.
+fn act(lamp: Lamp, acts: bool, action: ColorLoopActionEnum) -> Outcome
+    ensures { λ r. ⌜ r ≡ acceptedOutcome (cond acts (acted lamp [] action) (skip lamp)) ⌝ }
 {
+    if !acts {
+        return skipped(lamp);
+    }
     match action {
-        ColorLoopActionEnum::Deactivate => deactivate(lamp, list),
+        ColorLoopActionEnum::Deactivate => deactivate(lamp),
         ColorLoopActionEnum::ActivateFromColorLoopStartEnhancedHue => {
-            activate(lamp, list, lamp.looping.start)
+            activate(lamp, lamp.looping.start)
         }
-        ColorLoopActionEnum::ActivateFromEnhancedCurrentHue => activate(lamp, list, lamp.color.hue),
+        ColorLoopActionEnum::ActivateFromEnhancedCurrentHue => activate(lamp, lamp.color.hue),
     }
 }
 
@@ -183,16 +171,16 @@ pub(crate) fn set_loop(
     ensures { λ r. ⌜ r ≡ acceptedOutcome (loopSet lamp flags action direction time «start_hue») ⌝ }
 {
     let old = lamp.looping;
-    let looping = updated_settings(old, flags, direction, time, start_hue);
-    let list = updated_notices(flags);
+    let updated = updated_settings(old, flags, direction, time, start_hue);
     let changed = Lamp {
-        looping: looping,
+        looping: updated,
         ..lamp
     };
-    if contains(flags as u32, UPDATE_ACTION) {
-        act(changed, list, action)
-    } else {
-        outcome_of(changed, list, GivenTask::Nothing)
+    let done = act(changed, contains(flags as u32, UPDATE_ACTION), action);
+    let reported = done.reported;
+    Outcome {
+        reported: cons_updated(reported, flags),
+        ..done
     }
 }
 

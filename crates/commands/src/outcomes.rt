@@ -3,21 +3,20 @@ use color::Color;
 use lamp::Lamp;
 use lamp::LoopSettings;
 use matter::ACCEPTED;
-use notices::Notices;
+use notices::Numeral;
 use notices::TASK_GIVEN;
 use tasks::GivenTask;
 use tasks::Task;
 ghost use mathlib.Core.Path.{_≡_};
-ghost use Rattle.lamp.specs.Answers.{refusal};
 ghost use Rattle.commands.specs.Commands.{skip, giving};
-ghost use Rattle.commands.specs.Outcomes.{outcomeOf, acceptedOutcome};
+ghost use Rattle.commands.specs.Outcomes.{acceptedOutcome, refusedOutcome};
 
 // 0 or the cause of a refusal, all of the lamp that a command can change but its clock, what it reports, and its task.
 pub struct Outcome {
     pub number: u8,
     pub color: Color,
     pub looping: LoopSettings,
-    pub notices: Notices,
+    pub reported: Numeral,
     pub task: GivenTask,
 }
 
@@ -31,14 +30,14 @@ pub(crate) fn given(lamp: Lamp, task: Task) -> Outcome
         number: ACCEPTED,
         color: color,
         looping: looping,
-        notices: Notices::new().push(TASK_GIVEN),
+        reported: Numeral::new().cons(TASK_GIVEN),
         task: GivenTask::Given(task),
     }
 }
 
 // Nothing done.
 fn nothing(lamp: Lamp, number: u8) -> Outcome
-    ensures { λ r. ⌜ r ≡ outcomeOf (refusal lamp number) ⌝ }
+    ensures { λ r. ⌜ r ≡ refusedOutcome lamp number ⌝ }
 {
     let color = lamp.color;
     let looping = lamp.looping;
@@ -46,14 +45,14 @@ fn nothing(lamp: Lamp, number: u8) -> Outcome
         number: number,
         color: color,
         looping: looping,
-        notices: Notices::new(),
+        reported: Numeral::new(),
         task: GivenTask::Nothing,
     }
 }
 
 // A refusal, for this cause.
 pub(crate) fn refused(lamp: Lamp, cause: u8) -> Outcome
-    ensures { λ r. ⌜ r ≡ outcomeOf (refusal lamp cause) ⌝ }
+    ensures { λ r. ⌜ r ≡ refusedOutcome lamp cause ⌝ }
 {
     nothing(lamp, cause)
 }

@@ -22,7 +22,7 @@ use Rattle.tasks.specs.declared.ColorTemperatureMove.{ColorTemperatureMove}
 use Rattle.tasks.specs.declared.Task.{Task}
 use Rattle.tasks.specs.declared.Running.{Running}
 use Rattle.tasks.specs.Valid.{taskValid}
-use Rattle.tasks.specs.Runs.{runs, loopRun}
+use Rattle.tasks.specs.Runs.{runs}
 use Rattle.lamp.specs.declared.Lamp.{Lamp}
 use Rattle.lamp.specs.declared.Answer.{Answer}
 use Rattle.lamp.specs.Answers.{atClock, badClock, firstCause, refusal}
@@ -97,7 +97,7 @@ stepped l (Running.HueMove run) = huePass l run
 stepped l (Running.SaturationMove run) = saturationPass l run
 stepped l (Running.ColorTemperatureMoveTo run) = temperatureToPass l run (permilleOf (l .clock - run .start) (run .task .ms))
 stepped l (Running.ColorTemperatureMove run) = temperaturePass l run
-stepped l (Running.ColorLoop direction hue seconds start) = loopPass l (loopRun direction hue seconds start)
+stepped l (Running.ColorLoop run) = loopPass l run
 
 -- ---- the causes, in the table's order, and the answers
 

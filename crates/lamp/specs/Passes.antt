@@ -27,7 +27,6 @@ use Rattle.tasks.specs.declared.ColorTemperatureToRun.{ColorTemperatureToRun}
 use Rattle.tasks.specs.declared.ColorTemperatureRun.{ColorTemperatureRun}
 use Rattle.tasks.specs.declared.ColorLoopRun.{ColorLoopRun}
 use Rattle.tasks.specs.declared.Running.{Running}
-use Rattle.tasks.specs.Runs.{loopRunning}
 use Rattle.lamp.specs.declared.Lamp.{Lamp}
 
 -- what an accepted start or step does: the lamp after it, what it reports, and the wait
@@ -182,7 +181,7 @@ loopPass l run =
     let elapsed : ℕ = l .clock - run .start in
     let now : ℕ = movedHue (run .hue) (loopDelta (run .task .direction) elapsed (run .task .seconds)) in
     record {
-      lamp = moved l (hueSet (l .color) now false true (l .clock)) (loopRunning run);
+      lamp = moved l (hueSet (l .color) now false true (l .clock)) (Running.ColorLoop run);
       reported = hueReported (l .color) now false true (l .clock) (l .looping .active) ++ (deviceHueSaturation ∷ []);
       wait = turnWait elapsed (run .task .seconds);
     }

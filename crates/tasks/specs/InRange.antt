@@ -54,4 +54,4 @@ InRangeRunning (Running.SaturationMove run) = Clock (run .start) × Byte (run .s
 InRangeRunning (Running.ColorTemperatureMoveTo run) = Clock (run .start) × Short (run .mireds) × InRangeTemperatureTo (run .task)
 InRangeRunning (Running.ColorTemperatureMove run) =
     Clock (run .start) × Short (run .mireds) × Signed64 (run .rate) × Short (run .lo) × Short (run .hi)
-InRangeRunning (Running.ColorLoop direction hue seconds start) = Clock start × Short hue × Short seconds
+InRangeRunning (Running.ColorLoop run) = Clock (run .start) × Short (run .hue) × Short (run .task .seconds)

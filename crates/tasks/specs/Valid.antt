@@ -101,4 +101,4 @@ runningValid (Running.ColorTemperatureMove run) bounds clock =
     (rateValid (run .rate) ∷ withinBounds bounds (run .mireds) ∷ ltb (run .lo) (run .hi) ∷ withinBounds bounds (run .lo) ∷ withinBounds bounds (run .hi)
     ∷ leb (run .start) clock
     ∷ [])
-runningValid (Running.ColorLoop direction hue seconds start) bounds clock = leb start clock
+runningValid (Running.ColorLoop run) bounds clock = leb (run .start) clock

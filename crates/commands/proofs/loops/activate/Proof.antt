@@ -1,55 +1,57 @@
--- The stored hue and the loop are reported unless it is active; then the setter, the device and the task.
-use Rattle.commands.proofs.Laws.{on-pushes}
+-- The notices are put in front of one another, from the task to the stored hue.
 use Rattle.commands.specs.Commands.{activated}
-use Rattle.notices.specs.declared.Notices.{Notices}
-use mathlib.Core.List.{[]}
-use mathlib.Core.Path.{ap}
+use Rattle.commands.proofs.LoopLaws.{on-change}
 use borrow.Author.Needs.{needs}
 use Rattle.commands.proofs.loops.activate.Statement.{statement}
 use Rattle.commands.proofs.loops.activate.Tie as tie
 
-push-if-requires : tie.Need-push-if-requires
-push-if-requires c κs = search needs
-
-push-if-requires-2 : tie.Need-push-if-requires-2
-push-if-requires-2 c κs = search needs
-
 set-hue-requires : tie.Need-set-hue-requires
 set-hue-requires c κs = search needs
+
+new-requires : tie.Need-new-requires
+new-requires c κs = search needs
+
+cons-requires : tie.Need-cons-requires
+cons-requires c κs = search needs
+
+cons-requires-2 : tie.Need-cons-requires-2
+cons-requires-2 c κs = search needs
 
 word-if-requires : tie.Need-word-if-requires
 word-if-requires c κs = search needs
 
-push-requires : tie.Need-push-requires
-push-requires c κs = search needs
+cons-requires-3 : tie.Need-cons-requires-3
+cons-requires-3 c κs = search needs
 
-push-requires-2 : tie.Need-push-requires-2
-push-requires-2 c κs = search needs
+cons-if-requires : tie.Need-cons-if-requires
+cons-if-requires c κs = search needs
 
-outcome-of-requires : tie.Need-outcome-of-requires
-outcome-of-requires c κs = search needs
+cons-if-requires-2 : tie.Need-cons-if-requires-2
+cons-if-requires-2 c κs = search needs
 
 returns : tie.Need-returns
 unfolding activated
 returns c =
-    let at-push = c .before .before in
-    let at-word-if = at-push .before .before .before in
-    let at-set-hue = at-word-if .before .before .before in
-    let at-push-if2 = at-set-hue .before .before in
-    let at-push-if = at-push-if2 .before in
-    let at-start = at-push-if .before .before in
-    let called = at-start .args in
-    simp (c .outcome-of .ensures, c .before .push2 .ensures, at-push .push .ensures, at-word-if .word-if .ensures, at-set-hue .set-hue .ensures, at-push-if2 .push-if2 .ensures, at-push-if .push-if .ensures) (ap (λ (n : Notices). record { number = 0; color = activated (called .lamp) [] (called .seed) .lamp .color; looping = activated (called .lamp) [] (called .seed) .lamp .looping; notices = n; task = activated (called .lamp) [] (called .seed) .task }) (on-pushes (called .list) (called .lamp .looping .active) _))
+    let k1 = c .before in
+    let k2 = k1 .before in
+    let k3 = k2 .before in
+    let k4 = k3 .before in
+    let k5 = k4 .before in
+    let k6 = k5 .before in
+    let k7 = k6 .before .before .before in
+    let args = k7 .before .before .before .args in
+    rw (c .cons-if2 .ensures, k1 .cons-if .ensures, k2 .cons3 .ensures, k3 .word-if .ensures, k4 .cons2 .ensures, k5 .cons .ensures, k6 .new .ensures, k7 .set-hue .ensures, on-change (args .lamp .color) (args .seed) (args .lamp .clock) (args .lamp .looping .active))
 
 pub activate-spec : {M : Type 1} → statement M
 activate-spec =
     tie.close
     (tie.spec
-    push-if-requires
-    push-if-requires-2
     set-hue-requires
+    new-requires
+    cons-requires
+    cons-requires-2
     word-if-requires
-    push-requires
-    push-requires-2
-    outcome-of-requires
+    cons-requires-3
+    cons-if-requires
+    cons-if-requires-2
     returns)

@@ -1,60 +1,58 @@
--- Where the loop is active: the task, the loop, the setter and the device are reported in their order.
-use Rattle.commands.proofs.Laws.{off-pushes}
-use Rattle.commands.specs.Commands.{withLoop, activity, deactivated}
-use Rattle.tasks.specs.declared.Task.{Task}
-use Rattle.tasks.specs.declared.GivenTask.{GivenTask}
-use Rattle.color.specs.Setters.{hueSet}
-use Rattle.notices.specs.Notices.{pushedAll}
-use Rattle.notices.specs.declared.Notices.{Notices}
-use mathlib.Core.Path.{ap}
-use mathlib.Core.Bool.{true, false}
+-- Where the loop is not active nothing changes; else the notices are put in front of one another.
 use borrow.Author.Tests.{not-true, not-false}
+use Rattle.commands.specs.Commands.{deactivated}
+use Rattle.commands.proofs.LoopLaws.{off-change}
 use borrow.Author.Needs.{needs}
 use Rattle.commands.proofs.loops.deactivate.Statement.{statement}
 use Rattle.commands.proofs.loops.deactivate.Tie as tie
 
-outcome-of-requires : tie.Need-outcome-of-requires
-outcome-of-requires c κs = search needs
+skipped-requires : tie.Need-skipped-requires
+skipped-requires c κs = search needs
 
 returns : tie.Need-returns
-unfolding deactivated pushedAll
-returns c = simp (not-true (c .before .before .before .args .lamp .looping .active) (c .before .if1 .taken)) (c .outcome-of .ensures)
-
-push-requires : tie.Need-push-requires
-push-requires c κs = search needs
-
-push-requires-2 : tie.Need-push-requires-2
-push-requires-2 c κs = search needs
+unfolding deactivated
+returns c = simp (c .skipped .ensures, not-true (c .before .before .before .args .lamp .looping .active) (c .before .if1 .taken))
 
 set-hue-requires : tie.Need-set-hue-requires
 set-hue-requires c κs = search needs
 
-push-requires-3 : tie.Need-push-requires-3
-push-requires-3 c κs = search needs
+new-requires : tie.Need-new-requires
+new-requires c κs = search needs
 
-outcome-of-requires-2 : tie.Need-outcome-of-requires-2
-outcome-of-requires-2 c κs = search needs
+cons-requires : tie.Need-cons-requires
+cons-requires c κs = search needs
+
+cons-requires-2 : tie.Need-cons-requires-2
+cons-requires-2 c κs = search needs
+
+cons-requires-3 : tie.Need-cons-requires-3
+cons-requires-3 c κs = search needs
+
+cons-requires-4 : tie.Need-cons-requires-4
+cons-requires-4 c κs = search needs
 
 returns-2 : tie.Need-returns-2
 unfolding deactivated
 returns-2 c =
-    let at-set-hue = c .before .before .before .before .before .before .before in
-    let at-push2 = at-set-hue .before .before in
-    let at-push = at-push2 .before in
-    let at-if1 = at-push .before in
-    let at-start = at-if1 .before .before in
-    let called = at-start .args in
-    simp (not-false (called .lamp .looping .active) (at-if1 .if1 .left), c .outcome-of2 .ensures, c .before .push3 .ensures, at-set-hue .set-hue .ensures, at-push2 .push2 .ensures, at-push .push .ensures) (ap (λ (n : Notices). record { number = 0; color = hueSet (called .lamp .color) (called .lamp .looping .stored) true true (called .lamp .clock); looping = activity (called .lamp .looping) false (called .lamp .looping .stored); notices = n; task = GivenTask.Given Task.Stop }) (off-pushes (called .list) _))
+    let k1 = c .before in
+    let k2 = k1 .before in
+    let k3 = k2 .before in
+    let k4 = k3 .before in
+    let k5 = k4 .before .before .before in
+    let k6 = k5 .before .before .before in
+    let lamp = k6 .before .before .args .lamp in
+    rw (c .cons4 .ensures, k1 .cons3 .ensures, k2 .cons2 .ensures, k3 .cons .ensures, k4 .new .ensures, k5 .set-hue .ensures, not-false (lamp .looping .active) (k6 .if1 .left), off-change (lamp .color) (lamp .looping .stored) (lamp .clock))
 
 pub deactivate-spec : {M : Type 1} → statement M
 deactivate-spec =
     tie.close
     (tie.spec
-    outcome-of-requires
+    skipped-requires
     returns
-    push-requires
-    push-requires-2
     set-hue-requires
-    push-requires-3
-    outcome-of-requires-2
+    new-requires
+    cons-requires
+    cons-requires-2
+    cons-requires-3
+    cons-requires-4
     returns-2)
