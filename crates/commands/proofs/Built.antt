@@ -13,7 +13,7 @@ use Rattle.matter.specs.declared.enums.OnOff.{OnOff}
 use Rattle.matter.specs.Flags.{hasFlag, updateAction, updateDirection, updateTime, updateStartHue}
 use Rattle.matter.proofs.Laws.{cond-both}
 use Rattle.notices.specs.Notices.{noted}
-use Rattle.notices.specs.Numerals.{placed}
+use Rattle.notices.specs.Numerals.{empty, inFront, placed}
 use Rattle.notices.proofs.Numerals.{Bytes, none, more, bytes-append, bytes-only, placed-noted}
 use Rattle.color.specs.declared.Color.{Color}
 use Rattle.color.specs.Setters.{hueChange, hueReported}
@@ -46,17 +46,18 @@ stored-bytes false = more {x = 12} (omega arith) (more {x = 8} (omega arith) non
 activated-bytes : (l : Lamp) (reported : List ℕ) (seed : ℕ) → Bytes reported → Bytes (activated l reported seed .reported)
 unfolding activated
 activated-bytes l reported seed b =
-    bytes-append b
-    (bytes-append (stored-bytes (l .looping .active))
-    (bytes-append (hue-bytes (l .color) seed (l .clock) true) (more {x = 15} (omega arith) (more {x = 17} (omega arith) none))))
+    bytes-append
+    (bytes-append (bytes-append b (stored-bytes (l .looping .active))) (hue-bytes (l .color) seed (l .clock) true))
+    (more {x = 15} (omega arith) (more {x = 17} (omega arith) none))
 
 acted-bytes : (l : Lamp) (reported : List ℕ) (action : ColorLoopActionEnum) → Bytes reported → Bytes (acted l reported action .reported)
 unfolding deactivated
 acted-bytes l reported ColorLoopActionEnum.Deactivate b =
     cond-both (λ (e : CommandEffect). Bytes (e .reported)) (l .looping .active) _ _
-    (λ e. bytes-append b
-    (more {x = 17} (omega arith) (more {x = 8} (omega arith)
-    (bytes-append (hue-bytes (l .color) (l .looping .stored) (l .clock) false) (more {x = 15} (omega arith) none)))))
+    (λ e. bytes-append
+    (bytes-append (bytes-append b (more {x = 17} (omega arith) (more {x = 8} (omega arith) none)))
+    (hue-bytes (l .color) (l .looping .stored) (l .clock) false))
+    (more {x = 15} (omega arith) none))
     (λ e. b)
 acted-bytes l reported ColorLoopActionEnum.ActivateFromColorLoopStartEnhancedHue b = activated-bytes l reported (l .looping .start) b
 acted-bytes l reported ColorLoopActionEnum.ActivateFromEnhancedCurrentHue b = activated-bytes l reported (l .color .hue) b
@@ -82,10 +83,28 @@ answerOf l clock o =
       wait = 0;
     }
 
-pub built : (l : Lamp) (r : Request) (onOff : OnOff) (clock : ℕ) →
-    answerOf l clock (outcomeOf l r onOff clock) ≡ commandAnswer l r onOff clock
-unfolding commandAnswer outcomeOf
-built l r onOff clock =
-    let at : Lamp = atClock l clock in
-    let done : CommandEffect = commandDone at r onOff in
-    cond-two (eqb (commandCause l r onOff clock) 0) ?
+no-list : placed empty ≡ noted []
+unfolding inFront
+no-list = placed-noted [] none (omega arith)
+
+module _ (l : Lamp) (r : Request) (onOff : OnOff) (clock : ℕ) where
+  abbrev at : Lamp
+  at = atClock l clock
+
+  abbrev done : CommandEffect
+  done = commandDone at r onOff
+
+  list : placed (inFront (done .reported) empty) ≡ noted (done .reported)
+  list = placed-noted (done .reported) (commands-bytes at r onOff) (le-trans (commands-few at r onOff) (omega arith))
+
+  lamp : withLoop at (done .lamp .color) (done .lamp .looping) ≡ done .lamp
+  lamp = done-any at (λ m. withLoop at (m .color) (m .looping) ≡ m) (λ c s. refl) r onOff
+
+  built-by : (t : Bool) → eqb (commandCause l r onOff clock) 0 ≡ t →
+      answerOf l clock (outcomeOf l r onOff clock) ≡ commandAnswer l r onOff clock
+  unfolding commandAnswer outcomeOf
+  built-by true z = simp (z, list, lamp)
+  built-by false z = simp (z, no-list)
+
+  pub built : answerOf l clock (outcomeOf l r onOff clock) ≡ commandAnswer l r onOff clock
+  built = built-by (eqb (commandCause l r onOff clock) 0) refl

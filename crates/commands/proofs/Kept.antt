@@ -94,7 +94,7 @@ module _ (l : Lamp) (P : CommandEffect → Type 0) (gives : (task : Task) → P 
   effect-by Command.StopMoveStep loops = gives _
 
   -- and with the second, of any
-  done-by : (r : Request) (onOff : OnOff) → P (skip l) → ((flags : ℕ) (action : ColorLoopActionEnum) (direction : ColorLoopDirectionEnum) (time hue : ℕ) → r .command ≡ Command.ColorLoopSet flags action direction time hue → P (loopSet l flags action direction time hue)) → P (commandDone l r onOff)
+  pub done-by : (r : Request) (onOff : OnOff) → P (skip l) → ((flags : ℕ) (action : ColorLoopActionEnum) (direction : ColorLoopDirectionEnum) (time hue : ℕ) → r .command ≡ Command.ColorLoopSet flags action direction time hue → P (loopSet l flags action direction time hue)) → P (commandDone l r onOff)
   done-by r onOff passes loops =
       cond-both P (checks (r .command) .stop) _ _ (λ e. gives Task.Stop) (λ e. cond-both P (allowed l r onOff) _ _ (λ t. effect-by (r .command) loops) (λ t. passes))
 

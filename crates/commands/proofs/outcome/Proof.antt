@@ -1,5 +1,6 @@
 -- The checks in their order: 8 and 4, Stop mode, the numbers, off, crossed limits.
-use Rattle.commands.specs.Answers.{commandAnswer, commandCause}
+use Rattle.commands.specs.Answers.{commandCause}
+use Rattle.commands.specs.Outcomes.{outcomeOf}
 use borrow.Author.Tests.{eq-eqb, ne-eqb, not-true, not-false}
 use borrow.Author.Needs.{needs}
 use Rattle.commands.proofs.outcome.Statement.{statement}
@@ -12,7 +13,7 @@ refused-requires : tie.Need-refused-requires
 refused-requires c κs = search needs
 
 returns : tie.Need-returns
-unfolding commandAnswer commandCause
+unfolding outcomeOf commandCause
 returns c =
     let at-first-cause = c .before .before in
     simp (← at-first-cause .first-cause .ensures, ne-eqb _ 0 (c .before .if1 .taken)) (c .refused .ensures)
@@ -24,7 +25,7 @@ given-requires : tie.Need-given-requires
 given-requires c κs = search needs
 
 returns-2 : tie.Need-returns-2
-unfolding commandAnswer commandCause
+unfolding outcomeOf commandCause
 returns-2 c =
     let checked = c .before .before in
     simp (← checked .before .before .first-cause .ensures, eq-eqb _ 0 (checked .before .if1 .left), ← checked .checks-of .ensures, c .before .if2 .taken) (c .given .ensures)
@@ -33,7 +34,7 @@ refused-requires-2 : tie.Need-refused-requires-2
 refused-requires-2 c κs = search needs
 
 returns-3 : tie.Need-returns-3
-unfolding commandAnswer commandCause
+unfolding outcomeOf commandCause
 returns-3 c =
     let at-if2 = c .before .before .before in
     let checked = at-if2 .before in
@@ -46,7 +47,7 @@ skipped-requires : tie.Need-skipped-requires
 skipped-requires c κs = search needs
 
 returns-4 : tie.Need-returns-4
-unfolding commandAnswer commandCause
+unfolding outcomeOf commandCause
 returns-4 c =
     let at-continue = c .before .before in
     let at-if3 = at-continue .before .before in
@@ -61,7 +62,7 @@ refused-requires-3 : tie.Need-refused-requires-3
 refused-requires-3 c κs = search needs
 
 returns-5 : tie.Need-returns-5
-unfolding commandAnswer commandCause
+unfolding outcomeOf commandCause
 returns-5 c =
     let at-crossed = c .before .before in
     let at-if4 = at-crossed .before .before in
@@ -75,7 +76,7 @@ execute-requires : tie.Need-execute-requires
 execute-requires c κs = search needs
 
 returns-6 : tie.Need-returns-6
-unfolding commandAnswer commandCause
+unfolding outcomeOf commandCause
 returns-6 c =
     let at-crossed = c .before .before in
     let at-if4 = at-crossed .before .before in

@@ -21,7 +21,13 @@ cons-updated-requires c κs = search needs
 
 returns : tie.Need-returns
 unfolding loopSet
-returns c = ?
+returns c =
+    let at-act = c .before .before .before .before in
+    let at-settings = at-act .before .before .before .before .before in
+    let args = at-settings .before .before .args in
+    let changed : Lamp = withLoop (args .lamp) (args .lamp .color) (updated (args .lamp .looping) (args .flags) (args .direction) (args .time) (args .start-hue)) in
+    rw (c .before .before .cons-updated .ensures, at-act .act .ensures, at-act .before .contains .ensures, at-settings .updated-settings .ensures)
+    (done-fronted changed (updatedReported (args .flags)) (hasFlag (args .flags) updateAction) (args .action))
 
 pub set-loop-spec : {M : Type 1} → statement M
 set-loop-spec =

@@ -1,7 +1,5 @@
 -- A task given brings the notice 17 alone.
-use native.Mathlib.Omega.{arith}
-use mathlib.Core.List.{[]}
-use Rattle.notices.proofs.Laws.{pushed-noted}
+use Rattle.notices.specs.Numerals.{inFront}
 use borrow.Author.Needs.{needs}
 use Rattle.commands.proofs.outcomes.given.Statement.{statement}
 use Rattle.commands.proofs.outcomes.given.Tie as tie
@@ -9,11 +7,12 @@ use Rattle.commands.proofs.outcomes.given.Tie as tie
 new-requires : tie.Need-new-requires
 new-requires c κs = search needs
 
-push-requires : tie.Need-push-requires
-push-requires c κs = search needs
+cons-requires : tie.Need-cons-requires
+cons-requires c κs = search needs
 
 returns : tie.Need-returns
-returns c = simp (c .push .ensures, c .before .new .ensures, pushed-noted [] 17 (omega arith))
+unfolding inFront
+returns c = simp (c .cons .ensures, c .before .new .ensures)
 
 pub given-spec : {M : Type 1} → statement M
-given-spec = tie.close (tie.spec new-requires push-requires returns)
+given-spec = tie.close (tie.spec new-requires cons-requires returns)
