@@ -1,8 +1,6 @@
--- Laws that the proofs of several functions cite: what a form says of an integer's size, and that notices pushed one after the
--- other are pushed as one list.
+-- Laws that the proofs of several functions cite: what validity says of an integer's size.
 use Prim.Native.Nat.{ℕ, _≤_, _<_}
 use mathlib.Core.Bool.{true, not}
-use mathlib.Core.List.{List, [], _∷_, _++_}
 use mathlib.Core.Path.{_≡_, refl}
 use native.Mathlib.Omega.{arith}
 use lib.IntN.{ℤ, pos, negsuc, negℤ, natAbs, _-ℤ_}
@@ -12,9 +10,6 @@ use borrow.Author.Tests.{leb-true}
 use Rattle.integers.proofs.Sizes.{abs-neg, abs-difference}
 use Rattle.matter.specs.declared.enums.MoveModeEnum.{MoveModeEnum}
 use Rattle.matter.proofs.Laws.{and-left, and-right}
-use Rattle.notices.specs.declared.Notices.{Notices}
-use Rattle.notices.specs.Notices.{pushed, pushedAll}
-use Rattle.notices.proofs.Laws.{pushed-append, pushed-behind}
 use Rattle.progress.specs.Progress.{limited}
 use Rattle.progress.proofs.Laws.{limited-same}
 use Rattle.tasks.specs.Valid.{small, rateValid}
@@ -47,9 +42,3 @@ signed-same mode rate h = limited-same (signed mode rate) (omega (arith, signed-
 -- and so is a way between two numbers of sixteen bits
 pub between-same : (start target : ℕ) → start < 65536 → target < 65536 → limited (pos target -ℤ pos start) ≡ pos target -ℤ pos start
 between-same start target h k = limited-same (pos target -ℤ pos start) (omega (arith, abs-difference target start))
-
--- ---- notices
-
--- two setters, the device, and what may follow
-pub two-setters : (n : Notices) (xs ys : List ℕ) (x : ℕ) (zs : List ℕ) → pushedAll (pushed (pushedAll (pushedAll n xs) ys) x) zs ≡ pushedAll n (xs ++ ys ++ (x ∷ []) ++ zs)
-two-setters n xs ys x zs = rw (pushed-append n xs ys, pushed-behind n (xs ++ ys) x, pushed-append n (xs ++ ys ++ (x ∷ [])) zs)

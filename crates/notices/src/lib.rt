@@ -2,7 +2,7 @@
 use std::num::wrapping_add_usize;
 ghost use mathlib.Core.Path.{_≡_};
 ghost use mathlib.Core.List.{[]};
-ghost use Rattle.notices.specs.Notices.{pushed, only, noted};
+ghost use Rattle.notices.specs.Notices.{only, noted};
 ghost use Rattle.notices.specs.Numerals.{empty, consed, inFront, placed};
 
 // The numbers of the notices, as document 01 lists them.
@@ -52,21 +52,6 @@ impl Notices {
         Notices {
             places: [0; 16],
             len: 0,
-        }
-    }
-
-    // One notice more. A full list stays as it is.
-    pub fn push(self, number: u8) -> Self
-        ensures { λ r. ⌜ r ≡ pushed self number ⌝ }
-    {
-        let at = self.len;
-        if at < 16 {
-            let mut next = self;
-            next.places[at] = number;
-            next.len = at + 1;
-            next
-        } else {
-            self
         }
     }
 }

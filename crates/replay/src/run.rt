@@ -19,7 +19,7 @@ use lamp::Lamp;
 use lamp::Made;
 use matter::ACCEPTED;
 use matter::EnhancedColorModeEnum;
-use notices::Notices;
+use notices::Numeral;
 use remaining_time::RemainingTime;
 use tasks::GivenTask;
 use tasks::Running;
@@ -127,7 +127,8 @@ fn recorded(lamp: Lamp, running: Running) -> Answer {
 // A setter's answer: the lamp at the clock, with the colour that was set.
 fn colored(lamp: Lamp, clock: u64, set: ColorSet) -> Answer {
     let color = set.color;
-    let reported = set.notices;
+    let change = set.change;
+    let reported = change.cons(Numeral::new(), lamp.looping.active);
     let now = lamp.at_clock(clock);
     Answer {
         number: ACCEPTED,
@@ -135,7 +136,7 @@ fn colored(lamp: Lamp, clock: u64, set: ColorSet) -> Answer {
             color: color,
             ..now
         },
-        notices: reported,
+        notices: reported.notices(),
         task: GivenTask::Nothing,
         wait: 0,
     }
@@ -147,19 +148,10 @@ fn set_hue(lamp: Lamp, set: HueSetting) -> Answer {
         return lamp.refused(number);
     }
     let color = lamp.color;
-    let looping = lamp.looping;
-    let active = looping.active;
     colored(
         lamp,
         set.clock,
-        color.set_hue(
-            Notices::new(),
-            set.hue,
-            set.is_end,
-            set.is_enhanced,
-            set.clock,
-            active,
-        ),
+        color.set_hue(set.hue, set.is_end, set.is_enhanced, set.clock),
     )
 }
 
@@ -169,18 +161,10 @@ fn set_saturation(lamp: Lamp, set: SaturationSetting) -> Answer {
         return lamp.refused(number);
     }
     let color = lamp.color;
-    let looping = lamp.looping;
-    let active = looping.active;
     colored(
         lamp,
         set.clock,
-        color.set_saturation(
-            Notices::new(),
-            set.saturation,
-            set.is_end,
-            set.clock,
-            active,
-        ),
+        color.set_saturation(set.saturation, set.is_end, set.clock),
     )
 }
 
@@ -190,12 +174,10 @@ fn set_mireds(lamp: Lamp, set: MiredsSetting) -> Answer {
         return lamp.refused(number);
     }
     let color = lamp.color;
-    let looping = lamp.looping;
-    let active = looping.active;
     colored(
         lamp,
         set.clock,
-        color.set_color_temperature(Notices::new(), set.mireds, set.is_end, set.clock, active),
+        color.set_color_temperature(set.mireds, set.is_end, set.clock),
     )
 }
 
