@@ -1,0 +1,298 @@
+// Made by rust/make from crates/commands/src/hues.rt: not to be edited.
+//! The commands of the hue.
+//!
+//! Carried over from project-chip/rs-matter, commit 43f61585a4 (Apache-2.0, see NOTICE), and changed.
+
+use crate::commands::invoke;
+use crate::commands::outcomes::Outcome;
+use crate::commands::outcomes::given;
+use crate::hue::hue_path_delta;
+use crate::lamp::Answer;
+use crate::lamp::Lamp;
+use crate::matter::Command;
+use crate::matter::CommandOptions;
+use crate::matter::DirectionEnum;
+use crate::matter::MoveModeEnum;
+use crate::matter::OnOff;
+use crate::matter::Request;
+use crate::matter::StepModeEnum;
+use crate::tasks::HueDelta;
+use crate::tasks::HueMove;
+use crate::tasks::HueSaturationMoveTo;
+use crate::tasks::TargetSaturation;
+use crate::tasks::Task;
+
+/// A plain hue, or a plain step of it, on the stored circle.
+pub(in crate::commands) fn stored_hue(hue: u8) -> u16 {
+    (hue as u16) * 256
+}
+
+/// A rate in enhanced units: a plain one is 256 of them.
+pub(in crate::commands) fn enhanced_rate(rate: u8, is_enhanced: bool) -> u32 {
+    if is_enhanced {
+        rate as u32
+    } else {
+        (rate as u32) * 256
+    }
+}
+
+/// A step's size with its sign.
+pub(in crate::commands) fn step_delta(mode: StepModeEnum, size: u16) -> i64 {
+    match mode {
+        StepModeEnum::Up => size as i64,
+        StepModeEnum::Down => -(size as i64),
+    }
+}
+
+/// A move by so much of the hue, with a saturation or without; the time is in tenths.
+fn by_delta(
+    lamp: Lamp,
+    delta: i64,
+    saturation: TargetSaturation,
+    tenths: u16,
+    enhanced: bool,
+) -> Outcome {
+    let task = HueSaturationMoveTo {
+        delta: HueDelta::By(delta),
+        saturation: saturation,
+        ms: (tenths as u32) * 100,
+        enhanced: enhanced,
+    };
+    given(lamp, Task::HueSaturationMoveTo(task))
+}
+
+/// A move to a stored hue.
+pub(in crate::commands) fn to_hue(
+    lamp: Lamp,
+    hue: u16,
+    direction: DirectionEnum,
+    tenths: u16,
+    enhanced: bool,
+) -> Outcome {
+    let delta = hue_path_delta(lamp.color.hue, hue, direction) as i64;
+    by_delta(lamp, delta, TargetSaturation::Keep, tenths, enhanced)
+}
+
+/// The hue that a command with both means: the enhanced one, or the plain one on the stored circle.
+fn target_hue(hue: u8, is_enhanced: bool, enhanced_hue: u16) -> u16 {
+    if is_enhanced {
+        enhanced_hue
+    } else {
+        stored_hue(hue)
+    }
+}
+
+/// A move to a hue, by its shortest way, and to a saturation.
+pub(in crate::commands) fn to_both(
+    lamp: Lamp,
+    hue: u8,
+    saturation: u8,
+    tenths: u16,
+    is_enhanced: bool,
+    enhanced_hue: u16,
+) -> Outcome {
+    let target = target_hue(hue, is_enhanced, enhanced_hue);
+    let delta = hue_path_delta(lamp.color.hue, target, DirectionEnum::Shortest) as i64;
+    by_delta(
+        lamp,
+        delta,
+        TargetSaturation::To(saturation),
+        tenths,
+        is_enhanced,
+    )
+}
+
+/// A step of the hue in stored units.
+pub(in crate::commands) fn step_hue(
+    lamp: Lamp,
+    mode: StepModeEnum,
+    size: u16,
+    tenths: u16,
+    enhanced: bool,
+) -> Outcome {
+    by_delta(
+        lamp,
+        step_delta(mode, size),
+        TargetSaturation::Keep,
+        tenths,
+        enhanced,
+    )
+}
+
+/// A move of the hue at a rate in enhanced units.
+pub(in crate::commands) fn move_hue(
+    lamp: Lamp,
+    mode: MoveModeEnum,
+    rate: u32,
+    enhanced: bool,
+) -> Outcome {
+    let task = HueMove {
+        direction: mode,
+        rate: rate,
+        enhanced: enhanced,
+    };
+    given(lamp, Task::HueMove(task))
+}
+
+/// MoveToHue: to a plain hue, by the way that `direction` asks for.
+pub fn cmd_move_to_hue(
+    lamp: Lamp,
+    hue: u8,
+    direction: DirectionEnum,
+    transition_time_ds: u16,
+    options_mask: u8,
+    options_override: u8,
+    on_off: OnOff,
+    clock: u64,
+) -> Answer {
+    let command = Command::MoveToHue {
+        hue,
+        direction,
+        time: transition_time_ds,
+    };
+    let options = CommandOptions {
+        mask: options_mask,
+        overrides: options_override,
+    };
+    invoke(lamp, Request { options, command }, on_off, clock)
+}
+
+/// EnhancedMoveToHue: the same, to an enhanced hue.
+pub fn cmd_enhanced_move_to_hue(
+    lamp: Lamp,
+    enhanced_hue: u16,
+    direction: DirectionEnum,
+    transition_time_ds: u16,
+    options_mask: u8,
+    options_override: u8,
+    on_off: OnOff,
+    clock: u64,
+) -> Answer {
+    let command = Command::EnhancedMoveToHue {
+        hue: enhanced_hue,
+        direction,
+        time: transition_time_ds,
+    };
+    let options = CommandOptions {
+        mask: options_mask,
+        overrides: options_override,
+    };
+    invoke(lamp, Request { options, command }, on_off, clock)
+}
+
+/// MoveHue: at a rate in plain units a second, or in enhanced ones.
+pub fn cmd_move_hue(
+    lamp: Lamp,
+    move_mode: MoveModeEnum,
+    rate: u8,
+    options_mask: u8,
+    options_override: u8,
+    is_enhanced: bool,
+    on_off: OnOff,
+    clock: u64,
+) -> Answer {
+    let command = Command::MoveHue {
+        mode: move_mode,
+        rate,
+        enhanced: is_enhanced,
+    };
+    let options = CommandOptions {
+        mask: options_mask,
+        overrides: options_override,
+    };
+    invoke(lamp, Request { options, command }, on_off, clock)
+}
+
+/// EnhancedMoveHue: at a rate in enhanced units a second.
+pub fn cmd_enhanced_move_hue(
+    lamp: Lamp,
+    move_mode: MoveModeEnum,
+    rate: u16,
+    options_mask: u8,
+    options_override: u8,
+    on_off: OnOff,
+    clock: u64,
+) -> Answer {
+    let command = Command::EnhancedMoveHue {
+        mode: move_mode,
+        rate,
+    };
+    let options = CommandOptions {
+        mask: options_mask,
+        overrides: options_override,
+    };
+    invoke(lamp, Request { options, command }, on_off, clock)
+}
+
+/// StepHue: by a step in plain units.
+pub fn cmd_step_hue(
+    lamp: Lamp,
+    step_mode: StepModeEnum,
+    step_size: u8,
+    transition_time_ds: u16,
+    options_mask: u8,
+    options_override: u8,
+    on_off: OnOff,
+    clock: u64,
+) -> Answer {
+    let command = Command::StepHue {
+        mode: step_mode,
+        size: step_size,
+        time: transition_time_ds,
+    };
+    let options = CommandOptions {
+        mask: options_mask,
+        overrides: options_override,
+    };
+    invoke(lamp, Request { options, command }, on_off, clock)
+}
+
+/// EnhancedStepHue: by a step in enhanced units.
+pub fn cmd_enhanced_step_hue(
+    lamp: Lamp,
+    step_mode: StepModeEnum,
+    step_size: u16,
+    transition_time_ds: u16,
+    options_mask: u8,
+    options_override: u8,
+    on_off: OnOff,
+    clock: u64,
+) -> Answer {
+    let command = Command::EnhancedStepHue {
+        mode: step_mode,
+        size: step_size,
+        time: transition_time_ds,
+    };
+    let options = CommandOptions {
+        mask: options_mask,
+        overrides: options_override,
+    };
+    invoke(lamp, Request { options, command }, on_off, clock)
+}
+
+/// MoveToHueAndSaturation, and the enhanced one: the hue by its shortest way.
+pub fn cmd_move_to_hue_and_saturation(
+    lamp: Lamp,
+    hue: u8,
+    saturation: u8,
+    transition_time_ds: u16,
+    options_mask: u8,
+    options_override: u8,
+    is_enhanced: bool,
+    enhanced_hue: u16,
+    on_off: OnOff,
+    clock: u64,
+) -> Answer {
+    let command = Command::MoveToHueAndSaturation {
+        hue,
+        saturation,
+        time: transition_time_ds,
+        enhanced: is_enhanced,
+        enhanced_hue,
+    };
+    let options = CommandOptions {
+        mask: options_mask,
+        overrides: options_override,
+    };
+    invoke(lamp, Request { options, command }, on_off, clock)
+}

@@ -1,0 +1,59 @@
+// Made by rust/make from crates/hue/src/lib.rt: not to be edited.
+//! Hues on their circle of 65,536 places: the way from one to another, a hue moved by a part of a way, and the hue
+//! that is shown. Document 01, leaf 1.
+//!
+//! Carried over from project-chip/rs-matter, commit 43f61585a4 (Apache-2.0, see NOTICE), and changed.
+
+use crate::matter::DirectionEnum;
+
+/// The distance up from one hue to another. The distance down is the distance up the other way round.
+fn distance_up(from: u16, to: u16) -> u16 {
+    u16::wrapping_sub(to, from)
+}
+
+fn plus(n: u16) -> i32 {
+    n as i32
+}
+
+fn minus(n: u16) -> i32 {
+    -(n as i32)
+}
+
+/// The signed way from `current` to `target`, in the direction asked for.
+pub fn hue_path_delta(current: u16, target: u16, direction: DirectionEnum) -> i32 {
+    let up_distance = distance_up(current, target);
+    let down_distance = distance_up(target, current);
+    match direction {
+        DirectionEnum::Up => plus(up_distance),
+        DirectionEnum::Down => minus(down_distance),
+        DirectionEnum::Shortest => {
+            if up_distance <= down_distance {
+                plus(up_distance)
+            } else {
+                minus(down_distance)
+            }
+        }
+        DirectionEnum::Longest => {
+            if up_distance > down_distance {
+                plus(up_distance)
+            } else {
+                minus(down_distance)
+            }
+        }
+    }
+}
+
+/// The hue a signed part away from `start`. It wraps past 65,535 to 0, and below 0 to 65,535, on purpose.
+pub fn moved_hue(start: u16, part: i64) -> u16 {
+    let turn = part % 65536;
+    if turn >= 0 {
+        u16::wrapping_add(start, turn as u16)
+    } else {
+        u16::wrapping_sub(start, (0 - turn) as u16)
+    }
+}
+
+/// CurrentHue: the one byte that is shown of the stored hue.
+pub fn current_hue(hue: u16) -> u8 {
+    (hue / 256) as u8
+}
