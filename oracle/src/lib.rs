@@ -40,6 +40,7 @@ pub use stubs::{dm, error, persist, tlv, utils};
 pub mod aimed;
 pub mod corners;
 pub mod data;
+pub mod maker;
 pub mod protocol;
 pub mod random;
 include!(concat!(env!("OUT_DIR"), "/guard_mod.rs"));

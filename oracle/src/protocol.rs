@@ -36,6 +36,7 @@ struct Lamp {
     running: Option<(usize, Running)>,
 }
 
+#[derive(Clone, Copy)]
 pub enum Call {
     Lamp(Fields),
     New(u16, u16, u32, u8, u64),
@@ -56,8 +57,21 @@ pub enum Call {
     ModeOf(EnhancedColorModeEnum),
 }
 
+/// What a call is answered with.
+pub enum Reply {
+    Delta(i32),
+    Remaining(bool, u16),
+    Leave(bool),
+    ModeOf(ColorModeEnum),
+    /// A making that is refused.
+    NotMade(u8),
+    /// Too early: there is no lamp, or no task was given.
+    Error,
+    OnLamp(End),
+}
+
 /// How a call on a lamp ended.
-enum End {
+pub enum End {
     Done {
         given: Option<Task>,
         wait: u64,
@@ -119,59 +133,74 @@ impl Player {
             return;
         }
         match read(line) {
-            Some(call) => self.call(call, out),
+            Some(call) => {
+                let reply = self.play(call);
+                self.write(reply, out)
+            }
             None => out.extend_from_slice(b"error"),
         }
         out.push(b'\n');
     }
 
-    fn call(&mut self, call: Call, out: &mut Vec<u8>) {
-        match call {
-            Call::Delta(current, target, direction) => {
-                signed(out, driver::leaf_delta(current, target, direction).into())
-            }
-            Call::Remaining(old, ms, start) => {
-                let (told, new) = driver::leaf_remaining(old, ms, start);
+    fn write(&self, reply: Reply, out: &mut Vec<u8>) {
+        match reply {
+            Reply::Delta(delta) => signed(out, delta.into()),
+            Reply::Remaining(told, new) => {
                 number(out, told as u64);
                 out.push(b' ');
                 number(out, new.into());
             }
-            Call::Leave(on_off, options, mask, over) => {
-                let leave = self.handlers[0].should_continue(on_off, options, mask, over);
-                number(out, leave as u64);
+            Reply::Leave(leave) => number(out, leave as u64),
+            Reply::ModeOf(mode) => number(out, mode as u64),
+            Reply::NotMade(cause) => {
+                out.extend_from_slice(b"refused ");
+                number(out, cause.into());
             }
-            Call::ModeOf(emode) => number(out, driver::leaf_mode_of(emode) as u64),
+            Reply::Error => out.extend_from_slice(b"error"),
+            Reply::OnLamp(end) => self.answer(end, out),
+        }
+    }
+
+    /// Answers one call.
+    pub fn play(&mut self, call: Call) -> Reply {
+        match call {
+            Call::Delta(current, target, direction) => {
+                Reply::Delta(driver::leaf_delta(current, target, direction))
+            }
+            Call::Remaining(old, ms, start) => {
+                let (told, new) = driver::leaf_remaining(old, ms, start);
+                Reply::Remaining(told, new)
+            }
+            Call::Leave(on_off, options, mask, over) => {
+                Reply::Leave(self.handlers[0].should_continue(on_off, options, mask, over))
+            }
+            Call::ModeOf(emode) => Reply::ModeOf(driver::leaf_mode_of(emode)),
             Call::New(min, max, features, options, clock) => {
                 if clock > guard::LIMIT {
-                    out.extend_from_slice(b"refused 4");
+                    Reply::NotMade(4)
                 } else if min > max {
-                    out.extend_from_slice(b"refused 5");
+                    Reply::NotMade(5)
                 } else {
                     self.put(driver::fresh(min, max, features, options, clock));
-                    self.answer(QUIET, out);
+                    Reply::OnLamp(QUIET)
                 }
             }
             Call::Lamp(fields) => {
                 self.put(fields);
-                self.answer(QUIET, out);
+                Reply::OnLamp(QUIET)
             }
             call => {
                 if self.lamp.is_none() {
-                    out.extend_from_slice(b"error");
-                    return;
+                    return Reply::Error;
                 }
                 let call = match call {
                     Call::StartLast(clock) => match self.last {
                         Some(task) => Call::Start(task, clock),
-                        None => {
-                            out.extend_from_slice(b"error");
-                            return;
-                        }
+                        None => return Reply::Error,
                     },
                     call => call,
                 };
-                let end = self.on_lamp(call);
-                self.answer(end, out);
+                Reply::OnLamp(self.on_lamp(call))
             }
         }
     }
