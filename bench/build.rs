@@ -1,9 +1,12 @@
-//! Links the library: `rt staticlib exports` and `rt staticlib measure` write it.
+//! Links the library, unless its sides are left out: `rt staticlib exports` and `rt staticlib measure` write it.
 
 use std::env;
 use std::path::PathBuf;
 
 fn main() {
+    if env::var_os("CARGO_FEATURE_ARCHIVE").is_none() {
+        return;
+    }
     let here = PathBuf::from(env::var("CARGO_MANIFEST_DIR").unwrap());
     let folder = here.join("../target/staticlib");
     println!("cargo:rustc-link-search=native={}", folder.display());

@@ -1,7 +1,7 @@
 //! The library by its exported functions.
 
 use crate::sums::Sums;
-use crate::words::{ANSWER, CALL, LAMP};
+use crate::words::{ANSWER, CALL, LAMP, UNREADABLE};
 
 extern "C" {
     /// Runs the calls on the lamp, and answers the checksum (crate `measure`).
@@ -41,7 +41,7 @@ pub fn one_by_one(lamp: &[u64; LAMP], calls: &[u64]) -> u64 {
                 ANSWER,
             )
         };
-        if number == 100 {
+        if number == UNREADABLE.into() {
             answer = [0; ANSWER];
             answer[0] = number;
         }

@@ -11,11 +11,7 @@ use oracle_lib::protocol::record_of;
 use oracle_lib::recorder;
 
 use crate::sums::Sums;
-use crate::words::{self, Call, Timed};
-
-const IDLE: [u64; 10] = [0; 10];
-/// What `crates/exports` answers to a call that it cannot read.
-const UNREADABLE: u64 = 100;
+use crate::words::{self, Call, Timed, IDLE, NO_TASK, UNREADABLE};
 
 struct Side<'a, H: 'static> {
     handler: &'static H,
@@ -62,7 +58,7 @@ impl<H: Handler + 'static> Side<'_, H> {
             let running = polled == Poll::Pending;
             self.record = if running { record } else { IDLE };
             let wait = if running { recorder::wait() } else { 0 };
-            self.fold(0, clock, true, [0; 7], wait);
+            self.fold(0, clock, true, NO_TASK, wait);
             self.at += 1;
             match self.calls.get(self.at) {
                 Some(Timed {
@@ -97,7 +93,7 @@ pub fn run<H: Handler + 'static>(handler: &'static H, lamp: &Fields, calls: &[Ti
                 recorder::begin(*clock);
                 let (result, given) = handler.command(*on_off, command, *mask, *over);
                 let number = if result.is_ok() { 0 } else { u64::MAX };
-                let task = given.map_or([0; 7], |t| words::of_task(&t));
+                let task = given.map_or(NO_TASK, |t| words::of_task(&t));
                 side.fold(number, *clock, true, task, 0);
                 side.at += 1;
             }
@@ -105,16 +101,16 @@ pub fn run<H: Handler + 'static>(handler: &'static H, lamp: &Fields, calls: &[Ti
             Call::Step => unreachable!("a step of an idle lamp"),
             Call::Halt => {
                 side.record = IDLE;
-                side.fold(0, *clock, false, [0; 7], 0);
+                side.fold(0, *clock, false, NO_TASK, 0);
                 side.at += 1;
             }
             Call::Nothing => {
                 recorder::begin(*clock);
                 // As in a command: what it gives is not known beforehand.
                 let given: Option<Task> = black_box(None);
-                let task = given.map_or([0; 7], |t| words::of_task(&t));
+                let task = given.map_or(NO_TASK, |t| words::of_task(&t));
                 let before = side.fields.clock;
-                side.fold(UNREADABLE, before, true, task, 0);
+                side.fold(UNREADABLE.into(), before, true, task, 0);
                 side.at += 1;
             }
         }

@@ -1,10 +1,19 @@
 //! Lamps, calls, tasks and records as the words of `crates/exports`.
 
+// Without the archive no lamp and no call is sent as words.
+#![cfg_attr(not(feature = "archive"), allow(dead_code))]
+
 use oracle_lib::data::{Command, Fields, OnOff, Record, Task};
 
 pub const LAMP: usize = 28;
 pub const CALL: usize = 10;
 pub const ANSWER: usize = 25;
+
+/// What `crates/exports` answers to a call that it cannot read.
+pub const UNREADABLE: u8 = 100;
+/// The record of an idle lamp, and the task where none is given.
+pub const IDLE: [u64; 10] = [0; 10];
+pub const NO_TASK: [u64; 7] = [0; 7];
 
 const START: u64 = 256;
 const STEP: u64 = 257;
@@ -61,6 +70,7 @@ pub fn of_task(task: &Task) -> [u64; 7] {
     }
 }
 
+#[inline(always)]
 pub fn of_record(r: &Record) -> [u64; 10] {
     let [k, a, b, c, d, e, f] = of_task(&r.task);
     let (x, y) = match r.task {
