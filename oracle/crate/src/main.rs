@@ -12,6 +12,9 @@ use oracle_lib::random::Random;
 use oracle_lib::recorder;
 use yemkruos::Answer;
 
+/// The crate reads no lines, so these are passed over.
+const NO_CALL: &str = "(lines that are no calls, not compared)";
+
 struct Both {
     rust: protocol::Player,
     ours: crate_side::Player,
@@ -32,6 +35,11 @@ impl Both {
             story: Vec::new(),
             counts: BTreeMap::new(),
         }
+    }
+
+    /// How many calls both sides have answered.
+    fn compared(&self) -> u64 {
+        self.lines - self.counts.get(NO_CALL).unwrap_or(&0)
     }
 
     fn tell(&mut self, line: &[u8], call: &Call) {
@@ -136,9 +144,8 @@ impl Stage for Both {
     fn say(&mut self, line: &[u8]) -> Said {
         let readable = !line.is_empty() && line[0] != b'#' && line.len() <= LONGEST;
         let Some(call) = readable.then(|| read(line)).flatten() else {
-            // The crate reads no lines.
             self.lines += 1;
-            *self.counts.entry("(lines that are no calls)").or_default() += 1;
+            *self.counts.entry(NO_CALL).or_default() += 1;
             return Said::Other;
         };
         let theirs = self.rust.play(call);
@@ -187,13 +194,14 @@ fn main() {
     let begin = Instant::now();
     let mut maker = Maker::new(Both::new(), Random::new(seed));
     maker.aimed();
-    maker.random(count);
+    while maker.stage.compared() < count {
+        let missing = count - maker.stage.compared();
+        maker.random(maker.stage.lines() + missing);
+    }
     let both = maker.stage;
     for (name, n) in &both.counts {
         println!("{n:>13}  {name}");
     }
-    let unread = both.counts.get("(lines that are no calls)").unwrap_or(&0);
-    let compared = both.lines - unread;
-    let seconds = begin.elapsed().as_secs_f64();
+    let (compared, seconds) = (both.compared(), begin.elapsed().as_secs_f64());
     println!("{compared} calls compared in {seconds:.0} s, 0 differences");
 }
