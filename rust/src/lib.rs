@@ -95,3 +95,8 @@ pub use matter::{
     DirectionEnum, EnhancedColorModeEnum, MoveModeEnum, OnOff, Request, StepModeEnum,
 };
 pub use tasks::Task;
+
+// The README's example is a test.
+#[cfg(doctest)]
+#[doc = include_str!("../README.md")]
+struct Readme;

@@ -1,0 +1,97 @@
+//! The layer by hand.
+
+use yemkruos::matter::{self, CLOCK_LIMIT};
+use yemkruos::{
+    ALL_FEATURES, Band, Bounds, Command, DirectionEnum, NewLamp, Notice, OnOff, Refusal,
+    passes_through, plain_passes_through,
+};
+
+const NEW: NewLamp = NewLamp {
+    bounds: Bounds { min: 153, max: 500 },
+    features: ALL_FEATURES,
+    options: 0,
+    clock: 5000,
+};
+
+#[test]
+fn numbers_and_names_agree() {
+    let refusals = Refusal::ALL.iter().map(|r| (r.number(), *r));
+    assert!(refusals.clone().map(|(n, _)| n).eq(1..=8));
+    assert!(
+        refusals
+            .into_iter()
+            .all(|(n, r)| Refusal::of_number(n) == Some(r))
+    );
+    let notices = Notice::ALL.iter().map(|n| (n.number(), *n));
+    assert!(notices.clone().map(|(n, _)| n).eq(1..=17));
+    assert!(
+        notices
+            .into_iter()
+            .all(|(n, r)| Notice::of_number(n) == Some(r))
+    );
+    assert_eq!(Refusal::of_number(matter::ACCEPTED), None);
+    assert_eq!(Notice::of_number(0), None);
+}
+
+#[test]
+fn refusals_have_their_causes() {
+    let late = NewLamp {
+        clock: CLOCK_LIMIT + 1,
+        ..NEW
+    };
+    assert_eq!(late.make(), Err(Refusal::Clock));
+    let crossed = NewLamp {
+        bounds: Bounds { min: 2, max: 1 },
+        ..NEW
+    };
+    assert_eq!(crossed.make(), Err(Refusal::CrossedBounds));
+
+    let lamp = NEW.make().unwrap();
+    let send = |command: Command| lamp.command(command, OnOff::On, 5000).map(|_| ());
+    let hue = |hue| Command::move_to_hue(hue, DirectionEnum::Up, 2);
+    assert_eq!(send(hue(255)), Err(Refusal::ConstraintError));
+    assert_eq!(
+        send(Command::move_saturation(matter::MoveModeEnum::Up, 0)),
+        Err(Refusal::InvalidCommand)
+    );
+    let crossed = Command::step_color_temperature(matter::StepModeEnum::Up, 1, 0, 400, 300);
+    assert_eq!(send(crossed), Err(Refusal::CrossedLimits));
+    assert_eq!(lamp.step(5000).result(), Err(Refusal::StepWhileIdle));
+    assert_eq!(lamp.halt(4999).result(), Err(Refusal::Clock));
+    let stop = lamp
+        .command(Command::stop_move_step(), OnOff::On, 5000)
+        .unwrap()
+        .given_task();
+    assert_eq!(
+        lamp.start(stop.unwrap(), 5000).result(),
+        Err(Refusal::InvalidTask)
+    );
+    let mut broken = lamp;
+    broken.color.saturation = 255;
+    assert_eq!(broken.halt(5000).result(), Err(Refusal::InvalidLamp));
+}
+
+/// A lamp that is off skips a command, unless ExecuteIfOff is set.
+#[test]
+fn options_are_heeded() {
+    let lamp = NEW.make().unwrap();
+    let command = Command::move_to_hue(128, DirectionEnum::Shortest, 2);
+    let sent = |request: matter::Request| lamp.command(request, OnOff::Off, 5000).unwrap();
+    assert_eq!(sent(command.into()).given_task(), None);
+    assert!(sent(command.with_options(1, 1)).given_task().is_some());
+}
+
+#[test]
+fn only_two_ways_to_cyan_avoid_green() {
+    let green = Band::of_current_hue(64, 106);
+    assert_eq!((green.low, green.high), (16_384, 27_391));
+    for (direction, passes) in [
+        (DirectionEnum::Shortest, true),
+        (DirectionEnum::Longest, false),
+        (DirectionEnum::Up, true),
+        (DirectionEnum::Down, false),
+    ] {
+        assert_eq!(passes_through(0, 32_768, direction, green), passes);
+        assert_eq!(plain_passes_through(0, 128, direction, green), passes);
+    }
+}
