@@ -3,6 +3,8 @@
 
 mod data;
 mod player;
+#[path = "../../../rust/tests/protocol/setters.rs"]
+mod setters;
 
 pub use data::{Ours, Theirs, fields, kept, lamp, record, running};
 pub use player::{Player, Reply};

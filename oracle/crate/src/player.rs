@@ -6,11 +6,11 @@ use yemkruos::commands::{self, *};
 use yemkruos::hue::hue_path_delta;
 use yemkruos::lamp::{self, Answer, Lamp, Made};
 use yemkruos::matter::{Bounds, color_mode_of, should_continue};
-use yemkruos::notices::Notices;
 use yemkruos::remaining_time::RemainingTime;
 use yemkruos::tasks::{Running, Task};
 
 use crate::data::{Ours, Theirs, lamp, running};
+use crate::setters::{Setter, set};
 
 /// What a call is answered with.
 #[derive(Debug)]
@@ -100,9 +100,13 @@ impl Player {
             Call::StartLast(clock) => commands::call(at, start(self.last?, clock)),
             Call::Step(clock) => commands::call(at, lamp::Call::Step { clock }),
             Call::Halt(clock) => commands::call(at, lamp::Call::Halt { clock }),
-            Call::SetHue(.., clock) | Call::SetSat(.., clock) | Call::SetCt(.., clock) => {
-                set(at, call, clock)
+            Call::SetHue(hue, is_end, enhanced, clock) => {
+                set(at, Setter::Hue { hue, enhanced }, is_end, clock)
             }
+            Call::SetSat(saturation, is_end, clock) => {
+                set(at, Setter::Saturation(saturation), is_end, clock)
+            }
+            Call::SetCt(mireds, is_end, clock) => set(at, Setter::Mireds(mireds), is_end, clock),
             _ => unreachable!("no call of a lamp"),
         })
     }
@@ -115,37 +119,6 @@ fn start(task: Task, clock: u64) -> lamp::Call {
 /// The answer where nothing but the lamp is changed, and nothing reported.
 fn quiet(lamp: Lamp) -> Answer {
     lamp.refused(0)
-}
-
-/// A setter by itself. It is refused as a halt is, and stores the clock.
-fn set(lamp: Lamp, call: Call, clock: u64) -> Answer {
-    let cause = lamp.first_cause(clock);
-    if cause != 0 {
-        return lamp.refused(cause);
-    }
-    let (list, active) = (Notices::new(), lamp.looping.active);
-    let set = match call {
-        Call::SetHue(hue, is_end, is_enhanced, _) => {
-            lamp.color
-                .set_hue(list, hue, is_end, is_enhanced, clock, active)
-        }
-        Call::SetSat(saturation, is_end, _) => lamp
-            .color
-            .set_saturation(list, saturation, is_end, clock, active),
-        Call::SetCt(mireds, is_end, _) => lamp
-            .color
-            .set_color_temperature(list, mireds, is_end, clock, active),
-        _ => unreachable!("no setter"),
-    };
-    let color = set.color;
-    Answer {
-        notices: set.notices,
-        ..quiet(Lamp {
-            color,
-            clock,
-            ..lamp
-        })
-    }
 }
 
 /// A command by the function of its name.

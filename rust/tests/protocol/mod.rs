@@ -1,6 +1,7 @@
 //! The replay protocol (docs/PROTOCOL.md) over the crate: a call's line in, its answer's line out.
 
 mod read;
+mod setters;
 mod write;
 
 use yemkruos::commands;
@@ -8,9 +9,10 @@ use yemkruos::hue::hue_path_delta;
 use yemkruos::lamp::{Answer, Call, Lamp, Made};
 use yemkruos::matter::{Bounds, DirectionEnum, EnhancedColorModeEnum, OnOff};
 use yemkruos::matter::{color_mode_of, should_continue};
-use yemkruos::notices::Notices;
 use yemkruos::remaining_time::RemainingTime;
 use yemkruos::tasks::{GivenTask, Running, Task};
+
+use setters::{Setter, set};
 
 /// The longest line that is read.
 const LONGEST: usize = 4095;
@@ -29,12 +31,6 @@ pub enum Line {
     Remaining(u16, u64, bool),
     Leave(OnOff, u8, u8, u8),
     ModeOf(EnhancedColorModeEnum),
-}
-
-pub enum Setter {
-    Hue(u16, bool),
-    Saturation(u8),
-    Mireds(u16),
 }
 
 #[derive(Default)]
@@ -118,33 +114,4 @@ fn on_lamp(lamp: Lamp, last: Option<Task>, line: Line) -> Option<Answer> {
         Line::Set(setter, is_end, clock) => set(lamp, setter, is_end, clock),
         _ => unreachable!("no call of a lamp"),
     })
-}
-
-/// A setter by itself. It is refused as a halt is, and stores the clock.
-fn set(lamp: Lamp, setter: Setter, is_end: bool, clock: u64) -> Answer {
-    let cause = lamp.first_cause(clock);
-    if cause != 0 {
-        return lamp.refused(cause);
-    }
-    let (list, active) = (Notices::new(), lamp.looping.active);
-    let set = match setter {
-        Setter::Hue(hue, enhanced) => lamp
-            .color
-            .set_hue(list, hue, is_end, enhanced, clock, active),
-        Setter::Saturation(saturation) => lamp
-            .color
-            .set_saturation(list, saturation, is_end, clock, active),
-        Setter::Mireds(mireds) => lamp
-            .color
-            .set_color_temperature(list, mireds, is_end, clock, active),
-    };
-    let color = set.color;
-    Answer {
-        notices: set.notices,
-        ..quiet(Lamp {
-            color,
-            clock,
-            ..lamp
-        })
-    }
 }

@@ -314,7 +314,7 @@ impl Words<'_> {
         Some(match self.0.next()? {
             b"hue" => {
                 let (hue, is_end, enhanced) = (self.u16()?, self.bit()?, self.bit()?);
-                Line::Set(Setter::Hue(hue, enhanced), is_end, self.u64()?)
+                Line::Set(Setter::Hue { hue, enhanced }, is_end, self.u64()?)
             }
             b"sat" => Line::Set(Setter::Saturation(self.u8()?), self.bit()?, self.u64()?),
             b"ct" => Line::Set(Setter::Mireds(self.u16()?), self.bit()?, self.u64()?),
