@@ -9,7 +9,7 @@ use crate::matter::ColorModeEnum;
 use crate::matter::EnhancedColorModeEnum;
 use crate::matter::color_mode_of;
 use crate::matter::default_color_mode;
-use crate::notices::Notices;
+use crate::notices::Numeral;
 use crate::progress::clamped_sum;
 
 /// The clocks at which each attribute was last reported.
@@ -31,11 +31,21 @@ pub struct Color {
     pub stamps: Stamps,
 }
 
-/// The colour after a setter, and the list with what the setter reports.
+/// What a setter has to report: whether the number stays the same, which reports nothing; else whether the attribute is due; its
+/// notice; and whether it is an enhanced hue.
+#[derive(Clone, Copy, Debug, PartialEq, Eq)]
+pub struct Change {
+    pub same: bool,
+    pub due: bool,
+    pub attribute: u8,
+    pub enhanced: bool,
+}
+
+/// The colour after a setter, and the change.
 #[derive(Clone, Copy, Debug, PartialEq, Eq)]
 pub struct ColorSet {
     pub color: Color,
-    pub notices: Notices,
+    pub change: Change,
 }
 
 /// Whether an attribute is reported: at an end, or one second or more after it last was. A stamp after the clock is never
@@ -50,38 +60,9 @@ fn is_due(is_end: bool, stamp: u64, clock: u64) -> bool {
     1000 <= clock - stamp
 }
 
-/// The stamp of an attribute that is reported, or not, at this clock.
+/// The stamp of an attribute that is reported at this clock, or not.
 fn stamp_at(reported: bool, clock: u64, stamp: u64) -> u64 {
     if reported { clock } else { stamp }
-}
-
-/// What a change reports: persistence first, unless the loop is active; where it is due the attribute, with an enhanced
-/// hue that too, and both modes; scenes last.
-fn report_change(
-    list: Notices,
-    loop_active: bool,
-    reported: bool,
-    attribute: u8,
-    is_enhanced: bool,
-) -> Notices {
-    list.push_each(
-        [
-            !loop_active,
-            reported,
-            reported & is_enhanced,
-            reported,
-            reported,
-            true,
-        ],
-        [
-            crate::notices::MARKED_DIRTY,
-            attribute,
-            crate::notices::ENHANCED_CURRENT_HUE,
-            crate::notices::COLOR_MODE,
-            crate::notices::ENHANCED_COLOR_MODE,
-            crate::notices::SCENES_NOTIFIED,
-        ],
-    )
 }
 
 fn hue_mode(is_enhanced: bool) -> EnhancedColorModeEnum {
@@ -114,6 +95,33 @@ fn modes_agree(mode: ColorModeEnum, emode: EnhancedColorModeEnum) -> bool {
     mode.number() == color_mode_of(emode).number()
 }
 
+impl Change {
+    /// Where nothing is set.
+    pub fn none() -> Self {
+        Change {
+            same: true,
+            due: false,
+            attribute: 0,
+            enhanced: false,
+        }
+    }
+
+    /// The change's notices in front of a list: persistence first, unless the loop is active; where it is due the attribute,
+    /// with an enhanced hue that too, and both modes; scenes last.
+    pub fn cons(self, list: Numeral, loop_active: bool) -> Numeral {
+        if self.same {
+            return list;
+        }
+        let due = self.due;
+        list.cons(crate::notices::SCENES_NOTIFIED)
+            .cons_if(due, crate::notices::ENHANCED_COLOR_MODE)
+            .cons_if(due, crate::notices::COLOR_MODE)
+            .cons_if(due & self.enhanced, crate::notices::ENHANCED_CURRENT_HUE)
+            .cons_if(due, self.attribute)
+            .cons_if(!loop_active, crate::notices::MARKED_DIRTY)
+    }
+}
+
 impl Color {
     /// The colour of a fresh lamp with these features and bounds.
     pub fn new(feature_map: u32, bounds: Bounds) -> Self {
@@ -133,32 +141,22 @@ impl Color {
     }
 
     /// Sets the hue, and reports it as plain or enhanced.
-    pub fn set_hue(
-        self,
-        list: Notices,
-        new_eh: u16,
-        is_end: bool,
-        is_enhanced: bool,
-        clock: u64,
-        loop_active: bool,
-    ) -> ColorSet {
+    pub fn set_hue(self, new_eh: u16, is_end: bool, is_enhanced: bool, clock: u64) -> ColorSet {
         if (self.hue == new_eh) & !is_end {
             return ColorSet {
                 color: self,
-                notices: list,
+                change: Change {
+                    same: true,
+                    due: false,
+                    attribute: crate::notices::CURRENT_HUE,
+                    enhanced: is_enhanced,
+                },
             };
         }
         let stamps = self.stamps;
-        let reported = is_due(is_end, stamps.hue, clock);
-        let stamp = stamp_at(reported, clock, stamps.hue);
+        let due = is_due(is_end, stamps.hue, clock);
+        let stamp = stamp_at(due, clock, stamps.hue);
         let emode = hue_mode(is_enhanced);
-        let next = report_change(
-            list,
-            loop_active,
-            reported,
-            crate::notices::CURRENT_HUE,
-            is_enhanced,
-        );
         ColorSet {
             color: Color {
                 hue: new_eh,
@@ -170,37 +168,33 @@ impl Color {
                 },
                 ..self
             },
-            notices: next,
+            change: Change {
+                same: false,
+                due: due,
+                attribute: crate::notices::CURRENT_HUE,
+                enhanced: is_enhanced,
+            },
         }
     }
 
     /// Sets the saturation.
-    pub fn set_saturation(
-        self,
-        list: Notices,
-        new_sat: u8,
-        is_end: bool,
-        clock: u64,
-        loop_active: bool,
-    ) -> ColorSet {
+    pub fn set_saturation(self, new_sat: u8, is_end: bool, clock: u64) -> ColorSet {
         if (self.saturation == new_sat) & !is_end {
             return ColorSet {
                 color: self,
-                notices: list,
+                change: Change {
+                    same: true,
+                    due: false,
+                    attribute: crate::notices::CURRENT_SATURATION,
+                    enhanced: false,
+                },
             };
         }
         let stamps = self.stamps;
-        let reported = is_due(is_end, stamps.saturation, clock);
-        let stamp = stamp_at(reported, clock, stamps.saturation);
+        let due = is_due(is_end, stamps.saturation, clock);
+        let stamp = stamp_at(due, clock, stamps.saturation);
         let old = self.emode;
         let emode = kept_hue_mode(old);
-        let next = report_change(
-            list,
-            loop_active,
-            reported,
-            crate::notices::CURRENT_SATURATION,
-            false,
-        );
         ColorSet {
             color: Color {
                 saturation: new_sat,
@@ -212,35 +206,31 @@ impl Color {
                 },
                 ..self
             },
-            notices: next,
+            change: Change {
+                same: false,
+                due: due,
+                attribute: crate::notices::CURRENT_SATURATION,
+                enhanced: false,
+            },
         }
     }
 
     /// Sets the mireds.
-    pub fn set_color_temperature(
-        self,
-        list: Notices,
-        new_mireds: u16,
-        is_end: bool,
-        clock: u64,
-        loop_active: bool,
-    ) -> ColorSet {
+    pub fn set_color_temperature(self, new_mireds: u16, is_end: bool, clock: u64) -> ColorSet {
         if (self.mireds == new_mireds) & !is_end {
             return ColorSet {
                 color: self,
-                notices: list,
+                change: Change {
+                    same: true,
+                    due: false,
+                    attribute: crate::notices::COLOR_TEMPERATURE_MIREDS,
+                    enhanced: false,
+                },
             };
         }
         let stamps = self.stamps;
-        let reported = is_due(is_end, stamps.mireds, clock);
-        let stamp = stamp_at(reported, clock, stamps.mireds);
-        let next = report_change(
-            list,
-            loop_active,
-            reported,
-            crate::notices::COLOR_TEMPERATURE_MIREDS,
-            false,
-        );
+        let due = is_due(is_end, stamps.mireds, clock);
+        let stamp = stamp_at(due, clock, stamps.mireds);
         ColorSet {
             color: Color {
                 mireds: new_mireds,
@@ -252,7 +242,12 @@ impl Color {
                 },
                 ..self
             },
-            notices: next,
+            change: Change {
+                same: false,
+                due: due,
+                attribute: crate::notices::COLOR_TEMPERATURE_MIREDS,
+                enhanced: false,
+            },
         }
     }
 

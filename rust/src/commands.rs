@@ -150,7 +150,7 @@ pub fn invoke(lamp: Lamp, request: Request, on_off: OnOff, clock: u64) -> Answer
     let o = outcome(lamp, request, on_off, clock);
     let color = o.color;
     let looping = o.looping;
-    let notices = o.notices;
+    let reported = o.reported;
     let task = o.task;
     Answer {
         number: o.number,
@@ -160,10 +160,23 @@ pub fn invoke(lamp: Lamp, request: Request, on_off: OnOff, clock: u64) -> Answer
             looping: looping,
             ..lamp
         },
-        notices: notices,
+        notices: reported.notices(),
         task: task,
         wait: 0,
     }
+}
+
+/// A command with its options, as the `cmd_` functions take them.
+pub(in crate::commands) fn with_options(
+    lamp: Lamp,
+    command: Command,
+    mask: u8,
+    overrides: u8,
+    on_off: OnOff,
+    clock: u64,
+) -> Answer {
+    let options = CommandOptions { mask, overrides };
+    invoke(lamp, Request { options, command }, on_off, clock)
 }
 
 /// StopMoveStep.
@@ -175,11 +188,7 @@ pub fn cmd_stop_move_step(
     clock: u64,
 ) -> Answer {
     let command = Command::StopMoveStep;
-    let options = CommandOptions {
-        mask: options_mask,
-        overrides: options_override,
-    };
-    invoke(lamp, Request { options, command }, on_off, clock)
+    with_options(lamp, command, options_mask, options_override, on_off, clock)
 }
 
 /// Any call of a lamp: the one door to commands, starts, steps and halts.

@@ -33,15 +33,15 @@ pub struct LoopSettings {
     pub stored: u16,
 }
 
-/// The clock is the last accepted call's; `options` is the lamp's own option byte.
+/// The clock is the last accepted call's; `options` is the lamp's own option byte. The order of the fields leaves no gap.
 #[derive(Clone, Copy, Debug, PartialEq, Eq)]
 pub struct Lamp {
     pub clock: u64,
     pub bounds: Bounds,
-    pub color: Color,
-    pub looping: LoopSettings,
     pub remaining: RemainingTime,
     pub options: u8,
+    pub color: Color,
+    pub looping: LoopSettings,
     pub running: Running,
 }
 

@@ -49,42 +49,69 @@ impl Notices {
             len: 0,
         }
     }
+}
 
-    /// One notice more. A full list stays as it is.
-    pub fn push(self, number: u8) -> Self {
-        let at = self.len;
-        if at < 16 {
-            let mut next = self;
-            next.places[at] = number;
-            next.len = at + 1;
-            next
-        } else {
-            self
+/// A digit's weight in a word, and that of a word's last digit.
+const DIGIT: u64 = 256;
+
+const LAST: u64 = 72057594037927936;
+
+/// A list while it is built, from its last notice to its first: a numeral of sixteen digits of a byte, the first notice the
+/// lowest, in two words.
+#[derive(Clone, Copy, Debug, PartialEq, Eq)]
+pub struct Numeral {
+    pub low: u64,
+    pub high: u64,
+    pub len: usize,
+}
+
+impl Numeral {
+    pub fn new() -> Self {
+        Numeral {
+            low: 0,
+            high: 0,
+            len: 0,
         }
     }
 
-    /// One notice more where the test holds.
-    pub fn push_if(self, test: bool, number: u8) -> Self {
-        if test { self.push(number) } else { self }
+    /// A notice in front of the list.
+    pub fn cons(self, number: u8) -> Self {
+        Numeral {
+            low: self.low % LAST * DIGIT + (number as u64),
+            high: self.high % LAST * DIGIT + self.low / LAST,
+            len: usize::wrapping_add(self.len, 1),
+        }
     }
 
-    /// Of six notices those whose tests hold, one after the other.
-    pub fn push_each(self, tests: [bool; 6], numbers: [u8; 6]) -> Self {
-        let mut places = self.places;
-        let mut len = self.len;
-        let mut i = 0;
-        while i < 6 {
-            if tests[i] {
-                if len < 16 {
-                    places[len] = numbers[i];
-                    len += 1;
-                }
-            }
-            i += 1;
-        }
+    /// A notice in front where the test holds.
+    pub fn cons_if(self, test: bool, number: u8) -> Self {
+        if test { self.cons(number) } else { self }
+    }
+
+    /// The list in its places.
+    pub fn notices(self) -> Notices {
+        let low = self.low;
+        let high = self.high;
         Notices {
-            places: places,
-            len: len,
+            places: [
+                (low % 256) as u8,
+                (low / 256 % 256) as u8,
+                (low / 65536 % 256) as u8,
+                (low / 16777216 % 256) as u8,
+                (low / 4294967296 % 256) as u8,
+                (low / 1099511627776 % 256) as u8,
+                (low / 281474976710656 % 256) as u8,
+                (low / 72057594037927936 % 256) as u8,
+                (high % 256) as u8,
+                (high / 256 % 256) as u8,
+                (high / 65536 % 256) as u8,
+                (high / 16777216 % 256) as u8,
+                (high / 4294967296 % 256) as u8,
+                (high / 1099511627776 % 256) as u8,
+                (high / 281474976710656 % 256) as u8,
+                (high / 72057594037927936 % 256) as u8,
+            ],
+            len: self.len,
         }
     }
 }

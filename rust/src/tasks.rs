@@ -22,36 +22,36 @@ pub enum TargetSaturation {
     To(u8),
 }
 
-/// To a hue, a saturation or both: the way of the hue, the target, the time in milliseconds, and whether the hue is reported
+/// To a hue, a saturation or both: the way of the hue, the time in milliseconds, the target, and whether the hue is reported
 /// as an enhanced one.
 #[derive(Clone, Copy, Debug, PartialEq, Eq)]
 pub struct HueSaturationMoveTo {
     pub delta: HueDelta,
-    pub saturation: TargetSaturation,
     pub ms: u32,
+    pub saturation: TargetSaturation,
     pub enhanced: bool,
 }
 
 /// The hue at a rate, in enhanced units a second.
 #[derive(Clone, Copy, Debug, PartialEq, Eq)]
 pub struct HueMove {
-    pub direction: MoveModeEnum,
     pub rate: u32,
+    pub direction: MoveModeEnum,
     pub enhanced: bool,
 }
 
 /// The saturation at a rate, in units a second.
 #[derive(Clone, Copy, Debug, PartialEq, Eq)]
 pub struct SaturationMove {
-    pub direction: MoveModeEnum,
     pub rate: u32,
+    pub direction: MoveModeEnum,
 }
 
 /// To a target in mireds, in a time in milliseconds.
 #[derive(Clone, Copy, Debug, PartialEq, Eq)]
 pub struct ColorTemperatureMoveTo {
-    pub target: u16,
     pub ms: u32,
+    pub target: u16,
 }
 
 /// The mireds at a signed rate a second, between the caller's limits.
@@ -115,9 +115,9 @@ pub struct ColorTemperatureToRun {
 pub struct ColorTemperatureRun {
     pub start: u64,
     pub mireds: u16,
-    pub rate: i64,
     pub lo: u16,
     pub hi: u16,
+    pub rate: i64,
 }
 
 #[derive(Clone, Copy, Debug, PartialEq, Eq)]

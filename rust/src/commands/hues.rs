@@ -3,18 +3,16 @@
 //!
 //! Carried over from project-chip/rs-matter, commit 43f61585a4 (Apache-2.0, see NOTICE), and changed.
 
-use crate::commands::invoke;
 use crate::commands::outcomes::Outcome;
 use crate::commands::outcomes::given;
+use crate::commands::with_options;
 use crate::hue::hue_path_delta;
 use crate::lamp::Answer;
 use crate::lamp::Lamp;
 use crate::matter::Command;
-use crate::matter::CommandOptions;
 use crate::matter::DirectionEnum;
 use crate::matter::MoveModeEnum;
 use crate::matter::OnOff;
-use crate::matter::Request;
 use crate::matter::StepModeEnum;
 use crate::tasks::HueDelta;
 use crate::tasks::HueMove;
@@ -150,11 +148,7 @@ pub fn cmd_move_to_hue(
         direction,
         time: transition_time_ds,
     };
-    let options = CommandOptions {
-        mask: options_mask,
-        overrides: options_override,
-    };
-    invoke(lamp, Request { options, command }, on_off, clock)
+    with_options(lamp, command, options_mask, options_override, on_off, clock)
 }
 
 /// EnhancedMoveToHue: the same, to an enhanced hue.
@@ -173,11 +167,7 @@ pub fn cmd_enhanced_move_to_hue(
         direction,
         time: transition_time_ds,
     };
-    let options = CommandOptions {
-        mask: options_mask,
-        overrides: options_override,
-    };
-    invoke(lamp, Request { options, command }, on_off, clock)
+    with_options(lamp, command, options_mask, options_override, on_off, clock)
 }
 
 /// MoveHue: at a rate in plain units a second, or in enhanced ones.
@@ -196,11 +186,7 @@ pub fn cmd_move_hue(
         rate,
         enhanced: is_enhanced,
     };
-    let options = CommandOptions {
-        mask: options_mask,
-        overrides: options_override,
-    };
-    invoke(lamp, Request { options, command }, on_off, clock)
+    with_options(lamp, command, options_mask, options_override, on_off, clock)
 }
 
 /// EnhancedMoveHue: at a rate in enhanced units a second.
@@ -217,11 +203,7 @@ pub fn cmd_enhanced_move_hue(
         mode: move_mode,
         rate,
     };
-    let options = CommandOptions {
-        mask: options_mask,
-        overrides: options_override,
-    };
-    invoke(lamp, Request { options, command }, on_off, clock)
+    with_options(lamp, command, options_mask, options_override, on_off, clock)
 }
 
 /// StepHue: by a step in plain units.
@@ -240,11 +222,7 @@ pub fn cmd_step_hue(
         size: step_size,
         time: transition_time_ds,
     };
-    let options = CommandOptions {
-        mask: options_mask,
-        overrides: options_override,
-    };
-    invoke(lamp, Request { options, command }, on_off, clock)
+    with_options(lamp, command, options_mask, options_override, on_off, clock)
 }
 
 /// EnhancedStepHue: by a step in enhanced units.
@@ -263,11 +241,7 @@ pub fn cmd_enhanced_step_hue(
         size: step_size,
         time: transition_time_ds,
     };
-    let options = CommandOptions {
-        mask: options_mask,
-        overrides: options_override,
-    };
-    invoke(lamp, Request { options, command }, on_off, clock)
+    with_options(lamp, command, options_mask, options_override, on_off, clock)
 }
 
 /// MoveToHueAndSaturation, and the enhanced one: the hue by its shortest way.
@@ -290,9 +264,5 @@ pub fn cmd_move_to_hue_and_saturation(
         enhanced: is_enhanced,
         enhanced_hue,
     };
-    let options = CommandOptions {
-        mask: options_mask,
-        overrides: options_override,
-    };
-    invoke(lamp, Request { options, command }, on_off, clock)
+    with_options(lamp, command, options_mask, options_override, on_off, clock)
 }

@@ -3,8 +3,9 @@
 //!
 //! Carried over from project-chip/rs-matter, commit 43f61585a4 (Apache-2.0, see NOTICE), and changed.
 
-use crate::commands::invoke;
 use crate::commands::outcomes::Outcome;
+use crate::commands::outcomes::skipped;
+use crate::commands::with_options;
 use crate::lamp::Answer;
 use crate::lamp::Lamp;
 use crate::lamp::LoopSettings;
@@ -12,15 +13,13 @@ use crate::matter::ACCEPTED;
 use crate::matter::ColorLoopActionEnum;
 use crate::matter::ColorLoopDirectionEnum;
 use crate::matter::Command;
-use crate::matter::CommandOptions;
 use crate::matter::OnOff;
-use crate::matter::Request;
 use crate::matter::UPDATE_ACTION;
 use crate::matter::UPDATE_DIRECTION;
 use crate::matter::UPDATE_START_HUE;
 use crate::matter::UPDATE_TIME;
 use crate::matter::contains;
-use crate::notices::Notices;
+use crate::notices::Numeral;
 use crate::tasks::ColorLoop;
 use crate::tasks::GivenTask;
 use crate::tasks::Task;
@@ -55,101 +54,90 @@ fn updated_settings(
     }
 }
 
-fn updated_notices(flags: u8) -> Notices {
+/// The update's notices in front of a list.
+fn cons_updated(list: Numeral, flags: u8) -> Numeral {
     let bits = flags as u32;
-    Notices::new()
-        .push_if(
-            contains(bits, UPDATE_DIRECTION),
-            crate::notices::COLOR_LOOP_DIRECTION,
-        )
-        .push_if(contains(bits, UPDATE_TIME), crate::notices::COLOR_LOOP_TIME)
-        .push_if(
+    list.cons(crate::notices::MARKED_DIRTY)
+        .cons_if(
             contains(bits, UPDATE_START_HUE),
             crate::notices::COLOR_LOOP_START_ENHANCED_HUE,
         )
-        .push(crate::notices::MARKED_DIRTY)
-}
-
-fn outcome_of(lamp: Lamp, list: Notices, task: GivenTask) -> Outcome {
-    let color = lamp.color;
-    let looping = lamp.looping;
-    Outcome {
-        number: ACCEPTED,
-        color: color,
-        looping: looping,
-        notices: list,
-        task: task,
-    }
+        .cons_if(contains(bits, UPDATE_TIME), crate::notices::COLOR_LOOP_TIME)
+        .cons_if(
+            contains(bits, UPDATE_DIRECTION),
+            crate::notices::COLOR_LOOP_DIRECTION,
+        )
 }
 
 /// Off: where the loop is active, the stored hue comes back and the Stop task is given.
-fn deactivate(lamp: Lamp, list: Notices) -> Outcome {
+fn deactivate(lamp: Lamp) -> Outcome {
     if !lamp.looping.active {
-        return outcome_of(lamp, list, GivenTask::Nothing);
+        return skipped(lamp);
     }
-    let reported = list.push(crate::notices::TASK_GIVEN)
-        .push(crate::notices::COLOR_LOOP_ACTIVE);
-    let color = lamp.color;
-    let set = color.set_hue(reported, lamp.looping.stored, true, true, lamp.clock, false);
-    let next = set.color;
-    let reports = set.notices;
     let old = lamp.looping;
-    let changed = Lamp {
+    let color = lamp.color;
+    let set = color.set_hue(lamp.looping.stored, true, true, lamp.clock);
+    let next = set.color;
+    let change = set.change;
+    let device = Numeral::new().cons(crate::notices::DEVICE_HUE_SATURATION);
+    Outcome {
+        number: ACCEPTED,
         color: next,
         looping: LoopSettings {
             active: false,
             ..old
         },
-        ..lamp
-    };
-    outcome_of(
-        changed,
-        reports.push(crate::notices::DEVICE_HUE_SATURATION),
-        GivenTask::Given(Task::Stop),
-    )
+        reported: change
+            .cons(device, false)
+            .cons(crate::notices::COLOR_LOOP_ACTIVE)
+            .cons(crate::notices::TASK_GIVEN),
+        task: GivenTask::Given(Task::Stop),
+    }
 }
 
 /// On: the hue is stored, unless the loop is active already, the first hue is set, and the loop's task is given.
-fn activate(lamp: Lamp, list: Notices, seed: u16) -> Outcome {
+fn activate(lamp: Lamp, seed: u16) -> Outcome {
     let old = lamp.looping;
     let active = old.active;
-    let reported = list.push_if(!active, crate::notices::COLOR_LOOP_STORED_ENHANCED_HUE)
-        .push_if(!active, crate::notices::COLOR_LOOP_ACTIVE);
     let color = lamp.color;
-    let set = color.set_hue(reported, seed, true, true, lamp.clock, true);
+    let set = color.set_hue(seed, true, true, lamp.clock);
     let next = set.color;
-    let reports = set.notices;
+    let change = set.change;
+    let given = Numeral::new()
+        .cons(crate::notices::TASK_GIVEN)
+        .cons(crate::notices::DEVICE_HUE_SATURATION);
     let stored = word_if(active, old.stored, lamp.color.hue);
     let direction = old.direction;
-    let changed = Lamp {
+    Outcome {
+        number: ACCEPTED,
         color: next,
         looping: LoopSettings {
             active: true,
             stored: stored,
             ..old
         },
-        ..lamp
-    };
-    let task = Task::ColorLoop(ColorLoop {
-        direction: direction,
-        seconds: old.time,
-    });
-    outcome_of(
-        changed,
-        reports
-            .push(crate::notices::DEVICE_HUE_SATURATION)
-            .push(crate::notices::TASK_GIVEN),
-        GivenTask::Given(task),
-    )
+        reported: change
+            .cons(given, true)
+            .cons_if(!active, crate::notices::COLOR_LOOP_ACTIVE)
+            .cons_if(!active, crate::notices::COLOR_LOOP_STORED_ENHANCED_HUE),
+        task: GivenTask::Given(Task::ColorLoop(ColorLoop {
+            direction: direction,
+            seconds: old.time,
+        })),
+    }
 }
 
-fn act(lamp: Lamp, list: Notices, action: ColorLoopActionEnum) -> Outcome {
+/// The action, where the update has one.
+fn act(lamp: Lamp, acts: bool, action: ColorLoopActionEnum) -> Outcome {
+    if !acts {
+        return skipped(lamp);
+    }
     match action {
-        ColorLoopActionEnum::Deactivate => deactivate(lamp, list),
+        ColorLoopActionEnum::Deactivate => deactivate(lamp),
         ColorLoopActionEnum::ActivateFromColorLoopStartEnhancedHue => {
-            activate(lamp, list, lamp.looping.start)
+            activate(lamp, lamp.looping.start)
         }
-        ColorLoopActionEnum::ActivateFromEnhancedCurrentHue => activate(lamp, list, lamp.color.hue),
+        ColorLoopActionEnum::ActivateFromEnhancedCurrentHue => activate(lamp, lamp.color.hue),
     }
 }
 
@@ -162,16 +150,16 @@ pub(in crate::commands) fn set_loop(
     start_hue: u16,
 ) -> Outcome {
     let old = lamp.looping;
-    let looping = updated_settings(old, flags, direction, time, start_hue);
-    let list = updated_notices(flags);
+    let updated = updated_settings(old, flags, direction, time, start_hue);
     let changed = Lamp {
-        looping: looping,
+        looping: updated,
         ..lamp
     };
-    if contains(flags as u32, UPDATE_ACTION) {
-        act(changed, list, action)
-    } else {
-        outcome_of(changed, list, GivenTask::Nothing)
+    let done = act(changed, contains(flags as u32, UPDATE_ACTION), action);
+    let reported = done.reported;
+    Outcome {
+        reported: cons_updated(reported, flags),
+        ..done
     }
 }
 
@@ -195,9 +183,5 @@ pub fn cmd_color_loop_set(
         time,
         start_hue,
     };
-    let options = CommandOptions {
-        mask: options_mask,
-        overrides: options_override,
-    };
-    invoke(lamp, Request { options, command }, on_off, clock)
+    with_options(lamp, command, options_mask, options_override, on_off, clock)
 }

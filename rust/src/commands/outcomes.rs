@@ -5,7 +5,7 @@ use crate::color::Color;
 use crate::lamp::Lamp;
 use crate::lamp::LoopSettings;
 use crate::matter::ACCEPTED;
-use crate::notices::Notices;
+use crate::notices::Numeral;
 use crate::notices::TASK_GIVEN;
 use crate::tasks::GivenTask;
 use crate::tasks::Task;
@@ -16,7 +16,7 @@ pub struct Outcome {
     pub number: u8,
     pub color: Color,
     pub looping: LoopSettings,
-    pub notices: Notices,
+    pub reported: Numeral,
     pub task: GivenTask,
 }
 
@@ -28,7 +28,7 @@ pub(in crate::commands) fn given(lamp: Lamp, task: Task) -> Outcome {
         number: ACCEPTED,
         color: color,
         looping: looping,
-        notices: Notices::new().push(TASK_GIVEN),
+        reported: Numeral::new().cons(TASK_GIVEN),
         task: GivenTask::Given(task),
     }
 }
@@ -41,7 +41,7 @@ fn nothing(lamp: Lamp, number: u8) -> Outcome {
         number: number,
         color: color,
         looping: looping,
-        notices: Notices::new(),
+        reported: Numeral::new(),
         task: GivenTask::Nothing,
     }
 }

@@ -3,16 +3,14 @@
 //!
 //! Carried over from project-chip/rs-matter, commit 43f61585a4 (Apache-2.0, see NOTICE), and changed.
 
-use crate::commands::invoke;
 use crate::commands::outcomes::Outcome;
 use crate::commands::outcomes::given;
+use crate::commands::with_options;
 use crate::lamp::Answer;
 use crate::lamp::Lamp;
 use crate::matter::Command;
-use crate::matter::CommandOptions;
 use crate::matter::MoveModeEnum;
 use crate::matter::OnOff;
-use crate::matter::Request;
 use crate::matter::StepModeEnum;
 use crate::tasks::HueDelta;
 use crate::tasks::HueSaturationMoveTo;
@@ -76,11 +74,7 @@ pub fn cmd_move_to_saturation(
         saturation,
         time: transition_time_ds,
     };
-    let options = CommandOptions {
-        mask: options_mask,
-        overrides: options_override,
-    };
-    invoke(lamp, Request { options, command }, on_off, clock)
+    with_options(lamp, command, options_mask, options_override, on_off, clock)
 }
 
 /// MoveSaturation: at a rate in units a second.
@@ -97,11 +91,7 @@ pub fn cmd_move_saturation(
         mode: move_mode,
         rate,
     };
-    let options = CommandOptions {
-        mask: options_mask,
-        overrides: options_override,
-    };
-    invoke(lamp, Request { options, command }, on_off, clock)
+    with_options(lamp, command, options_mask, options_override, on_off, clock)
 }
 
 /// StepSaturation: by a step, as far as 0 or 254.
@@ -120,9 +110,5 @@ pub fn cmd_step_saturation(
         size: step_size,
         time: transition_time_ds,
     };
-    let options = CommandOptions {
-        mask: options_mask,
-        overrides: options_override,
-    };
-    invoke(lamp, Request { options, command }, on_off, clock)
+    with_options(lamp, command, options_mask, options_override, on_off, clock)
 }

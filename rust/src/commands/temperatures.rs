@@ -4,17 +4,15 @@
 //! Carried over from project-chip/rs-matter, commit 43f61585a4 (Apache-2.0, see NOTICE), and changed.
 
 use crate::commands::hues::step_delta;
-use crate::commands::invoke;
 use crate::commands::outcomes::Outcome;
 use crate::commands::outcomes::given;
+use crate::commands::with_options;
 use crate::lamp::Answer;
 use crate::lamp::Lamp;
 use crate::matter::Bounds;
 use crate::matter::Command;
-use crate::matter::CommandOptions;
 use crate::matter::MoveModeEnum;
 use crate::matter::OnOff;
-use crate::matter::Request;
 use crate::matter::StepModeEnum;
 use crate::progress::clamped_sum;
 use crate::tasks::ColorTemperatureMove;
@@ -96,11 +94,7 @@ pub fn cmd_move_to_color_temperature(
         mireds,
         time: transition_time_ds,
     };
-    let options = CommandOptions {
-        mask: options_mask,
-        overrides: options_override,
-    };
-    invoke(lamp, Request { options, command }, on_off, clock)
+    with_options(lamp, command, options_mask, options_override, on_off, clock)
 }
 
 /// MoveColorTemperature: at a rate in mireds a second, within the caller's limits, where 0 is the physical one.
@@ -121,11 +115,7 @@ pub fn cmd_move_color_temperature(
         min: color_temperature_minimum_mireds,
         max: color_temperature_maximum_mireds,
     };
-    let options = CommandOptions {
-        mask: options_mask,
-        overrides: options_override,
-    };
-    invoke(lamp, Request { options, command }, on_off, clock)
+    with_options(lamp, command, options_mask, options_override, on_off, clock)
 }
 
 /// StepColorTemperature: by a step, within the caller's limits, where 0 is the physical one.
@@ -148,9 +138,5 @@ pub fn cmd_step_color_temperature(
         min: color_temperature_minimum_mireds,
         max: color_temperature_maximum_mireds,
     };
-    let options = CommandOptions {
-        mask: options_mask,
-        overrides: options_override,
-    };
-    invoke(lamp, Request { options, command }, on_off, clock)
+    with_options(lamp, command, options_mask, options_override, on_off, clock)
 }

@@ -4,7 +4,9 @@
 
 use crate::lamp::Answer;
 use crate::lamp::Lamp;
-use crate::lamp::passes::Passed;
+use crate::lamp::passes::Found;
+use crate::lamp::passes::Left;
+use crate::lamp::passes::left_by;
 use crate::matter::ACCEPTED;
 use crate::matter::CLOCK_LIMIT;
 use crate::matter::CLOCK_REFUSED;
@@ -12,10 +14,12 @@ use crate::matter::INVALID_LAMP;
 use crate::matter::INVALID_TASK;
 use crate::matter::STEP_WHILE_IDLE;
 use crate::notices::Notices;
+use crate::notices::Numeral;
 use crate::notices::REMAINING_TIME;
 use crate::progress::clamped_sum;
 use crate::progress::elapsed;
 use crate::progress::permille;
+use crate::remaining_time::RemainingTime;
 use crate::tasks::ColorLoopRun;
 use crate::tasks::ColorTemperatureMove;
 use crate::tasks::ColorTemperatureMoveTo;
@@ -50,150 +54,180 @@ fn start_permille(ms: u32, no_delta: bool) -> u16 {
     if (ms == 0) | no_delta { 1000 } else { 0 }
 }
 
-/// The answer of an accepted start or step.
-fn accepted(passed: Passed) -> Answer {
-    let lamp = passed.lamp;
-    let list = passed.notices;
-    Answer {
-        number: ACCEPTED,
-        lamp: lamp,
-        notices: list,
-        task: GivenTask::Nothing,
-        wait: passed.wait,
-    }
-}
-
 impl Lamp {
+    /// What a pass at this clock is given of the lamp, with this remaining time.
+    fn found(self, remaining: RemainingTime, clock: u64) -> Found {
+        let bounds = self.bounds;
+        let color = self.color;
+        Found {
+            clock: clock,
+            bounds: bounds,
+            remaining: remaining,
+            color: color,
+        }
+    }
+
     /// The two move-to starts write the full time first; then comes the first pass.
-    fn start_hue_saturation(self, task: HueSaturationMoveTo) -> Passed {
+    fn start_hue_saturation(self, task: HueSaturationMoveTo, clock: u64) -> Left {
         let remaining = self.remaining;
         let w = remaining.write_remaining_time_quietly(task.ms as u64, true);
-        let list = Notices::new().push_if(w.reported, REMAINING_TIME);
         let left = w.remaining;
         let delta = task.delta;
         let target = task.saturation;
         let no_delta = no_hue_delta(delta) & no_saturation_delta(target, self.color.saturation);
+        let permille = start_permille(task.ms, no_delta);
         let run = HueSaturationRun {
-            start: self.clock,
+            start: clock,
             hue: self.color.hue,
             saturation: self.color.saturation,
             task: task,
         };
-        let lamp = Lamp {
-            remaining: left,
-            ..self
-        };
-        lamp.move_to_hue_saturation_transition(list, run, start_permille(task.ms, no_delta))
+        let found = self.found(left, clock);
+        let moved = found.move_to_hue_saturation_transition(run, permille);
+        let passed = found.timed(moved, clock, task.ms, permille);
+        left_by(w.reported, passed, Running::HueSaturationMoveTo(run))
     }
 
-    fn start_color_temperature_to(self, task: ColorTemperatureMoveTo) -> Passed {
+    fn start_color_temperature_to(self, task: ColorTemperatureMoveTo, clock: u64) -> Left {
         let remaining = self.remaining;
         let w = remaining.write_remaining_time_quietly(task.ms as u64, true);
-        let list = Notices::new().push_if(w.reported, REMAINING_TIME);
         let left = w.remaining;
         let target = clamped_sum(self.bounds.min, self.bounds.max, task.target, 0);
-        let no_delta = target == self.color.mireds;
+        let permille = start_permille(task.ms, target == self.color.mireds);
         let run = ColorTemperatureToRun {
-            start: self.clock,
+            start: clock,
             mireds: self.color.mireds,
             task: ColorTemperatureMoveTo {
                 target: target,
                 ms: task.ms,
             },
         };
-        let lamp = Lamp {
-            remaining: left,
-            ..self
-        };
-        lamp.move_to_color_temperature_transition(list, run, start_permille(task.ms, no_delta))
+        let found = self.found(left, clock);
+        let moved = found.move_to_color_temperature_transition(run, permille);
+        let passed = found.timed(moved, clock, task.ms, permille);
+        left_by(w.reported, passed, Running::ColorTemperatureMoveTo(run))
     }
 
-    fn start_color_temperature(self, task: ColorTemperatureMove) -> Passed {
+    fn start_color_temperature(self, task: ColorTemperatureMove, clock: u64) -> Left {
         let bounds = self.bounds;
+        let remaining = self.remaining;
+        let found = self.found(remaining, clock);
         let lo = bounds.lower_limit(task.min);
         let hi = bounds.upper_limit(task.max);
         if hi <= lo {
-            return Passed {
-                lamp: Lamp {
-                    running: Running::Idle,
-                    ..self
-                },
-                notices: Notices::new(),
-                wait: 0,
-            };
+            return left_by(false, found.no_transition(), Running::Idle);
         }
         let run = ColorTemperatureRun {
-            start: self.clock,
+            start: clock,
             mireds: self.color.mireds,
-            rate: task.rate,
             lo: lo,
             hi: hi,
+            rate: task.rate,
         };
-        self.color_temperature_move_transition(Notices::new(), run)
+        let passed = found.color_temperature_move_transition(run);
+        left_by(false, passed, Running::ColorTemperatureMove(run))
     }
 
-    /// A start on a lamp that is at the call's clock.
-    fn begin(self, task: Task) -> Passed {
+    /// A start of a valid task: its record, and the first pass.
+    fn begin(self, task: Task, clock: u64) -> Left {
+        let remaining = self.remaining;
+        let found = self.found(remaining, clock);
         match task {
-            Task::HueSaturationMoveTo(t) => self.start_hue_saturation(t),
+            Task::HueSaturationMoveTo(t) => self.start_hue_saturation(t, clock),
             Task::HueMove(t) => {
                 let run = HueRun {
-                    start: self.clock,
+                    start: clock,
                     hue: self.color.hue,
                     task: t,
                 };
-                self.hue_move_transition(Notices::new(), run)
+                left_by(false, found.hue_move_transition(run), Running::HueMove(run))
             }
             Task::SaturationMove(t) => {
                 let run = SaturationRun {
-                    start: self.clock,
+                    start: clock,
                     saturation: self.color.saturation,
                     task: t,
                 };
-                self.saturation_move_transition(Notices::new(), run)
+                let passed = found.saturation_move_transition(run);
+                left_by(false, passed, Running::SaturationMove(run))
             }
-            Task::ColorTemperatureMoveTo(t) => self.start_color_temperature_to(t),
-            Task::ColorTemperatureMove(t) => self.start_color_temperature(t),
+            Task::ColorTemperatureMoveTo(t) => self.start_color_temperature_to(t, clock),
+            Task::ColorTemperatureMove(t) => self.start_color_temperature(t, clock),
             Task::ColorLoop(t) => {
                 let run = ColorLoopRun {
-                    start: self.clock,
+                    start: clock,
                     hue: self.color.hue,
                     task: t,
                 };
-                self.color_loop_transition(Notices::new(), run)
+                left_by(
+                    false,
+                    found.color_loop_transition(run),
+                    Running::ColorLoop(run),
+                )
             }
-            Task::Stop => Passed {
-                lamp: self,
-                notices: Notices::new(),
-                wait: 0,
-            },
+            Task::Stop => left_by(false, found.no_transition(), Running::Idle),
         }
     }
 
-    /// A pass of what runs, on a lamp that is at the call's clock.
-    fn pass(self, running: Running) -> Passed {
+    /// A pass of what runs.
+    fn pass(self, running: Running, clock: u64) -> Left {
+        let remaining = self.remaining;
+        let found = self.found(remaining, clock);
         match running {
-            Running::Idle => Passed {
-                lamp: self,
-                notices: Notices::new(),
-                wait: 0,
-            },
+            Running::Idle => left_by(false, found.no_transition(), Running::Idle),
             Running::HueSaturationMoveTo(run) => {
                 let task = run.task;
-                let p = permille(elapsed(run.start, self.clock), task.ms);
-                self.move_to_hue_saturation_transition(Notices::new(), run, p)
+                let p = permille(elapsed(run.start, clock), task.ms);
+                let moved = found.move_to_hue_saturation_transition(run, p);
+                let passed = found.timed(moved, run.start, task.ms, p);
+                left_by(false, passed, Running::HueSaturationMoveTo(run))
             }
-            Running::HueMove(run) => self.hue_move_transition(Notices::new(), run),
-            Running::SaturationMove(run) => self.saturation_move_transition(Notices::new(), run),
+            Running::HueMove(run) => {
+                left_by(false, found.hue_move_transition(run), Running::HueMove(run))
+            }
+            Running::SaturationMove(run) => {
+                let passed = found.saturation_move_transition(run);
+                left_by(false, passed, Running::SaturationMove(run))
+            }
             Running::ColorTemperatureMoveTo(run) => {
                 let task = run.task;
-                let p = permille(elapsed(run.start, self.clock), task.ms);
-                self.move_to_color_temperature_transition(Notices::new(), run, p)
+                let p = permille(elapsed(run.start, clock), task.ms);
+                let moved = found.move_to_color_temperature_transition(run, p);
+                let passed = found.timed(moved, run.start, task.ms, p);
+                left_by(false, passed, Running::ColorTemperatureMoveTo(run))
             }
             Running::ColorTemperatureMove(run) => {
-                self.color_temperature_move_transition(Notices::new(), run)
+                let passed = found.color_temperature_move_transition(run);
+                left_by(false, passed, Running::ColorTemperatureMove(run))
             }
-            Running::ColorLoop(run) => self.color_loop_transition(Notices::new(), run),
+            Running::ColorLoop(run) => {
+                left_by(
+                    false,
+                    found.color_loop_transition(run),
+                    Running::ColorLoop(run),
+                )
+            }
+        }
+    }
+
+    /// The answer of an accepted start or step: the lamp as it is left, and what is reported.
+    fn accepted(self, left: Left, list: Numeral, clock: u64) -> Answer {
+        let passed = left.passed;
+        let running = left.running;
+        let color = passed.color;
+        let remaining = passed.remaining;
+        Answer {
+            number: ACCEPTED,
+            lamp: Lamp {
+                clock: clock,
+                remaining: remaining,
+                color: color,
+                running: running,
+                ..self
+            },
+            notices: list.cons_if(left.full, REMAINING_TIME).notices(),
+            task: GivenTask::Nothing,
+            wait: passed.wait,
         }
     }
 
@@ -206,7 +240,9 @@ impl Lamp {
         if !task.is_valid() {
             return self.refused(INVALID_TASK);
         }
-        accepted(self.at_clock(clock).begin(task))
+        let left = self.begin(task, clock);
+        let passed = left.passed;
+        self.accepted(left, passed.reported(self.looping.active), clock)
     }
 
     /// One step of what runs.
@@ -221,7 +257,9 @@ impl Lamp {
         if (clock < self.clock) | (CLOCK_LIMIT < clock) {
             return self.refused(CLOCK_REFUSED);
         }
-        accepted(self.at_clock(clock).pass(running))
+        let left = self.pass(running, clock);
+        let passed = left.passed;
+        self.accepted(left, passed.reported(self.looping.active), clock)
     }
 
     /// Makes the lamp idle, and nothing else.

@@ -1,10 +1,10 @@
 // Made by rust/make from crates/lamp/src/passes.rt: not to be edited.
-//! One pass of each transition, on a lamp that is at the call's clock: document 01, leaf 6. A pass is given the list of
-//! what was reported so far.
+//! One pass of each transition: document 01, leaf 6. A pass is given what it needs of the lamp and says what it changes; its
+//! notices are put together once, from the last to the first.
 //!
 //! Carried over from project-chip/rs-matter, commit 43f61585a4 (Apache-2.0, see NOTICE), and changed.
 
-use crate::lamp::Lamp;
+use crate::color::Change;
 use crate::color::Color;
 use crate::color::ColorSet;
 use crate::hue::moved_hue;
@@ -12,7 +12,7 @@ use crate::matter::Bounds;
 use crate::matter::MoveModeEnum;
 use crate::notices::DEVICE_HUE_SATURATION;
 use crate::notices::DEVICE_MIREDS;
-use crate::notices::Notices;
+use crate::notices::Numeral;
 use crate::notices::REMAINING_TIME;
 use crate::progress::TICK;
 use crate::progress::clamped_sum;
@@ -24,6 +24,7 @@ use crate::progress::part;
 use crate::progress::time_left;
 use crate::progress::wait_for_end;
 use crate::progress::wait_for_turn;
+use crate::remaining_time::RemainingTime;
 use crate::tasks::ColorLoopRun;
 use crate::tasks::ColorTemperatureRun;
 use crate::tasks::ColorTemperatureToRun;
@@ -34,12 +35,44 @@ use crate::tasks::Running;
 use crate::tasks::SaturationRun;
 use crate::tasks::TargetSaturation;
 
-/// What a pass leaves: the lamp, the list with what it reports, and the wait.
+/// What a pass is given of the lamp.
+#[derive(Clone, Copy, Debug, PartialEq, Eq)]
+pub struct Found {
+    pub clock: u64,
+    pub bounds: Bounds,
+    pub remaining: RemainingTime,
+    pub color: Color,
+}
+
+/// What a move-to moves: the colour, its changes in their order, and the notice of the device that is written.
+#[derive(Clone, Copy, Debug, PartialEq, Eq)]
+pub struct Moved {
+    pub color: Color,
+    pub first: Change,
+    pub second: Change,
+    pub device: u8,
+}
+
+/// What a pass leaves: what moves, whether the remaining time is reported, the wait, the remaining time, and whether the
+/// transition ends.
 #[derive(Clone, Copy, Debug, PartialEq, Eq)]
 pub struct Passed {
-    pub lamp: Lamp,
-    pub notices: Notices,
+    pub color: Color,
+    pub first: Change,
+    pub second: Change,
+    pub device: u8,
+    pub time: bool,
     pub wait: u64,
+    pub remaining: RemainingTime,
+    pub ends: bool,
+}
+
+/// A start or a step: whether the full time is reported first, the pass, and the record that stays.
+#[derive(Clone, Copy, Debug, PartialEq, Eq)]
+pub struct Left {
+    pub full: bool,
+    pub passed: Passed,
+    pub running: Running,
 }
 
 /// The way from one number to another, with its sign.
@@ -61,25 +94,32 @@ fn left_unless(is_end: bool, passed: u64, ms: u32) -> u64 {
     if is_end { 0 } else { time_left(passed, ms) }
 }
 
+pub(in crate::lamp) fn left_by(full: bool, passed: Passed, running: Running) -> Left {
+    let stays = running_unless(passed.ends, running);
+    Left {
+        full: full,
+        passed: passed,
+        running: stays,
+    }
+}
+
 /// The hue's part of a move-to, where it moves the hue.
 fn move_hue(
     color: Color,
-    list: Notices,
     delta: HueDelta,
     start: u16,
     permille: u16,
     is_enhanced: bool,
     clock: u64,
-    loop_active: bool,
 ) -> ColorSet {
     match delta {
         HueDelta::Keep => ColorSet {
             color: color,
-            notices: list,
+            change: Change::none(),
         },
         HueDelta::By(way) => {
             let now = moved_hue(start, part(way, permille));
-            color.set_hue(list, now, 1000 <= permille, is_enhanced, clock, loop_active)
+            color.set_hue(now, 1000 <= permille, is_enhanced, clock)
         }
     }
 }
@@ -97,21 +137,19 @@ fn saturation_now(start: u8, target: u8, permille: u16) -> u8 {
 /// The saturation's part of a move-to, where it moves the saturation.
 fn move_saturation(
     color: Color,
-    list: Notices,
     target: TargetSaturation,
     start: u8,
     permille: u16,
     clock: u64,
-    loop_active: bool,
 ) -> ColorSet {
     match target {
         TargetSaturation::Keep => ColorSet {
             color: color,
-            notices: list,
+            change: Change::none(),
         },
         TargetSaturation::To(saturation) => {
             let now = saturation_now(start, saturation, permille);
-            color.set_saturation(list, now, 1000 <= permille, clock, loop_active)
+            color.set_saturation(now, 1000 <= permille, clock)
         }
     }
 }
@@ -140,124 +178,112 @@ fn mireds_done(rate: i64, lo: u16, hi: u16, now: u16) -> bool {
     ((0 < rate) & (now == hi)) | ((rate < 0) & (now == lo))
 }
 
-impl Lamp {
+impl Passed {
+    /// What the pass reports, in the order in which it comes.
+    pub(in crate::lamp) fn reported(self, loop_active: bool) -> Numeral {
+        let first = self.first;
+        let second = self.second;
+        let list = Numeral::new()
+            .cons_if(self.time, REMAINING_TIME)
+            .cons_if(0 < self.device, self.device);
+        first.cons(second.cons(list, loop_active), loop_active)
+    }
+}
+
+impl Found {
     pub(in crate::lamp) fn move_to_hue_saturation_transition(
         self,
-        list: Notices,
         run: HueSaturationRun,
         permille: u16,
-    ) -> Passed {
+    ) -> Moved {
         let task = run.task;
         let delta = task.delta;
         let target = task.saturation;
         let old = self.color;
-        let active = self.looping.active;
-        let hued = move_hue(
-            old,
-            list,
-            delta,
-            run.hue,
-            permille,
-            task.enhanced,
-            self.clock,
-            active,
-        );
-        let color = hued.color;
-        let reported = hued.notices;
-        let set = move_saturation(
-            color,
-            reported,
-            target,
-            run.saturation,
-            permille,
-            self.clock,
-            active,
-        );
-        let is_end = 1000 <= permille;
-        let passed = elapsed(run.start, self.clock);
-        let remaining = self.remaining;
-        let w = remaining.write_remaining_time_quietly(left_unless(is_end, passed, task.ms), false);
-        let next = set.color;
-        let reports = set.notices;
-        let left = w.remaining;
-        Passed {
-            lamp: Lamp {
-                color: next,
-                remaining: left,
-                running: running_unless(is_end, Running::HueSaturationMoveTo(run)),
-                ..self
-            },
-            notices: reports
-                .push(DEVICE_HUE_SATURATION)
-                .push_if(w.reported, REMAINING_TIME),
-            wait: wait_unless(is_end, wait_for_end(passed, task.ms)),
+        let hued = move_hue(old, delta, run.hue, permille, task.enhanced, self.clock);
+        let between = hued.color;
+        let set = move_saturation(between, target, run.saturation, permille, self.clock);
+        let color = set.color;
+        let first = hued.change;
+        let second = set.change;
+        Moved {
+            color: color,
+            first: first,
+            second: second,
+            device: DEVICE_HUE_SATURATION,
         }
     }
 
     pub(in crate::lamp) fn move_to_color_temperature_transition(
         self,
-        list: Notices,
         run: ColorTemperatureToRun,
         permille: u16,
-    ) -> Passed {
+    ) -> Moved {
         let task = run.task;
         let bounds = self.bounds;
         let now = mireds_now(bounds, run.mireds, task.target, permille);
-        let is_end = 1000 <= permille;
         let old = self.color;
-        let set = old.set_color_temperature(list, now, is_end, self.clock, self.looping.active);
-        let passed = elapsed(run.start, self.clock);
-        let remaining = self.remaining;
-        let w = remaining.write_remaining_time_quietly(left_unless(is_end, passed, task.ms), false);
-        let next = set.color;
-        let reports = set.notices;
-        let left = w.remaining;
-        Passed {
-            lamp: Lamp {
-                color: next,
-                remaining: left,
-                running: running_unless(is_end, Running::ColorTemperatureMoveTo(run)),
-                ..self
-            },
-            notices: reports
-                .push(DEVICE_MIREDS)
-                .push_if(w.reported, REMAINING_TIME),
-            wait: wait_unless(is_end, wait_for_end(passed, task.ms)),
+        let set = old.set_color_temperature(now, 1000 <= permille, self.clock);
+        let color = set.color;
+        let first = set.change;
+        Moved {
+            color: color,
+            first: first,
+            second: Change::none(),
+            device: DEVICE_MIREDS,
         }
     }
 
-    pub(in crate::lamp) fn hue_move_transition(self, list: Notices, run: HueRun) -> Passed {
+    /// A move-to's pass: after what moves, the remaining time.
+    pub(in crate::lamp) fn timed(self, moved: Moved, start: u64, ms: u32, permille: u16) -> Passed {
+        let ends = 1000 <= permille;
+        let passed = elapsed(start, self.clock);
+        let remaining = self.remaining;
+        let w = remaining.write_remaining_time_quietly(left_unless(ends, passed, ms), false);
+        let left = w.remaining;
+        let color = moved.color;
+        let first = moved.first;
+        let second = moved.second;
+        Passed {
+            color: color,
+            first: first,
+            second: second,
+            device: moved.device,
+            time: w.reported,
+            wait: wait_unless(ends, wait_for_end(passed, ms)),
+            remaining: left,
+            ends: ends,
+        }
+    }
+
+    /// A pass that moves one attribute and leaves the remaining time.
+    fn passed(self, set: ColorSet, device: u8, wait: u64, ends: bool) -> Passed {
+        let color = set.color;
+        let first = set.change;
+        let remaining = self.remaining;
+        Passed {
+            color: color,
+            first: first,
+            second: Change::none(),
+            device: device,
+            time: false,
+            wait: wait_unless(ends, wait),
+            remaining: remaining,
+            ends: ends,
+        }
+    }
+
+    pub(in crate::lamp) fn hue_move_transition(self, run: HueRun) -> Passed {
         let task = run.task;
         let direction = task.direction;
         let rate = direction.signed(task.rate);
         let now = moved_hue(run.hue, delta_at_rate(rate, elapsed(run.start, self.clock)));
         let old = self.color;
-        let set = old.set_hue(
-            list,
-            now,
-            false,
-            task.enhanced,
-            self.clock,
-            self.looping.active,
-        );
-        let next = set.color;
-        let reports = set.notices;
-        Passed {
-            lamp: Lamp {
-                color: next,
-                running: Running::HueMove(run),
-                ..self
-            },
-            notices: reports.push(DEVICE_HUE_SATURATION),
-            wait: TICK,
-        }
+        let set = old.set_hue(now, false, task.enhanced, self.clock);
+        self.passed(set, DEVICE_HUE_SATURATION, TICK, false)
     }
 
-    pub(in crate::lamp) fn saturation_move_transition(
-        self,
-        list: Notices,
-        run: SaturationRun,
-    ) -> Passed {
+    pub(in crate::lamp) fn saturation_move_transition(self, run: SaturationRun) -> Passed {
         let task = run.task;
         let direction = task.direction;
         let rate = direction.signed(task.rate);
@@ -265,62 +291,42 @@ impl Lamp {
             run.saturation,
             delta_at_rate(rate, elapsed(run.start, self.clock)),
         );
-        let is_end = saturation_done(direction, now);
+        let ends = saturation_done(direction, now);
         let old = self.color;
-        let set = old.set_saturation(list, now, is_end, self.clock, self.looping.active);
-        let next = set.color;
-        let reports = set.notices;
-        Passed {
-            lamp: Lamp {
-                color: next,
-                running: running_unless(is_end, Running::SaturationMove(run)),
-                ..self
-            },
-            notices: reports.push(DEVICE_HUE_SATURATION),
-            wait: wait_unless(is_end, TICK),
-        }
+        let set = old.set_saturation(now, ends, self.clock);
+        self.passed(set, DEVICE_HUE_SATURATION, TICK, ends)
     }
 
     pub(in crate::lamp) fn color_temperature_move_transition(
         self,
-        list: Notices,
         run: ColorTemperatureRun,
     ) -> Passed {
         let way = delta_at_rate(run.rate, elapsed(run.start, self.clock));
         let now = clamped_sum(run.lo, run.hi, run.mireds, way);
-        let is_end = mireds_done(run.rate, run.lo, run.hi, now);
+        let ends = mireds_done(run.rate, run.lo, run.hi, now);
         let old = self.color;
-        let set = old.set_color_temperature(list, now, is_end, self.clock, self.looping.active);
-        let next = set.color;
-        let reports = set.notices;
-        Passed {
-            lamp: Lamp {
-                color: next,
-                running: running_unless(is_end, Running::ColorTemperatureMove(run)),
-                ..self
-            },
-            notices: reports.push(DEVICE_MIREDS),
-            wait: wait_unless(is_end, TICK),
-        }
+        let set = old.set_color_temperature(now, ends, self.clock);
+        self.passed(set, DEVICE_MIREDS, TICK, ends)
     }
 
-    pub(in crate::lamp) fn color_loop_transition(self, list: Notices, run: ColorLoopRun) -> Passed {
+    pub(in crate::lamp) fn color_loop_transition(self, run: ColorLoopRun) -> Passed {
         let task = run.task;
         let direction = task.direction;
         let passed = elapsed(run.start, self.clock);
         let now = moved_hue(run.hue, loop_delta(direction, passed, task.seconds));
         let old = self.color;
-        let set = old.set_hue(list, now, false, true, self.clock, self.looping.active);
-        let next = set.color;
-        let reports = set.notices;
-        Passed {
-            lamp: Lamp {
-                color: next,
-                running: Running::ColorLoop(run),
-                ..self
-            },
-            notices: reports.push(DEVICE_HUE_SATURATION),
-            wait: wait_for_turn(passed, task.seconds),
-        }
+        let set = old.set_hue(now, false, true, self.clock);
+        let wait = wait_for_turn(passed, task.seconds);
+        self.passed(set, DEVICE_HUE_SATURATION, wait, false)
+    }
+
+    /// Where nothing runs, nothing changes, and no device is written.
+    pub(in crate::lamp) fn no_transition(self) -> Passed {
+        let color = self.color;
+        let set = ColorSet {
+            color: color,
+            change: Change::none(),
+        };
+        self.passed(set, 0, 0, true)
     }
 }

@@ -1,7 +1,7 @@
 //! A setter by itself, as the protocol has it.
 
 use yemkruos::lamp::{Answer, Lamp};
-use yemkruos::notices::Notices;
+use yemkruos::notices::Numeral;
 
 #[derive(Clone, Copy)]
 pub enum Setter {
@@ -16,23 +16,21 @@ pub fn set(lamp: Lamp, setter: Setter, is_end: bool, clock: u64) -> Answer {
     if cause != 0 {
         return lamp.refused(cause);
     }
-    let (list, active) = (Notices::new(), lamp.looping.active);
     let old = lamp.color;
     let set = match setter {
-        Setter::Hue { hue, enhanced } => old.set_hue(list, hue, is_end, enhanced, clock, active),
-        Setter::Saturation(saturation) => {
-            old.set_saturation(list, saturation, is_end, clock, active)
-        }
-        Setter::Mireds(mireds) => old.set_color_temperature(list, mireds, is_end, clock, active),
+        Setter::Hue { hue, enhanced } => old.set_hue(hue, is_end, enhanced, clock),
+        Setter::Saturation(saturation) => old.set_saturation(saturation, is_end, clock),
+        Setter::Mireds(mireds) => old.set_color_temperature(mireds, is_end, clock),
     };
     let color = set.color;
+    let reported = set.change.cons(Numeral::new(), lamp.looping.active);
     let after = Lamp {
         color,
         clock,
         ..lamp
     };
     Answer {
-        notices: set.notices,
+        notices: reported.notices(),
         ..after.refused(0)
     }
 }
