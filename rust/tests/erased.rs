@@ -57,8 +57,9 @@ fn one_form(lines: &[&str], library: &str) -> (Vec<String>, Vec<String>) {
     }
     for sum in ["wrapping_add", "wrapping_sub"] {
         for number in ["u8", "u16", "u32", "u64", "usize"] {
-            let ours = format!("std::num::{sum}_{number}");
-            text = text.replace(&ours, &format!("{number}::{sum}"));
+            for ours in [format!("std::num::{sum}_{number}"), format!("{sum}_{number}")] {
+                text = text.replace(&ours, &format!("{number}::{sum}"));
+            }
         }
     }
     let mut words = tokens(&text);

@@ -46,7 +46,8 @@ meet from to low high = leb (distance from low) (distance from to) || leb (dista
 -- a way up is the run from the hue found up to the target, a way down the run from the target up to the hue found
 unfoldable pub passesThrough : ℕ → ℕ → DirectionEnum → Band → Bool
 passesThrough found target direction b =
-    cond (leZ (pos 0) (pathDelta found target direction)) (meet found target (b .low) (b .high)) (meet target found (b .low) (b .high))
+    cond (leZ (pos 0) (pathDelta found target direction)) (meet found target (b .low) (b .high))
+    (meet target found (b .low) (b .high))
 
 -- ---- a band by the hues that are shown
 

@@ -1,4 +1,4 @@
--- The setters keep the form of the colour at the clock they set it at, form lasts as the clock goes on, and a setter reports few notices.
+-- The setters keep the form of the colour at the clock they set it at, validity lasts as the clock goes on, and a setter reports few notices.
 use Prim.Native.Nat.{ℕ, _+_, _≤_}
 use mathlib.Core.Bool.{Bool, true, false, cond}
 use mathlib.Core.List.{List, [], _∷_}
@@ -21,16 +21,16 @@ use Rattle.color.specs.declared.Color.{Color}
 use Rattle.color.specs.Valid.{modesAgree, colorValid}
 use Rattle.color.specs.Setters.{due, changeNotices, changeReported, same, hueMode, keptHueMode, hueSet, hueReported, saturationSet, saturationReported, miredsSet, miredsReported}
 
--- ---- form lasts
+-- ---- validity lasts
 
--- a colour valid is valid at a later clock
+-- a valid colour is valid at a later clock
 pub color-later : (c : Color) (bounds : Bounds) (clock more : ℕ) → colorValid c bounds clock ≡ true → clock ≤ more → colorValid c bounds more ≡ true
 unfolding colorValid
 color-later c bounds clock more validity h =
     let (s, (a, (b, (o, (m, (x, (y, (z, tt)))))))) = each _ validity in
     all-of _ (s, (a, (b, (o, (m, (leb-later _ clock more x h, (leb-later _ clock more y h, (leb-later _ clock more z h, tt))))))))
 
--- ---- the numbers of a colour valid
+-- ---- the numbers of a valid colour
 
 module _ (c : Color) (bounds : Bounds) (clock : ℕ) (validity : colorValid c bounds clock ≡ true) where
   -- its saturation is at most 254
@@ -55,7 +55,7 @@ module _ (c : Color) (bounds : Bounds) (clock : ℕ) (validity : colorValid c bo
       let (s, (a, (b, (o, (m, (x, (y, (z, tt)))))))) = each _ validity in
       (leb-true _ _ x, leb-true _ _ y, leb-true _ _ z)
 
--- ---- a setter keeps form
+-- ---- a setter keeps validity
 
 -- a stamp that is set or kept is at most the clock
 stamped : (t : Bool) (stamp clock : ℕ) → leb stamp clock ≡ true → leb (cond t clock stamp) clock ≡ true
@@ -75,7 +75,7 @@ kept-modes EnhancedColorModeEnum.ColorTemperatureMireds = refl
 kept-modes EnhancedColorModeEnum.EnhancedCurrentHueAndCurrentSaturation = refl
 
 module _ (c : Color) (bounds : Bounds) (clock : ℕ) (validity : colorValid c bounds clock ≡ true) where
-  -- `set_hue` keeps form
+  -- `set_hue` keeps validity
   pub hue-kept : (new : ℕ) (end enhanced : Bool) → colorValid (hueSet c new end enhanced clock) bounds clock ≡ true
   unfolding colorValid hueSet
   hue-kept new end enhanced =
@@ -83,7 +83,7 @@ module _ (c : Color) (bounds : Bounds) (clock : ℕ) (validity : colorValid c bo
       cond-both (λ d. colorValid d bounds clock ≡ true) (same (c .hue) new end) _ _ (λ e. validity)
       (λ e. all-of _ (s, (a, (b, (o, (hue-modes enhanced, (stamped (due end (c .stamps .hue) clock) _ clock x, (y, (z, tt)))))))))
 
-  -- `set_saturation` keeps form, up to 254
+  -- `set_saturation` keeps validity, up to 254
   pub saturation-kept : (new : ℕ) (end : Bool) → new ≤ saturationLimit → colorValid (saturationSet c new end clock) bounds clock ≡ true
   unfolding colorValid saturationSet
   saturation-kept new end h =
@@ -91,7 +91,7 @@ module _ (c : Color) (bounds : Bounds) (clock : ℕ) (validity : colorValid c bo
       cond-both (λ d. colorValid d bounds clock ≡ true) (same (c .saturation) new end) _ _ (λ e. validity)
       (λ e. all-of _ (le-leb new saturationLimit h, (a, (b, (o, (kept-modes (c .emode), (x, (stamped (due end (c .stamps .saturation) clock) _ clock y, (z, tt)))))))))
 
-  -- `set_color_temperature` keeps form, within the bounds
+  -- `set_color_temperature` keeps validity, within the bounds
   pub mireds-kept : (new : ℕ) (end : Bool) → bounds .min ≤ new → new ≤ bounds .max → colorValid (miredsSet c new end clock) bounds clock ≡ true
   unfolding colorValid miredsSet
   mireds-kept new end h k =

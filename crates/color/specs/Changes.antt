@@ -1,4 +1,5 @@
--- What document 01, leaf 5, says of a setter, as a statement over a colour before and after it and the notices it reported.
+-- What document 01, leaf 5, says of a setter, as a statement over a colour before and after it and the notices it
+-- reported.
 use Prim.Native.Nat.{ℕ, _+_, _≤_, _<_}
 use mathlib.Core.Bool.{Bool, true, false, not}
 use mathlib.Core.List.{List, [], _∷_, _++_}
@@ -20,7 +21,8 @@ pub record Attribute : Type 1 where
   pub mode : ColorModeEnum
   pub EnhancedMode : EnhancedColorModeEnum → EnhancedColorModeEnum → Type 0
 
--- from a colour to another with these notices, of a new number, at an end or not, at a clock, with the loop active or not
+-- from a colour to another with these notices, of a new number, at an end or not, at a clock, with the loop active or
+-- not
 pub record Changes (a : Attribute) (c : Color) (new : ℕ) (end : Bool) (clock : ℕ) (active : Bool)
     (after : Color) (reported : List ℕ) : Type 0 where
   -- "An equal number, not at the end of a transition, changes nothing and notifies nothing, modes included"
@@ -28,8 +30,8 @@ pub record Changes (a : Attribute) (c : Color) (new : ℕ) (end : Bool) (clock :
   -- "Otherwise number and modes are set"
   pub set : (a .number c ≡ new → ⊥) ⊎ (end ≡ true) →
       (a .number after ≡ new) × (after .mode ≡ a .mode) × (a .EnhancedMode (c .emode) (after .emode))
-  -- "With every such change 13 comes first and 14 last", 13 "withheld in the setters while the loop is active"; "Between
-  -- them, notices of the attribute and of both modes come at an end": then the clock is its stamp
+  -- "With every such change 13 comes first and 14 last", 13 "withheld in the setters while the loop is active";
+  -- "Between them, notices of the attribute and of both modes come at an end": then the clock is its stamp
   pub at-end : end ≡ true →
       (reported ≡ only (not active) 13 ++ a .notices ++ (6 ∷ 7 ∷ 14 ∷ [])) × (a .stamp after ≡ clock)
   -- "or one second or more after its last"

@@ -27,14 +27,16 @@ same old new end = eqb old new && not end
 
 -- the enhanced mode of a hue
 abbrev pub hueMode : Bool → EnhancedColorModeEnum
-hueMode enhanced = cond enhanced EnhancedColorModeEnum.EnhancedCurrentHueAndCurrentSaturation EnhancedColorModeEnum.CurrentHueAndCurrentSaturation
+hueMode enhanced =
+    cond enhanced EnhancedColorModeEnum.EnhancedCurrentHueAndCurrentSaturation EnhancedColorModeEnum.CurrentHueAndCurrentSaturation
 
 -- "`set_saturation` keeps an enhanced mode that is already a hue one"
 abbrev pub keptHueMode : EnhancedColorModeEnum → EnhancedColorModeEnum
 keptHueMode EnhancedColorModeEnum.CurrentHueAndCurrentSaturation = EnhancedColorModeEnum.CurrentHueAndCurrentSaturation
 keptHueMode EnhancedColorModeEnum.CurrentXAndCurrentY = EnhancedColorModeEnum.CurrentHueAndCurrentSaturation
 keptHueMode EnhancedColorModeEnum.ColorTemperatureMireds = EnhancedColorModeEnum.CurrentHueAndCurrentSaturation
-keptHueMode EnhancedColorModeEnum.EnhancedCurrentHueAndCurrentSaturation = EnhancedColorModeEnum.EnhancedCurrentHueAndCurrentSaturation
+keptHueMode EnhancedColorModeEnum.EnhancedCurrentHueAndCurrentSaturation =
+    EnhancedColorModeEnum.EnhancedCurrentHueAndCurrentSaturation
 
 -- what a change reports, with the loop active or not: nothing where the number is the same
 abbrev pub changeReported : Change → Bool → List ℕ
@@ -44,7 +46,8 @@ changeReported change active =
 
 -- a setter's change, from whether the number is the same and whether the attribute is due
 abbrev pub changeOf : Bool → Bool → ℕ → Bool → Change
-changeOf same due attribute enhanced = record { same = same; due = cond same false due; attribute = attribute; enhanced = enhanced }
+changeOf same due attribute enhanced =
+    record { same = same; due = cond same false due; attribute = attribute; enhanced = enhanced }
 
 -- where nothing is set
 abbrev pub noChange : Change

@@ -1,4 +1,4 @@
--- Every call, refused ones too, keeps form, widths, bounds and options; an accepted one sets the clock, and a command other than
+-- Every call, refused ones too, keeps validity, widths, bounds and options; an accepted one sets the clock, and a command other than
 -- the colour loop's sets nothing else. The number of an answer is its cause. A command reports few notices.
 use Prim.Native.Nat.{ℕ, _≤_}
 use mathlib.Core.Bool.{true, false, cond, true≢false}
@@ -137,7 +137,7 @@ done-any l P any r onOff =
     done-by l (λ (e : CommandEffect). P (e .lamp)) (λ t. any (l .color) (l .looping)) r onOff (any (l .color) (l .looping))
     (λ flags action direction time hue e. loop-by l (λ n. Unit) tt tt tt tt P (λ s t f u. any _ s) (λ new s n t f u. any _ s) flags action direction time hue tt tt)
 
--- a command keeps form
+-- a command keeps validity
 done-valid : (l : Lamp) (r : Request) (onOff : OnOff) → lampValid l ≡ true → lampValid (commandDone l r onOff .lamp) ≡ true
 unfolding lampValid
 done-valid l r onOff validity =
@@ -179,7 +179,7 @@ module _ (l : Lamp) (x : Call) where
   options-kept =
       answer-both l (λ a. a .lamp .options ≡ l .options) x (λ e. granted-any l x (λ m. m .options ≡ l .options) (λ m. refl)) (λ n. refl)
 
--- every call keeps form
+-- every call keeps validity
 pub valid-kept : (l : Lamp) (x : Call) → lampValid l ≡ true → lampValid (answer l x .lamp) ≡ true
 unfolding answer
 valid-kept l (Call.Command r onOff clock) validity =

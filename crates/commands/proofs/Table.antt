@@ -41,7 +41,7 @@ module _ (l : Lamp) (clock : ℕ) where
   unfolding cause
   step-4 f r b = simp (f, r, b)
 
-  -- a step of a running lamp valid with a good clock is never refused
+  -- a step of a valid running lamp with a good clock is never refused
   pub step-0 : lampValid l ≡ true → runs (l .running) ≡ true → badClock l clock ≡ false → cause l (Call.Step clock) ≡ 0
   unfolding cause
   step-0 f r b = simp (f, r, b)

@@ -1,4 +1,4 @@
--- A task that a command gives, other than Stop, is valid: so a start of it on a lamp valid at a good clock is
+-- A task that a command gives, other than Stop, is valid: so a start of it on a valid lamp at a good clock is
 -- accepted.
 use Prim.Native.Nat.{ℕ, suc, _*_, _%_, _<_, _≤_}
 use mathlib.Core.Bool.{Bool, true, false, not, _&&_, true≢false}
@@ -168,7 +168,7 @@ module _ (l : Lamp) (r : Request) (onOff : OnOff) (clock : ℕ) (inRange : InRan
       → (task ≡ Task.Stop → ⊥) → taskValid task ≡ true
   given-valid task e = rw e at answer-valid
 
-  -- so a start of it is accepted on any lamp valid at a good clock
+  -- so a start of it is accepted on any valid lamp at a good clock
   pub given-starts : (task : Task) → answer l (Call.Command r onOff clock) .task ≡ GivenTask.Given task
       → (task ≡ Task.Stop → ⊥) → (m : Lamp) (at : ℕ) → lampValid m ≡ true → badClock m at ≡ false
       → cause m (Call.Start task at) ≡ 0

@@ -30,7 +30,8 @@ inOrder stop own allowed crossed = cond stop accepted (cond (eqb own accepted) (
 
 abbrev pub afterClock : Lamp → Request → OnOff → ℕ
 afterClock l r onOff =
-    inOrder (checks (r .command) .stop) (checks (r .command) .cause) (allowed l r onOff) (crossed (l .bounds) (r .command))
+    inOrder (checks (r .command) .stop) (checks (r .command) .cause) (allowed l r onOff)
+    (crossed (l .bounds) (r .command))
 
 unfoldable pub commandCause : Lamp → Request → OnOff → ℕ → ℕ
 commandCause l r onOff clock = cond (eqb (firstCause l clock) accepted) (afterClock l r onOff) (firstCause l clock)
@@ -44,10 +45,12 @@ commandDone l r onOff = ranWith l (checks (r .command) .stop) (allowed l r onOff
 
 -- an accepted command asks for no wait
 abbrev pub commandAccepted : CommandEffect → Answer
-commandAccepted e = record { number = accepted; lamp = e .lamp; notices = noted (e .reported); task = e .task; wait = 0 }
+commandAccepted e =
+    record { number = accepted; lamp = e .lamp; notices = noted (e .reported); task = e .task; wait = 0 }
 
 unfoldable pub commandAnswer : Lamp → Request → OnOff → ℕ → Answer
-commandAnswer l r onOff clock = choose (commandCause l r onOff clock) l (commandAccepted (commandDone (atClock l clock) r onOff))
+commandAnswer l r onOff clock =
+    choose (commandCause l r onOff clock) l (commandAccepted (commandDone (atClock l clock) r onOff))
 
 -- ---- every call
 
@@ -70,7 +73,8 @@ abbrev pub granted : Lamp → Call → Answer
 granted l (Call.Command r onOff clock) = commandAccepted (commandDone (atClock l clock) r onOff)
 granted l (Call.Start task clock) = done (started (atClock l clock) task)
 granted l (Call.Step clock) = done (stepped (atClock l clock) (l .running))
-granted l (Call.Halt clock) = done (record { lamp = moved (atClock l clock) (l .color) Running.Idle; reported = []; wait = 0 })
+granted l (Call.Halt clock) =
+    done (record { lamp = moved (atClock l clock) (l .color) Running.Idle; reported = []; wait = 0 })
 
 -- its clock
 abbrev pub clockOf : Call → ℕ

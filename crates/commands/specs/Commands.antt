@@ -125,11 +125,23 @@ ms tenths = tenths * 100
 
 abbrev pub hueTask : ℤ → TargetSaturation → ℕ → Bool → Task
 hueTask way saturation tenths enhanced =
-    Task.HueSaturationMoveTo (record { delta = HueDelta.By way; saturation = saturation; ms = ms tenths; enhanced = enhanced })
+    Task.HueSaturationMoveTo (record {
+      delta =
+          HueDelta.By way;
+      saturation = saturation;
+      ms = ms tenths;
+      enhanced = enhanced;
+    })
 
 abbrev pub saturationTask : ℕ → ℕ → Task
 saturationTask saturation tenths =
-    Task.HueSaturationMoveTo (record { delta = HueDelta.Keep; saturation = TargetSaturation.To saturation; ms = ms tenths; enhanced = false })
+    Task.HueSaturationMoveTo (record {
+      delta =
+          HueDelta.Keep;
+      saturation = TargetSaturation.To saturation;
+      ms = ms tenths;
+      enhanced = false;
+    })
 
 abbrev pub hueMoveTask : MoveModeEnum → ℕ → Bool → Task
 hueMoveTask mode rate enhanced = Task.HueMove (record { direction = mode; rate = rate; enhanced = enhanced })
@@ -152,7 +164,15 @@ saturationStep StepModeEnum.Down now size = now - size
 -- the lamp with another colour and other settings of the loop
 abbrev pub withLoop : Lamp → Color → LoopSettings → Lamp
 withLoop l color looping =
-    record { clock = l .clock; bounds = l .bounds; color = color; looping = looping; remaining = l .remaining; options = l .options; running = l .running }
+    record {
+      clock = l .clock;
+      bounds = l .bounds;
+      color = color;
+      looping = looping;
+      remaining = l .remaining;
+      options = l .options;
+      running = l .running;
+    }
 
 -- "it updates direction, time and start hue by flag (bits 1, 2, 3; action is bit 0)"
 abbrev pub updated : LoopSettings → ℕ → ColorLoopDirectionEnum → ℕ → ℕ → LoopSettings
@@ -174,16 +194,20 @@ updatedReported flags =
     ++ (markedDirty ∷ [])
 
 abbrev pub activity : LoopSettings → Bool → ℕ → LoopSettings
-activity s active stored = record { active = active; direction = s .direction; time = s .time; start = s .start; stored = stored }
+activity s active stored =
+    record { active = active; direction = s .direction; time = s .time; start = s .start; stored = stored }
 
 -- ", then acts": off, where it is active, the stored hue comes back and the Stop task is given
 unfoldable pub deactivated : Lamp → List ℕ → CommandEffect
 deactivated l reported =
     cond (l .looping .active)
     (record {
-      lamp = withLoop l (hueSet (l .color) (l .looping .stored) true true (l .clock)) (activity (l .looping) false (l .looping .stored));
+      lamp =
+          withLoop l (hueSet (l .color) (l .looping .stored) true true (l .clock))
+          (activity (l .looping) false (l .looping .stored));
       reported =
-          reported ++ (taskGiven ∷ ColorLoopActive ∷ []) ++ hueReported (l .color) (l .looping .stored) true true (l .clock) false
+          reported ++ (taskGiven ∷ ColorLoopActive ∷ [])
+          ++ hueReported (l .color) (l .looping .stored) true true (l .clock) false
           ++ (deviceHueSaturation ∷ []);
       task = GivenTask.Given Task.Stop;
     })
@@ -200,7 +224,8 @@ activated l reported seed =
           reported ++ cond (l .looping .active) [] (ColorLoopStoredEnhancedHue ∷ ColorLoopActive ∷ [])
           ++ hueReported (l .color) seed true true (l .clock) true
           ++ (deviceHueSaturation ∷ taskGiven ∷ []);
-      task = GivenTask.Given (Task.ColorLoop (record { direction = l .looping .direction; seconds = l .looping .time }));
+      task =
+          GivenTask.Given (Task.ColorLoop (record { direction = l .looping .direction; seconds = l .looping .time }));
     }
 
 abbrev pub acted : Lamp → List ℕ → ColorLoopActionEnum → CommandEffect
@@ -239,5 +264,6 @@ commandEffect l (Command.MoveColorTemperature mode rate min max) =
     (Task.ColorTemperatureMove (record { rate = signed mode rate; min = asked (l .bounds .min) min; max = asked (l .bounds .max) max }))
 commandEffect l (Command.StepColorTemperature mode size time min max) =
     giving l (temperatureTask (clamp (lo (l .bounds) min) (hi (l .bounds) max) (pos (l .color .mireds) +ℤ stepDelta mode size)) time)
-commandEffect l (Command.ColorLoopSet flags action direction time startHue) = loopSet l flags action direction time startHue
+commandEffect l (Command.ColorLoopSet flags action direction time startHue) =
+    loopSet l flags action direction time startHue
 commandEffect l Command.StopMoveStep = giving l Task.Stop

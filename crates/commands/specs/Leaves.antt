@@ -66,7 +66,8 @@ pub record Leaves (l : Lamp) : Type 0 where
   pub bounds : (x : Call) → answer l x .lamp .bounds ≡ l .bounds
   pub options : (x : Call) → answer l x .lamp .options ≡ l .options
   -- no command, the colour loop's among them, changes what runs, nor the remaining time, nor has a wait
-  pub command-running : (r : Request) (onOff : OnOff) (clock : ℕ) → answer l (Call.Command r onOff clock) .lamp .running ≡ l .running
+  pub command-running : (r : Request) (onOff : OnOff) (clock : ℕ) →
+      answer l (Call.Command r onOff clock) .lamp .running ≡ l .running
   pub command-remaining : (r : Request) (onOff : OnOff) (clock : ℕ) →
       answer l (Call.Command r onOff clock) .lamp .remaining ≡ l .remaining
   pub command-wait : (r : Request) (onOff : OnOff) (clock : ℕ) → answer l (Call.Command r onOff clock) .wait ≡ 0
@@ -76,4 +77,5 @@ pub record Leaves (l : Lamp) : Type 0 where
   -- "Rate moves, loops and halts leave the remaining time as it was" (DECISIONS 14)
   pub start-remaining : (task : Task) (clock : ℕ) → isMoveTo task ≡ false →
       answer l (Call.Start task clock) .lamp .remaining ≡ l .remaining
-  pub step-remaining : (clock : ℕ) → movesTo (l .running) ≡ false → answer l (Call.Step clock) .lamp .remaining ≡ l .remaining
+  pub step-remaining : (clock : ℕ) → movesTo (l .running) ≡ false →
+      answer l (Call.Step clock) .lamp .remaining ≡ l .remaining

@@ -1,7 +1,8 @@
--- The table of causes (document 01, "Why a call is turned away"), as statements: each number in its cause and in no other, for
--- every call. For each kind of call the lines go through all cases of its tests, in the table's order, so that no two of them meet
--- and none is left out. 1 and 2 are as `numberCause` has them (`fields-agree` and `invalid-agree` in `conformance`). And: no number
--- is above 8; no answer uses more than 14 of its sixteen places, the rest being 0.
+-- The table of causes (document 01, "Why a call is turned away"), as statements: each number in its cause and in no
+-- other, for every call. For each kind of call the lines go through all cases of its tests, in the table's order, so
+-- that no two of them meet and none is left out. 1 and 2 are as `numberCause` has them (`fields-agree` and
+-- `invalid-agree` in `conformance`). And: no number is above 8; no answer uses more than 14 of its sixteen places, the
+-- rest being 0.
 use Prim.Native.Nat.{ℕ, _≤_}
 use mathlib.Core.Bool.{true, false}
 use mathlib.Core.List.{List}
@@ -23,7 +24,7 @@ use Rattle.lamp.specs.declared.Call.{Call}
 use Rattle.commands.specs.Commands.{checks, crossed}
 use Rattle.commands.specs.Answers.{allowed, cause, answer}
 
--- steps 8, 7, 4; a step of a running lamp valid with a good clock is never refused
+-- steps 8, 7, 4; a step of a valid running lamp with a good clock is never refused
 pub record StepCauses (l : Lamp) (clock : ℕ) : Type 0 where
   pub step-8 : lampValid l ≡ false → cause l (Call.Step clock) ≡ 8
   pub step-7 : lampValid l ≡ true → runs (l .running) ≡ false → cause l (Call.Step clock) ≡ 7
@@ -40,8 +41,10 @@ pub record HaltCauses (l : Lamp) (clock : ℕ) : Type 0 where
 pub record StartCauses (l : Lamp) (clock : ℕ) (task : Task) : Type 0 where
   pub start-8 : lampValid l ≡ false → cause l (Call.Start task clock) ≡ 8
   pub start-4 : lampValid l ≡ true → badClock l clock ≡ true → cause l (Call.Start task clock) ≡ 4
-  pub start-6 : lampValid l ≡ true → badClock l clock ≡ false → taskValid task ≡ false → cause l (Call.Start task clock) ≡ 6
-  pub start-0 : lampValid l ≡ true → badClock l clock ≡ false → taskValid task ≡ true → cause l (Call.Start task clock) ≡ 0
+  pub start-6 : lampValid l ≡ true → badClock l clock ≡ false → taskValid task ≡ false →
+      cause l (Call.Start task clock) ≡ 6
+  pub start-0 : lampValid l ≡ true → badClock l clock ≡ false → taskValid task ≡ true →
+      cause l (Call.Start task clock) ≡ 0
 
 -- commands 8, 4, Stop mode, the command's own numbers (1 or 2), off, 3
 pub record CommandCauses (l : Lamp) (clock : ℕ) (r : Request) (onOff : OnOff) : Type 0 where
@@ -49,13 +52,17 @@ pub record CommandCauses (l : Lamp) (clock : ℕ) (r : Request) (onOff : OnOff) 
   pub command-4 : lampValid l ≡ true → badClock l clock ≡ true → cause l (Call.Command r onOff clock) ≡ 4
   pub command-stop : lampValid l ≡ true → badClock l clock ≡ false → checks (r .command) .stop ≡ true →
       cause l (Call.Command r onOff clock) ≡ 0
-  pub command-number : lampValid l ≡ true → badClock l clock ≡ false → checks (r .command) .stop ≡ false → eqb (checks (r .command) .cause) 0 ≡ false →
+  pub command-number : lampValid l ≡ true → badClock l clock ≡ false → checks (r .command) .stop ≡ false →
+      eqb (checks (r .command) .cause) 0 ≡ false →
       cause l (Call.Command r onOff clock) ≡ checks (r .command) .cause
-  pub command-off : lampValid l ≡ true → badClock l clock ≡ false → checks (r .command) .stop ≡ false → eqb (checks (r .command) .cause) 0 ≡ true →
+  pub command-off : lampValid l ≡ true → badClock l clock ≡ false → checks (r .command) .stop ≡ false →
+      eqb (checks (r .command) .cause) 0 ≡ true →
       allowed l r onOff ≡ false → cause l (Call.Command r onOff clock) ≡ 0
-  pub command-3 : lampValid l ≡ true → badClock l clock ≡ false → checks (r .command) .stop ≡ false → eqb (checks (r .command) .cause) 0 ≡ true →
+  pub command-3 : lampValid l ≡ true → badClock l clock ≡ false → checks (r .command) .stop ≡ false →
+      eqb (checks (r .command) .cause) 0 ≡ true →
       allowed l r onOff ≡ true → crossed (l .bounds) (r .command) ≡ true → cause l (Call.Command r onOff clock) ≡ 3
-  pub command-0 : lampValid l ≡ true → badClock l clock ≡ false → checks (r .command) .stop ≡ false → eqb (checks (r .command) .cause) 0 ≡ true →
+  pub command-0 : lampValid l ≡ true → badClock l clock ≡ false → checks (r .command) .stop ≡ false →
+      eqb (checks (r .command) .cause) 0 ≡ true →
       allowed l r onOff ≡ true → crossed (l .bounds) (r .command) ≡ false → cause l (Call.Command r onOff clock) ≡ 0
 
 -- an answer's list is some list of at most 14 in its places, with zeros behind

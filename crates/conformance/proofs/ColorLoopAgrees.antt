@@ -87,7 +87,7 @@ module _ (l : Lamp) (flags : ℕ) (action : ColorLoopActionEnum) (direction : Co
   unfolding loopSet colorLoopSet updatedBy hasFlag changed
   set-agrees = set-by-flag (eqb (flags / 1 % 2) 1) refl
 
--- ---- an accepted command with leave to execute
+-- ---- an accepted command that may execute
 
 module _ (l : Lamp) (flags : ℕ) (action : ColorLoopActionEnum) (direction : ColorLoopDirectionEnum) (time startHue : ℕ)
     (options : CommandOptions) (onOff : OnOff) (clock : ℕ) where

@@ -18,7 +18,7 @@ use Rattle.commands.specs.Commands.{isStop, checks, crossed}
 use Rattle.commands.specs.Answers.{allowed, afterClock}
 use Rattle.conformance.specs.Fields.{fieldsGood, invalidMove, invalid}
 
--- ---- the fields that the port does not look at are within the text's constraints
+-- ---- the fields that the port does not check are within the text's constraints
 
 -- the numbers fit their widths, times end at 65,534 (of a plain step at 255), and mireds at 65,279
 abbrev pub Roomy : Command → Type 0
@@ -54,7 +54,7 @@ some : (n : ℕ) → n ≤ 65279 → (leb 1 n && leb n 65279) ≡ not (eqb n 0)
 some zero h = refl
 some (suc n) h = rw (le-leb 1 (suc n) (omega arith), le-leb (suc n) 65279 h, ne-eqb (suc n) 0 (λ e. omega arith))
 
--- one field that is looked at, and two
+-- one field that is checked, and two
 refused-by : (b : Bool) → eqb (cond b 1 0) 1 ≡ not (not b && true)
 refused-by true = refl
 refused-by false = refl
@@ -118,7 +118,7 @@ step-time-differs = (refl, refl)
 
 -- ---- INVALID_COMMAND
 
--- the port's cause past form and clock is 2 where that of its numbers is: crossed limits are 3, which is not 2
+-- the port's cause past validity and clock is 2 where that of its numbers is: crossed limits are 3, which is not 2
 limits-by : (n : ℕ) (t a b : Bool) → eqb n 0 ≡ t → eqb (cond t (cond (a && b) 3 0) n) 2 ≡ eqb n 2
 limits-by n true true true e = ap (λ (m : ℕ). eqb m 2) (sym (eqb-true n 0 e))
 limits-by n true true false e = ap (λ (m : ℕ). eqb m 2) (sym (eqb-true n 0 e))
@@ -167,6 +167,6 @@ module _ (l : Lamp) (onOff : OnOff) where
   own-agree (Command.ColorLoopSet flags action direction time startHue) = refl
   own-agree Command.StopMoveStep = refl
 
-  -- past form and clock, InvalidCommand is the port's answer exactly where the text's is
+  -- past validity and clock, InvalidCommand is the port's answer exactly where the text's is
   pub invalid-agree : (r : Request) → eqb (afterClock l r onOff) 2 ≡ invalid (r .command)
   invalid-agree r = looked r ∙ own-agree (r .command)

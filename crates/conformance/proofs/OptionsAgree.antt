@@ -40,7 +40,7 @@ by : (b : Bool) (x y : ℕ) → not (eqb (cond b (x / 1 % 2) (y / 1 % 2)) 0) ≡
 by true x y = not-0-is-1 (x / 1 % 2) (omega arith)
 by false x y = not-0-is-1 (y / 1 % 2) (omega arith)
 
--- the port's leave to execute is the text's rule
+-- whether a command may execute in the port is the text's rule
 pub options-agree : (onOff : OnOff) (options mask over : ℕ) → mayExecute onOff options mask over ≡ continues onOff options mask over
 unfolding continues hasFlag
 options-agree OnOff.Off options mask over = rw (execute-if-off options mask over) (sym (by (eqb (bit 0 mask) 1) over options))

@@ -97,7 +97,7 @@ started-so m clock Task.Stop t = absurd (true≢false (sym t))
 pub granted-is : (l : Lamp) (x : Call) → cause l x ≡ 0 → answer l x ≡ granted l x
 granted-is l x z = answer-both l (λ a. a ≡ granted l x) x (λ e. refl) (λ n. absurd (n z))
 
--- what holds of a lamp valid that begins a task valid holds after an accepted start
+-- what holds of a valid lamp that begins a valid task holds after an accepted start
 pub start-by : (m : Lamp) (task : Task) (clock : ℕ) (P : Lamp → Type 0) → cause m (Call.Start task clock) ≡ 0 →
     (lampValid (atClock m clock) ≡ true → taskValid task ≡ true → P (started (atClock m clock) task .lamp)) →
     P (answer m (Call.Start task clock) .lamp)

@@ -1,5 +1,5 @@
 -- Every command that moves a number does what the text asks of it, from its fields to the numbers that a lamp shows:
--- the call is accepted and gives a task valid, and every lamp on which that task is started, and stepped, shows
+-- the call is accepted and gives a valid task, and every lamp on which that task is started, and stepped, shows
 -- what the text has then.
 use Prim.Native.Nat.{ℕ, zero, suc, _-_, _≤_, _<_, min, max}
 use mathlib.Core.Bool.{Bool, true, false, cond, true≢false}
@@ -55,7 +55,7 @@ Follows bounds received c task =
     (m n : Lamp) (begun : ℕ) → m .bounds ≡ bounds → m .color .hue < 65536 → Ran m task begun n →
     (clock : ℕ) → Lasts n clock → OnReceipt bounds received c (clock - begun) (m .color) (n .color)
 
--- a task valid that does so
+-- a valid task that does so
 pub record Gives (l : Lamp) (c : Command) (given : GivenTask) : Type 0 where
   pub task : Task
   pub is : given ≡ GivenTask.Given task
@@ -337,7 +337,7 @@ unfolding cause commandCause
 command-fields l q onOff clock z s =
     no-cause (checks (q .command) .cause) _ (rw s at (no-cause (firstCause l clock) (afterClock l q onOff) z .1)) .0
 
--- an accepted command with leave to execute, in no Stop mode, does what the text asks
+-- an accepted command that may execute, in no Stop mode, does what the text asks
 pub receipt-agrees : (l : Lamp) (q : Request) (onOff : OnOff) (clock : ℕ) → l .color .hue < 65536 → InRangeRequest q →
     moves (q .command) ≡ true → cause l (Call.Command q onOff clock) ≡ 0 → allowed l q onOff ≡ true → checks (q .command) .stop ≡ false →
     Gives l (q .command) (answer l (Call.Command q onOff clock) .task)

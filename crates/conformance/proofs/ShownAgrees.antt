@@ -363,7 +363,7 @@ module _ (task : HueSaturationMoveTo) (first : ℕ) where
 abbrev pub clamped : Lamp → ℕ → ℕ
 clamped l target = clamp (l .bounds .min) (l .bounds .max) (pos target)
 
--- mireds of a lamp valid, and the closest to a target that its bounds allow
+-- mireds of a valid lamp, and the closest to a target that its bounds allow
 module _ (l : Lamp) (clock : ℕ) (validity : lampValid (atClock l clock) ≡ true) where
   bounded : (l .bounds .min ≤ l .color .mireds) × (l .color .mireds ≤ l .bounds .max)
   bounded =

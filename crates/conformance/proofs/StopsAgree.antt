@@ -25,7 +25,7 @@ use Rattle.commands.specs.Commands.{commandEffect}
 use Rattle.commands.proofs.Kept.{answer-both}
 use Rattle.conformance.specs.Stops.{Terminated, NoTimeLeft, turnsAfterStop, loopTurns}
 
--- StopMoveStep with leave to execute asks for a stop (every Stop mode does: `options-passed-by` in OptionsAgree)
+-- StopMoveStep that may execute asks for a stop (every Stop mode does: `options-passed-by` in OptionsAgree)
 pub stop-asked : (l : Lamp) (options : CommandOptions) (onOff : OnOff) (clock : ℕ) →
     allowed l (request Command.StopMoveStep options) onOff ≡ true →
     cause l (Call.Command (request Command.StopMoveStep options) onOff clock) ≡ 0 →

@@ -1,5 +1,5 @@
--- The attributes of a fresh device: Matter Application Cluster Specification, Color Control, the column of defaults in the
--- table of attributes. Written from that text as known, what stands in quotes too: no copy was at hand.
+-- The attributes of a fresh device: Matter Application Cluster Specification, Color Control, the column of defaults in
+-- the table of attributes. Written from that text as known, what stands in quotes too: no copy was at hand.
 use Prim.Native.Nat.{ℕ}
 
 abbrev pub defaultCurrentHue : ℕ

@@ -1,6 +1,7 @@
--- Which way round: Matter Application Cluster Specification, Color Control, MoveToHue and EnhancedMoveToHue, field Direction
--- and "Effect on receipt"; DirectionEnum. Written from that text as known, what stands in quotes too: no copy was at hand. A
--- hue is one of the places of a circle, numbered upward from 0; a way is a number of places, positive upward.
+-- Which way round: Matter Application Cluster Specification, Color Control, MoveToHue and EnhancedMoveToHue, field
+-- Direction and "Effect on receipt"; DirectionEnum. Written from that text as known, what stands in quotes too: no copy
+-- was at hand. A hue is one of the places of a circle, numbered upward from 0; a way is a number of places, positive
+-- upward.
 use Prim.Native.Nat.{ℕ, suc, _+_, _%_, _≤_}
 use mathlib.Core.Logic.{_⊎_}
 use mathlib.Core.Path.{_≡_}
@@ -38,7 +39,8 @@ pub record GoesDown (circle from to : ℕ) (way : ℤ) : Type 0 where
 abbrev pub Either : ℕ → ℕ → ℕ → ℤ → Type 0
 Either circle from to way = GoesUp circle from to way ⊎ GoesDown circle from to way
 
--- "Shortest": "the direction is taken that involves the shortest path round the circle": no way that leads there is shorter
+-- "Shortest": "the direction is taken that involves the shortest path round the circle": no way that leads there is
+-- shorter
 pub record GoesShortest (circle from to : ℕ) (way : ℤ) : Type 0 where
   pub leads : Leads circle from to way
   pub least : (other : ℤ) → Leads circle from to other → natAbs way ≤ natAbs other
@@ -55,7 +57,7 @@ Goes circle DirectionEnum.Longest from to way = GoesLongest circle from to way
 Goes circle DirectionEnum.Up from to way = GoesUp circle from to way
 Goes circle DirectionEnum.Down from to way = GoesDown circle from to way
 
--- the tie of Shortest and Longest: "In both cases, if both distances are the same, the Up direction SHALL be taken". This
--- sentence is kept apart from the rest: without it both ways are good
+-- the tie of Shortest and Longest: "In both cases, if both distances are the same, the Up direction SHALL be taken".
+-- This sentence is kept apart from the rest: without it both ways are good
 abbrev pub TieGoesUp : ℕ → ℕ → ℕ → ℤ → Type 0
 TieGoesUp circle from to way = (n : ℕ) → GoesUp circle from to (pos n) → GoesDown circle from to (negℤ (pos n)) → way ≡ pos n

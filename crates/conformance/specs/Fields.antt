@@ -1,6 +1,6 @@
--- What a command's fields may hold, and which commands are invalid: Matter Application Cluster Specification, Color Control,
--- the tables of fields of the commands, and their "Effect on receipt". Written from that text as known, what stands in quotes
--- too: no copy was at hand. A field out of its constraint is answered with CONSTRAINT_ERROR.
+-- What a command's fields may hold, and which commands are invalid: Matter Application Cluster Specification, Color
+-- Control, the tables of fields of the commands, and their "Effect on receipt". Written from that text as known, what
+-- stands in quotes too: no copy was at hand. A field out of its constraint is answered with CONSTRAINT_ERROR.
 use Prim.Native.Nat.{ℕ}
 use mathlib.Core.Bool.{Bool, true, false, cond, _&&_}
 use mathlib.Core.List.{List, [], _∷_}
@@ -48,8 +48,8 @@ abbrev pub every : List Bool → Bool
 every [] = true
 every (b ∷ bs) = b && every bs
 
--- the fields of each command. The two commands MoveToHueAndSaturation and EnhancedMoveToHueAndSaturation are one here, as in the
--- port: the first has the field Hue, the second EnhancedHue
+-- the fields of each command. The two commands MoveToHueAndSaturation and EnhancedMoveToHueAndSaturation are one here,
+-- as in the port: the first has the field Hue, the second EnhancedHue
 unfoldable pub fieldsGood : Command → Bool
 fieldsGood (Command.MoveToHue hue direction time) = every (hueField hue ∷ timeField time ∷ [])
 fieldsGood (Command.MoveHue mode rate enhanced) = every (byteField rate ∷ [])
@@ -63,16 +63,19 @@ fieldsGood (Command.EnhancedMoveToHue hue direction time) = every (wordField hue
 fieldsGood (Command.EnhancedMoveHue mode rate) = every (wordField rate ∷ [])
 fieldsGood (Command.EnhancedStepHue mode size time) = every (wordField size ∷ timeField time ∷ [])
 fieldsGood (Command.MoveToColorTemperature mireds time) = every (miredsField mireds ∷ timeField time ∷ [])
-fieldsGood (Command.MoveColorTemperature mode rate min max) = every (wordField rate ∷ limitField min ∷ limitField max ∷ [])
+fieldsGood (Command.MoveColorTemperature mode rate min max) =
+    every (wordField rate ∷ limitField min ∷ limitField max ∷ [])
 fieldsGood (Command.StepColorTemperature mode size time min max) =
     every (wordField size ∷ timeField time ∷ limitField min ∷ limitField max ∷ [])
-fieldsGood (Command.ColorLoopSet flags action direction time startHue) = every (byteField flags ∷ wordField time ∷ wordField startHue ∷ [])
+fieldsGood (Command.ColorLoopSet flags action direction time startHue) =
+    every (byteField flags ∷ wordField time ∷ wordField startHue ∷ [])
 fieldsGood Command.StopMoveStep = every []
 
 -- ---- INVALID_COMMAND
 
--- "If the MoveMode field is set to Up or Down and the Rate field has a value of zero, the command has no effect and a response
--- [..] with the status code set to INVALID_COMMAND. If the MoveMode field is set to Stop the Rate field SHALL be ignored"
+-- "If the MoveMode field is set to Up or Down and the Rate field has a value of zero, the command has no effect and a
+-- response [..] with the status code set to INVALID_COMMAND. If the MoveMode field is set to Stop the Rate field SHALL
+-- be ignored"
 abbrev pub invalidMove : MoveModeEnum → ℕ → Bool
 invalidMove MoveModeEnum.Stop rate = false
 invalidMove MoveModeEnum.Up rate = eqb rate 0

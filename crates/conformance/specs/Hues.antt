@@ -1,5 +1,5 @@
--- CurrentHue and EnhancedCurrentHue: Matter Application Cluster Specification, Color Control, the attributes of these names.
--- Written from that text as known, what stands in quotes too: no copy was at hand.
+-- CurrentHue and EnhancedCurrentHue: Matter Application Cluster Specification, Color Control, the attributes of these
+-- names. Written from that text as known, what stands in quotes too: no copy was at hand.
 use Prim.Native.Nat.{ℕ, suc, _*_, _≤_, _<_}
 
 -- "The upper 8 bits of this attribute SHALL be used as an index": the number of whole 256s in it
@@ -7,7 +7,8 @@ pub record UpperByte (enhanced upper : ℕ) : Type 0 where
   pub enough : upper * 256 ≤ enhanced
   pub whole : enhanced < suc upper * 256
 
--- "the CurrentHue attribute SHALL contain a hue value in the range 0 to 254, calculated from the EnhancedCurrentHue attribute"
+-- "the CurrentHue attribute SHALL contain a hue value in the range 0 to 254, calculated from the EnhancedCurrentHue
+-- attribute"
 pub record CurrentHueOf (enhanced hue : ℕ) : Type 0 where
   pub upper : UpperByte enhanced hue
   pub range : hue ≤ 254

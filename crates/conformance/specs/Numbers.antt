@@ -1,5 +1,5 @@
--- The numbers of the enums: Matter Application Cluster Specification, Color Control, "Data types". Written from that text as
--- known, what stands in quotes too: no copy was at hand. A number that is not in a table is reserved.
+-- The numbers of the enums: Matter Application Cluster Specification, Color Control, "Data types". Written from that
+-- text as known, what stands in quotes too: no copy was at hand. A number that is not in a table is reserved.
 use Prim.Native.Nat.{ℕ}
 use mathlib.Core.List.{List, [], _∷_}
 use Rattle.matter.specs.declared.enums.ColorLoopActionEnum.{ColorLoopActionEnum}
@@ -19,7 +19,9 @@ abbrev line : {A : Type 0} → ℕ → A → Line A
 line number means = record { number = number; means = means }
 
 abbrev pub directionTable : List (Line DirectionEnum)
-directionTable = line 0 DirectionEnum.Shortest ∷ line 1 DirectionEnum.Longest ∷ line 2 DirectionEnum.Up ∷ line 3 DirectionEnum.Down ∷ []
+directionTable =
+    line 0 DirectionEnum.Shortest ∷ line 1 DirectionEnum.Longest ∷ line 2 DirectionEnum.Up ∷ line 3 DirectionEnum.Down
+    ∷ []
 
 abbrev pub moveModeTable : List (Line MoveModeEnum)
 moveModeTable = line 0 MoveModeEnum.Stop ∷ line 1 MoveModeEnum.Up ∷ line 3 MoveModeEnum.Down ∷ []
@@ -39,7 +41,8 @@ loopDirectionTable = line 0 ColorLoopDirectionEnum.Decrement ∷ line 1 ColorLoo
 
 abbrev pub colorModeTable : List (Line ColorModeEnum)
 colorModeTable =
-    line 0 ColorModeEnum.CurrentHueAndCurrentSaturation ∷ line 1 ColorModeEnum.CurrentXAndCurrentY ∷ line 2 ColorModeEnum.ColorTemperatureMireds ∷ []
+    line 0 ColorModeEnum.CurrentHueAndCurrentSaturation ∷ line 1 ColorModeEnum.CurrentXAndCurrentY
+    ∷ line 2 ColorModeEnum.ColorTemperatureMireds ∷ []
 
 abbrev pub enhancedColorModeTable : List (Line EnhancedColorModeEnum)
 enhancedColorModeTable =

@@ -1,5 +1,6 @@
--- ExecuteIfOff: Matter Application Cluster Specification, Color Control, "Options attribute" and "Use of the OptionsMask and
--- OptionsOverride fields". Written from that text as known, what stands in quotes too: no copy was at hand.
+-- ExecuteIfOff: Matter Application Cluster Specification, Color Control, "Options attribute" and "Use of the
+-- OptionsMask and OptionsOverride fields". Written from that text as known, what stands in quotes too: no copy was at
+-- hand.
 use Prim.Native.Nat.{ℕ, _+_, _*_, _/_, _%_, _^_}
 use mathlib.Core.Bool.{Bool, true, false, not, cond, _&&_}
 use lib.Dec.{eqb}
@@ -38,8 +39,8 @@ onOffFalse OnOff.Off = true
 onOffFalse OnOff.On = false
 onOffFalse OnOff.NoHandler = false
 
--- "Command execution SHALL NOT continue beyond the Options processing if all of these criteria are true", the third of which is
--- "The value of the ExecuteIfOff bit is 0"
+-- "Command execution SHALL NOT continue beyond the Options processing if all of these criteria are true", the third of
+-- which is "The value of the ExecuteIfOff bit is 0"
 unfoldable pub continues : OnOff → ℕ → ℕ → ℕ → Bool
 continues onOff options mask over =
     not (onOffExists onOff && onOffFalse onOff && eqb (executeIfOffBit (temporaryOptions options mask over)) 0)

@@ -1,5 +1,5 @@
--- Steps and moves, by one unit at a time: Matter Application Cluster Specification, Color Control, "Effect on receipt" of
--- MoveHue, StepHue, MoveSaturation, StepSaturation, EnhancedMoveHue, EnhancedStepHue, MoveColorTemperature,
+-- Steps and moves, by one unit at a time: Matter Application Cluster Specification, Color Control, "Effect on receipt"
+-- of MoveHue, StepHue, MoveSaturation, StepSaturation, EnhancedMoveHue, EnhancedStepHue, MoveColorTemperature,
 -- StepColorTemperature. Written from that text as known, what stands in quotes too: no copy was at hand.
 use Prim.Native.Nat.{ℕ, zero, suc, _+_, _-_, _*_, _/_}
 use mathlib.Core.Bool.{cond}
@@ -37,7 +37,8 @@ hueMaximum = 254
 abbrev pub saturationMaximum : ℕ
 saturationMaximum = 254
 
--- "Rate: the rate of movement in steps per second. A step is a change of one unit": the steps made in so many milliseconds
+-- "Rate: the rate of movement in steps per second. A step is a change of one unit": the steps made in so many
+-- milliseconds
 abbrev pub stepsMade : ℕ → ℕ → ℕ
 stepsMade rate elapsed = rate * elapsed / 1000
 

@@ -1,6 +1,6 @@
 -- What stops a movement, and what does not stop a colour loop: Matter Application Cluster Specification, Color Control,
--- StopMoveStep, the Stop mode of the Move commands, and "Generic usage notes". Written from that text as known, what stands in
--- quotes too: no copy was at hand.
+-- StopMoveStep, the Stop mode of the Move commands, and "Generic usage notes". Written from that text as known, what
+-- stands in quotes too: no copy was at hand.
 use mathlib.Core.Bool.{Bool, true, false, not, cond}
 use mathlib.Core.Path.{_≡_}
 use Rattle.tasks.specs.declared.Running.{Running}
@@ -23,7 +23,8 @@ NoTimeLeft after = after .remaining .tenths ≡ 0
 abbrev pub stopTakesEffect : Bool → Bool
 stopTakesEffect colorLoopActive = not colorLoopActive
 
--- "If a color loop is active [..], it SHALL only be stopped by sending a specific ColorLoopSet command": whether the loop turns
+-- "If a color loop is active [..], it SHALL only be stopped by sending a specific ColorLoopSet command": whether the
+-- loop turns
 abbrev pub loopTurns : Running → Bool
 loopTurns Running.Idle = false
 loopTurns (Running.HueSaturationMoveTo run) = false

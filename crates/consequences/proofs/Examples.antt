@@ -64,7 +64,7 @@ alone =
       calls = Call.Step 5200 ∷ Call.Step 5450 ∷ Call.Step 2_000_000 ∷ [];
     }
 
--- leave to execute while off
+-- executes while off
 abbrev pub whileOff : CommandOptions
 whileOff = record { mask = 1; overrides = 1 }
 

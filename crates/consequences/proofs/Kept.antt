@@ -15,7 +15,7 @@ use Rattle.schedule.specs.Fades.{Fade, finds, found, ready, begun, later, Premi
 use Rattle.schedule.proofs.Lists.{in-range-split, valid-after, in-range-after}
 use Rattle.schedule.proofs.Keeps.{target-small, keeps-schedule}
 
--- a typed lamp valid
+-- a valid lamp in range
 record Good (l : Lamp) : Type 0 where
   valid : lampValid l ≡ true
   inRange : InRangeLamp l

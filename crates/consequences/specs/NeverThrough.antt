@@ -1,5 +1,5 @@
--- *Never through*: if a band of hues (say green's) has no hue on the chosen arc, no hue shown from the start to done lies in
--- it. Said of the arc itself, and of the test that a console asks before it sends the fade.
+-- *Never through*: if a band of hues (say green's) has no hue on the chosen arc, no hue shown from the start to done
+-- lies in it. Said of the arc itself, and of the test that a console asks before it sends the fade.
 use Prim.Native.Nat.{ℕ}
 use mathlib.Core.Bool.{false}
 use mathlib.Core.List.{List, _++_}
@@ -20,7 +20,9 @@ StaysOnArc = (e : Fade) → Premised e → (ys zs : List Call) → e .calls ≡ 
 
 -- the band has no hue on the chosen arc
 abbrev pub NeverThrough : Type 0
-NeverThrough = (e : Fade) → Premised e → (b : Band) → ((hue : ℕ) → OnArc (found e) (deltaFrom (e .move) (found e)) hue → inBand b hue ≡ false) → Avoids e b
+NeverThrough =
+    (e : Fade) → Premised e → (b : Band) →
+    ((hue : ℕ) → OnArc (found e) (deltaFrom (e .move) (found e)) hue → inBand b hue ≡ false) → Avoids e b
 
 -- the test says so
 abbrev pub NeverThroughAsked : Type 0

@@ -1,6 +1,6 @@
--- "A delta is fixed when the command comes and added to the hue found at the start. If the hue moved in between, the end is off
--- the target by that much." Over every list of calls, under all premises of the claim but the one that the hue is as the command
--- found it. (That the task started is the one that the command gives is part (a) of the claim.)
+-- "A delta is fixed when the command comes and added to the hue found at the start. If the hue moved in between, the
+-- end is off the target by that much." Over every list of calls, under all premises of the claim but the one that the
+-- hue is as the command found it. (That the task started is the one that the command gives is part (a) of the claim.)
 use mathlib.Core.Bool.{true}
 use mathlib.Core.List.{List, _++_}
 use mathlib.Core.Path.{_≡_}

@@ -131,7 +131,7 @@ sent-small l call =
 -- ---- one call
 
 module _ (l : Lamp) (good : Good l) (call answer : List ℕ) where
-  -- the words of a typed lamp valid are taken for that lamp
+  -- the words of a valid lamp in range are taken for that lamp
   pub answered-is : answered (lampWords l) call answer ≡ replied l call answer
   unfolding answered replied
   answered-is = let b = lamp-back l (good .validity) (good .inRange) in simp (b .taken, b .same)
@@ -146,7 +146,7 @@ module _ (l : Lamp) (good : Good l) (call answer : List ℕ) where
       by-tests true false e f = simp (e, f)
       by-tests false q e f = simp e
 
-  -- which is a typed lamp valid again
+  -- which is a valid lamp in range again
   pub good-left : Clock (at call 1) → Good (left l call answer)
   unfolding left sent
   good-left clock =
@@ -168,7 +168,7 @@ module _ (l : Lamp) (good : Good l) (call answer : List ℕ) where
 -- ---- a lamp that is made
 
 module _ (w : List ℕ) (bounds : Bounds) (features options clock : ℕ) where
-  -- its words are those of a fresh lamp, which is a typed lamp valid
+  -- its words are those of a fresh lamp, which is a valid lamp in range
   pub made-good : InRangeBounds bounds → Byte options → made w bounds features options clock .number ≡ 0 → Good (freshLamp bounds features options clock) × (made w bounds features options clock .lamp ≡ lampWords (freshLamp bounds features options clock))
   unfolding made making
   made-good b o z = by-tests (eqb (length w) 28) (ltb clockLimit clock) (ltb (bounds .max) (bounds .min)) refl refl refl z

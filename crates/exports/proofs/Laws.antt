@@ -217,7 +217,7 @@ running-back (Running.ColorLoop run) bounds clock e h =
 
 -- ---- lamps
 
--- a typed lamp valid
+-- a valid lamp in range
 pub lamp-back : (l : Lamp) → lampValid l ≡ true → InRangeLamp l → Back lampOf lampKnown (lampWords l) l
 unfolding lampKnown lampFits
 lamp-back l validity h =

@@ -17,7 +17,8 @@ place p i = cond (ltb i 16) (at p i) 0
 abbrev pub placeWords : Notices → List ℕ
 placeWords n =
     let p : List ℕ = n .places in
-    place p 0 ∷ place p 1 ∷ place p 2 ∷ place p 3 ∷ place p 4 ∷ place p 5 ∷ place p 6 ∷ place p 7 ∷ place p 8 ∷ place p 9
+    place p 0 ∷ place p 1 ∷ place p 2 ∷ place p 3 ∷ place p 4 ∷ place p 5 ∷ place p 6 ∷ place p 7 ∷ place p 8
+    ∷ place p 9
     ∷ place p 10 ∷ place p 11 ∷ place p 12 ∷ place p 13 ∷ place p 14 ∷ place p 15 ∷ []
 
 abbrev pub answerWords : Answer → List ℕ

@@ -51,11 +51,13 @@ enhancedCommand n =
 unfoldable pub miredsCommand : CommandNumbers → Command
 miredsCommand n =
     cond (is n K.moveToColorTemperature) (Command.MoveToColorTemperature (short (n .a)) (short (n .b)))
-    (cond (is n K.moveColorTemperature) (Command.MoveColorTemperature (moveModeRead (n .a)) (short (n .b)) (short (n .c)) (short (n .d)))
+    (cond (is n K.moveColorTemperature)
+    (Command.MoveColorTemperature (moveModeRead (n .a)) (short (n .b)) (short (n .c)) (short (n .d)))
     (Command.StepColorTemperature (stepModeRead (n .a)) (short (n .b)) (short (n .c)) (short (n .d)) (short (n .e))))
 
 unfoldable pub loopCommand : CommandNumbers → Command
-loopCommand n = Command.ColorLoopSet (byte (n .a)) (loopActionRead (n .b)) (loopDirectionRead (n .c)) (short (n .d)) (short (n .e))
+loopCommand n =
+    Command.ColorLoopSet (byte (n .a)) (loopActionRead (n .b)) (loopDirectionRead (n .c)) (short (n .d)) (short (n .e))
 
 unfoldable pub commandOf : CommandNumbers → Command
 commandOf n =
@@ -63,7 +65,8 @@ commandOf n =
     (cond (leb (n .kind) K.moveToHueAndSaturation) (saturationCommand n)
     (cond (is n K.colorLoopSet) (loopCommand n)
     (cond (is n K.stopMoveStep) Command.StopMoveStep
-    (cond (leb K.enhancedMoveToHue (n .kind) && leb (n .kind) K.enhancedStepHue) (enhancedCommand n) (miredsCommand n)))))
+    (cond (leb K.enhancedMoveToHue (n .kind) && leb (n .kind) K.enhancedStepHue) (enhancedCommand n)
+    (miredsCommand n)))))
 
 unfoldable pub requestOf : CommandNumbers → Request
 requestOf n = request (commandOf n) (options (byte (n .mask)) (byte (n .overrides)))
@@ -77,8 +80,10 @@ commandFits n =
     && leb (n .c) 65535
     && leb (n .d) 65535
     && leb (n .e) 65535
-    && (not (is n K.moveToHue || is n K.moveToSaturation || is n K.moveToHueAndSaturation || is n K.colorLoopSet) || leb (n .a) 255)
-    && (not (is n K.moveHue || is n K.stepHue || is n K.moveSaturation || is n K.stepSaturation || is n K.moveToHueAndSaturation) || leb (n .b) 255)
+    && (not (is n K.moveToHue || is n K.moveToSaturation || is n K.moveToHueAndSaturation || is n K.colorLoopSet)
+    || leb (n .a) 255)
+    && (not (is n K.moveHue || is n K.stepHue || is n K.moveSaturation || is n K.stepSaturation
+    || is n K.moveToHueAndSaturation) || leb (n .b) 255)
     && (not (is n K.moveHue) || leb (n .c) 1)
     && (not (is n K.moveToHueAndSaturation) || leb (n .d) 1)
 
@@ -87,8 +92,10 @@ unfoldable pub commandKnown : CommandNumbers → Bool
 commandKnown n =
     commandFits n
     && (((is n K.moveToHue || is n K.enhancedMoveToHue) && directionKnown (n .b))
-    || ((is n K.moveHue || is n K.moveSaturation || is n K.enhancedMoveHue || is n K.moveColorTemperature) && moveModeKnown (n .a))
-    || ((is n K.stepHue || is n K.stepSaturation || is n K.enhancedStepHue || is n K.stepColorTemperature) && stepModeKnown (n .a))
+    || ((is n K.moveHue || is n K.moveSaturation || is n K.enhancedMoveHue || is n K.moveColorTemperature)
+    && moveModeKnown (n .a))
+    || ((is n K.stepHue || is n K.stepSaturation || is n K.enhancedStepHue || is n K.stepColorTemperature)
+    && stepModeKnown (n .a))
     || is n K.moveToSaturation || is n K.moveToHueAndSaturation || is n K.moveToColorTemperature || is n K.stopMoveStep
     || (is n K.colorLoopSet && loopActionKnown (n .b) && loopDirectionKnown (n .c)))
 
@@ -96,7 +103,16 @@ commandKnown n =
 
 abbrev pub commandNumbers : List ℕ → CommandNumbers
 commandNumbers w =
-    record { kind = at w 0; mask = at w 3; overrides = at w 4; a = at w 5; b = at w 6; c = at w 7; d = at w 8; e = at w 9 }
+    record {
+      kind = at w 0;
+      mask = at w 3;
+      overrides = at w 4;
+      a = at w 5;
+      b = at w 6;
+      c = at w 7;
+      d = at w 8;
+      e = at w 9;
+    }
 
 abbrev pub startNumbers : List ℕ → TaskNumbers
 startNumbers w = record { kind = at w 3; a = at w 4; b = at w 5; c = at w 6; d = at w 7; e = at w 8; f = at w 9 }
@@ -105,7 +121,8 @@ unfoldable pub callOf : List ℕ → Call
 callOf w =
     cond (eqb (at w 0) K.step) (Call.Step (at w 1))
     (cond (eqb (at w 0) K.start) (Call.Start (taskOf (startNumbers w)) (at w 1))
-    (cond (eqb (at w 0) K.halt) (Call.Halt (at w 1)) (Call.Command (requestOf (commandNumbers w)) (onOffRead (at w 2)) (at w 1))))
+    (cond (eqb (at w 0) K.halt) (Call.Halt (at w 1))
+    (Call.Command (requestOf (commandNumbers w)) (onOffRead (at w 2)) (at w 1))))
 
 -- words that are a call: ten of them, with a kind and enums' numbers that exist, and each within its field
 unfoldable pub callKnown : List ℕ → Bool

@@ -1,5 +1,5 @@
--- The cluster's enums by their numbers, which `matter` states: the case that a number has, and whether one has it. A number
--- that no case has is read as the case that the line of `Reserved` has here.
+-- The cluster's enums by their numbers, which `matter` states: the case that a number has, and whether one has it. A
+-- number that no case has is read as the case that the line of `Reserved` has here.
 use Prim.Native.Nat.{ℕ}
 use mathlib.Core.Bool.{Bool, true, false}
 use Rattle.matter.specs.Numbers.{directionFound, moveModeFound, stepModeFound, loopActionFound, loopDirectionFound, colorModeFound, enhancedColorModeFound, onOffFound}

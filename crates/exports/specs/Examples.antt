@@ -107,7 +107,8 @@ pub record CommandWords : Type 0 where
       Reads (words 66 1 3 700 20 0 0) (sending (Command.EnhancedStepHue StepModeEnum.Down 700 20) OnOff.On)
   pub color-loop-set :
       Reads (words 68 1 15 2 0 33 1234)
-      (sending (Command.ColorLoopSet 15 ColorLoopActionEnum.ActivateFromEnhancedCurrentHue ColorLoopDirectionEnum.Decrement 33 1234) OnOff.On)
+      (sending
+      (Command.ColorLoopSet 15 ColorLoopActionEnum.ActivateFromEnhancedCurrentHue ColorLoopDirectionEnum.Decrement 33 1234) OnOff.On)
   pub stop-move-step : Reads (words 71 1 0 0 0 0 0) (sending Command.StopMoveStep OnOff.On)
   pub move-color-temperature :
       Reads (words 75 1 1 100 160 400 0) (sending (Command.MoveColorTemperature MoveModeEnum.Up 100 160 400) OnOff.On)
@@ -117,7 +118,8 @@ pub record CommandWords : Type 0 where
 
 -- down 2000 and to saturation 250 in 7.7 s, enhanced
 abbrev pub downAndTo : HueSaturationMoveTo
-downAndTo = record { delta = HueDelta.By (negℤ (pos 2000)); saturation = TargetSaturation.To 250; ms = 7700; enhanced = true }
+downAndTo =
+    record { delta = HueDelta.By (negℤ (pos 2000)); saturation = TargetSaturation.To 250; ms = 7700; enhanced = true }
 
 pub record StartWords : Type 0 where
   pub move-to : Reads (startWords 1 2 2000 1 250 7700 1) (Call.Start (Task.HueSaturationMoveTo downAndTo) 5000)
@@ -131,15 +133,24 @@ pub record StartWords : Type 0 where
   pub saturation-alone :
       Reads (startWords 1 0 0 1 250 7700 0)
       (Call.Start
-      (Task.HueSaturationMoveTo (record { delta = HueDelta.Keep; saturation = TargetSaturation.To 250; ms = 7700; enhanced = false }))
+      (Task.HueSaturationMoveTo
+      (record { delta = HueDelta.Keep; saturation = TargetSaturation.To 250; ms = 7700; enhanced = false }))
       5000)
   pub hue-move :
       Reads (startWords 2 1 700 1 0 0 0)
       (Call.Start (Task.HueMove (record { direction = MoveModeEnum.Up; rate = 700; enhanced = true })) 5000)
   pub saturation-move :
-      Reads (startWords 3 3 9 0 0 0 0) (Call.Start (Task.SaturationMove (record { direction = MoveModeEnum.Down; rate = 9 })) 5000)
+      Reads (startWords 3 3 9 0 0 0 0) (Call.Start (Task.SaturationMove (record {
+        direction =
+            MoveModeEnum.Down;
+        rate = 9;
+      })) 5000)
   pub move-to-mireds :
-      Reads (startWords 4 300 7700 0 0 0 0) (Call.Start (Task.ColorTemperatureMoveTo (record { target = 300; ms = 7700 })) 5000)
+      Reads (startWords 4 300 7700 0 0 0 0) (Call.Start (Task.ColorTemperatureMoveTo (record {
+        target =
+            300;
+        ms = 7700;
+      })) 5000)
   pub mired-move :
       Reads (startWords 5 2 100 160 400 0 0)
       (Call.Start (Task.ColorTemperatureMove (record { rate = negℤ (pos 100); min = 160; max = 400 })) 5000)
@@ -156,7 +167,8 @@ pub record StartWords : Type 0 where
 -- the words of a fresh lamp: bounds 153 and 500, all features, options 0, clock 5000
 abbrev pub freshWords : List ℕ
 freshWords =
-    153 ∷ 500 ∷ 5000 ∷ 0 ∷ 0 ∷ 0 ∷ 0 ∷ 0 ∷ 0 ∷ 0 ∷ 250 ∷ 1 ∷ 1 ∷ 0 ∷ 1 ∷ 25 ∷ 8960 ∷ 0 ∷ 0 ∷ 0 ∷ 0 ∷ 0 ∷ 0 ∷ 0 ∷ 0 ∷ 0 ∷ 0 ∷ 0 ∷ []
+    153 ∷ 500 ∷ 5000 ∷ 0 ∷ 0 ∷ 0 ∷ 0 ∷ 0 ∷ 0 ∷ 0 ∷ 250 ∷ 1 ∷ 1 ∷ 0 ∷ 1 ∷ 25 ∷ 8960 ∷ 0 ∷ 0 ∷ 0 ∷ 0 ∷ 0 ∷ 0 ∷ 0 ∷ 0 ∷ 0
+    ∷ 0 ∷ 0 ∷ []
 
 -- a lamp that runs, in which no two numbers are equal that could be exchanged
 abbrev pub busy : Lamp
@@ -173,7 +185,14 @@ busy =
             emode = EnhancedColorModeEnum.EnhancedCurrentHueAndCurrentSaturation;
             stamps = record { hue = 11; saturation = 12; mireds = 13 };
           };
-      looping = record { active = true; direction = ColorLoopDirectionEnum.Decrement; time = 33; start = 1234; stored = 4321 };
+      looping =
+          record {
+            active = true;
+            direction = ColorLoopDirectionEnum.Decrement;
+            time = 33;
+            start = 1234;
+            stored = 4321;
+          };
       remaining = record { tenths = 77 };
       options = 7;
       running = Running.HueSaturationMoveTo (record { start = 8500; hue = 39000; saturation = 100; task = downAndTo });
@@ -184,25 +203,54 @@ abbrev pub runningWords : Running → List ℕ
 runningWords r = recordWords (recordNumbers r)
 
 pub record LampWords : Type 0 where
-  pub fresh : made (replicate 28 0) (record { min = 153; max = 500 }) 31 0 5000 ≡ record { number = 0; lamp = freshWords }
+  pub fresh : made (replicate 28 0) (record { min = 153; max = 500 }) 31 0 5000
+      ≡ record { number = 0; lamp = freshWords }
   pub running :
       lampWords busy
-      ≡ 101 ∷ 499 ∷ 9000 ∷ 7 ∷ 77 ∷ 11 ∷ 12 ∷ 13 ∷ 40000 ∷ 200 ∷ 300 ∷ 0 ∷ 3 ∷ 1 ∷ 0 ∷ 33 ∷ 1234 ∷ 4321 ∷ 8500 ∷ 39000 ∷ 100
+      ≡ 101 ∷ 499 ∷ 9000 ∷ 7 ∷ 77 ∷ 11 ∷ 12 ∷ 13 ∷ 40000 ∷ 200 ∷ 300 ∷ 0 ∷ 3 ∷ 1 ∷ 0 ∷ 33 ∷ 1234 ∷ 4321 ∷ 8500 ∷ 39000
+      ∷ 100
       ∷ 1 ∷ 2 ∷ 2000 ∷ 1 ∷ 250 ∷ 7700 ∷ 1 ∷ []
   pub hue-move :
-      runningWords (Running.HueMove (record { start = 8500; hue = 39000; task = record { direction = MoveModeEnum.Up; rate = 700; enhanced = true } }))
+      runningWords (Running.HueMove (record {
+        start =
+            8500;
+        hue = 39000;
+        task = record { direction = MoveModeEnum.Up; rate = 700; enhanced = true };
+      }))
       ≡ 8500 ∷ 39000 ∷ 0 ∷ 2 ∷ 1 ∷ 700 ∷ 1 ∷ 0 ∷ 0 ∷ 0 ∷ []
   pub saturation-move :
-      runningWords (Running.SaturationMove (record { start = 8500; saturation = 100; task = record { direction = MoveModeEnum.Down; rate = 9 } }))
+      runningWords (Running.SaturationMove (record {
+        start =
+            8500;
+        saturation = 100;
+        task = record { direction = MoveModeEnum.Down; rate = 9 };
+      }))
       ≡ 8500 ∷ 100 ∷ 0 ∷ 3 ∷ 3 ∷ 9 ∷ 0 ∷ 0 ∷ 0 ∷ 0 ∷ []
   pub move-to-mireds :
-      runningWords (Running.ColorTemperatureMoveTo (record { start = 8500; mireds = 250; task = record { target = 300; ms = 7700 } }))
+      runningWords (Running.ColorTemperatureMoveTo (record {
+        start =
+            8500;
+        mireds = 250;
+        task = record { target = 300; ms = 7700 };
+      }))
       ≡ 8500 ∷ 250 ∷ 0 ∷ 4 ∷ 300 ∷ 7700 ∷ 0 ∷ 0 ∷ 0 ∷ 0 ∷ []
   pub mired-move :
-      runningWords (Running.ColorTemperatureMove (record { start = 8500; mireds = 250; rate = negℤ (pos 100); lo = 160; hi = 400 }))
+      runningWords (Running.ColorTemperatureMove (record {
+        start =
+            8500;
+        mireds = 250;
+        rate = negℤ (pos 100);
+        lo = 160;
+        hi = 400;
+      }))
       ≡ 8500 ∷ 250 ∷ 0 ∷ 5 ∷ 2 ∷ 100 ∷ 160 ∷ 400 ∷ 0 ∷ 0 ∷ []
   pub color-loop :
-      runningWords (Running.ColorLoop (record { start = 8500; hue = 39000; task = record { direction = ColorLoopDirectionEnum.Increment; seconds = 33 } }))
+      runningWords (Running.ColorLoop (record {
+        start =
+            8500;
+        hue = 39000;
+        task = record { direction = ColorLoopDirectionEnum.Increment; seconds = 33 };
+      }))
       ≡ 8500 ∷ 39000 ∷ 0 ∷ 6 ∷ 1 ∷ 33 ∷ 0 ∷ 0 ∷ 0 ∷ 0 ∷ []
 
 -- ---- answers
@@ -221,7 +269,8 @@ replying task =
 pub record AnswerWords : Type 0 where
   pub given :
       answerWords (replying (GivenTask.Given (Task.HueSaturationMoveTo downAndTo)))
-      ≡ 6 ∷ 13 ∷ 2 ∷ 17 ∷ 0 ∷ 0 ∷ 0 ∷ 0 ∷ 0 ∷ 0 ∷ 0 ∷ 0 ∷ 0 ∷ 0 ∷ 0 ∷ 0 ∷ 0 ∷ 1 ∷ 2 ∷ 2000 ∷ 1 ∷ 250 ∷ 7700 ∷ 1 ∷ 70 ∷ []
+      ≡ 6 ∷ 13 ∷ 2 ∷ 17 ∷ 0 ∷ 0 ∷ 0 ∷ 0 ∷ 0 ∷ 0 ∷ 0 ∷ 0 ∷ 0 ∷ 0 ∷ 0 ∷ 0 ∷ 0 ∷ 1 ∷ 2 ∷ 2000 ∷ 1 ∷ 250 ∷ 7700 ∷ 1 ∷ 70
+      ∷ []
   pub stopping :
       answerWords (replying (GivenTask.Given Task.Stop))
       ≡ 6 ∷ 13 ∷ 2 ∷ 17 ∷ 0 ∷ 0 ∷ 0 ∷ 0 ∷ 0 ∷ 0 ∷ 0 ∷ 0 ∷ 0 ∷ 0 ∷ 0 ∷ 0 ∷ 0 ∷ 7 ∷ 0 ∷ 0 ∷ 0 ∷ 0 ∷ 0 ∷ 0 ∷ 70 ∷ []

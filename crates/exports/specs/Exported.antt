@@ -39,7 +39,11 @@ laid w (Made.Refused number) = record { number = number; lamp = w }
 
 unfoldable pub made : List ℕ → Bounds → ℕ → ℕ → ℕ → Left
 made w bounds features options clock =
-    cond (eqb (length w) 28) (laid w (making bounds features options clock)) (record { number = unreadableLamp; lamp = w })
+    cond (eqb (length w) 28) (laid w (making bounds features options clock)) (record {
+      number =
+          unreadableLamp;
+      lamp = w;
+    })
 
 -- ---- a call is answered
 

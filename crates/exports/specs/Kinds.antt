@@ -1,5 +1,5 @@
--- The kinds of calls: a command's is its number in the cluster (Matter Application Cluster Specification, Color Control,
--- commands); a start, a step and a halt have numbers past those.
+-- The kinds of calls: a command's is its number in the cluster (Matter Application Cluster Specification, Color
+-- Control, commands); a start, a step and a halt have numbers past those.
 use Prim.Native.Nat.{ℕ}
 
 abbrev pub moveToHue : ℕ

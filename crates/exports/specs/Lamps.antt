@@ -1,5 +1,5 @@
--- A lamp in 28 words: the protocol's eighteen fields in their order; then the running record: its clock, the two numbers
--- found at its start, its task's kind and six numbers.
+-- A lamp in 28 words: the protocol's eighteen fields in their order; then the running record: its clock, the two
+-- numbers found at its start, its task's kind and six numbers.
 use Prim.Native.Nat.{ℕ}
 use mathlib.Core.Bool.{Bool, _&&_}
 use mathlib.Core.List.{List, [], _∷_, _++_}
@@ -78,7 +78,8 @@ lampKnown w = lampFits w && colorModeKnown (at w 11) && enhancedModeKnown (at w 
 
 abbrev pub colorWords : Color → List ℕ
 colorWords c =
-    c .stamps .hue ∷ c .stamps .saturation ∷ c .stamps .mireds ∷ c .hue ∷ c .saturation ∷ c .mireds ∷ colorModeNumber (c .mode)
+    c .stamps .hue ∷ c .stamps .saturation ∷ c .stamps .mireds ∷ c .hue ∷ c .saturation ∷ c .mireds
+    ∷ colorModeNumber (c .mode)
     ∷ enhancedColorModeNumber (c .emode) ∷ []
 
 abbrev pub loopingWords : LoopSettings → List ℕ

@@ -31,7 +31,13 @@ unfoldable pub targetOf : ℕ → ℕ → TargetSaturation
 targetOf given saturation = cond (eqb given 0) TargetSaturation.Keep (TargetSaturation.To (byte saturation))
 
 unfoldable pub moveToOf : TaskNumbers → HueSaturationMoveTo
-moveToOf n = record { delta = deltaOf (n .a) (n .b); saturation = targetOf (n .c) (n .d); ms = long (n .e); enhanced = flag (n .f) }
+moveToOf n =
+    record {
+      delta = deltaOf (n .a) (n .b);
+      saturation = targetOf (n .c) (n .d);
+      ms = long (n .e);
+      enhanced = flag (n .f);
+    }
 
 unfoldable pub hueMoveOf : TaskNumbers → HueMove
 hueMoveOf n = record { direction = moveModeRead (n .a); rate = long (n .b); enhanced = flag (n .c) }
@@ -59,12 +65,22 @@ taskOf n =
 
 -- a record is what was found at its start, and its task; what is no task of the six is an idle lamp
 abbrev pub startedWith : RecordNumbers → Task → Running
-startedWith r (Task.HueSaturationMoveTo t) = Running.HueSaturationMoveTo (record { start = r .start; hue = short (r .x); saturation = byte (r .y); task = t })
+startedWith r (Task.HueSaturationMoveTo t) =
+    Running.HueSaturationMoveTo (record { start = r .start; hue = short (r .x); saturation = byte (r .y); task = t })
 startedWith r (Task.HueMove t) = Running.HueMove (record { start = r .start; hue = short (r .x); task = t })
-startedWith r (Task.SaturationMove t) = Running.SaturationMove (record { start = r .start; saturation = byte (r .x); task = t })
-startedWith r (Task.ColorTemperatureMoveTo t) = Running.ColorTemperatureMoveTo (record { start = r .start; mireds = short (r .x); task = t })
+startedWith r (Task.SaturationMove t) =
+    Running.SaturationMove (record { start = r .start; saturation = byte (r .x); task = t })
+startedWith r (Task.ColorTemperatureMoveTo t) =
+    Running.ColorTemperatureMoveTo (record { start = r .start; mireds = short (r .x); task = t })
 startedWith r (Task.ColorTemperatureMove t) =
-    Running.ColorTemperatureMove (record { start = r .start; mireds = short (r .x); rate = t .rate; lo = t .min; hi = t .max })
+    Running.ColorTemperatureMove (record {
+      start =
+          r .start;
+      mireds = short (r .x);
+      rate = t .rate;
+      lo = t .min;
+      hi = t .max;
+    })
 startedWith r (Task.ColorLoop t) = Running.ColorLoop (record { start = r .start; hue = short (r .x); task = t })
 startedWith r Task.Stop = Running.Idle
 
@@ -74,7 +90,8 @@ runningOf r = startedWith r (taskOf (r .task))
 -- each number is within its field
 unfoldable pub taskFits : TaskNumbers → Bool
 taskFits n =
-    (not (eqb (n .kind) 1) || (leb (n .b) 9223372036854775807 && leb (n .c) 1 && leb (n .d) 255 && leb (n .e) 4294967295 && leb (n .f) 1))
+    (not (eqb (n .kind) 1)
+    || (leb (n .b) 9223372036854775807 && leb (n .c) 1 && leb (n .d) 255 && leb (n .e) 4294967295 && leb (n .f) 1))
     && (not (eqb (n .kind) 2) || (leb (n .b) 4294967295 && leb (n .c) 1))
     && (not (eqb (n .kind) 3) || leb (n .b) 4294967295)
     && (not (eqb (n .kind) 4) || (leb (n .a) 65535 && leb (n .b) 4294967295))
@@ -85,7 +102,8 @@ taskFits n =
 unfoldable pub taskKnown : TaskNumbers → Bool
 taskKnown n =
     taskFits n
-    && ((eqb (n .kind) 1 && leb (n .a) 2) || ((eqb (n .kind) 2 || eqb (n .kind) 3) && moveModeKnown (n .a)) || eqb (n .kind) 4
+    && ((eqb (n .kind) 1 && leb (n .a) 2) || ((eqb (n .kind) 2 || eqb (n .kind) 3) && moveModeKnown (n .a))
+    || eqb (n .kind) 4
     || (eqb (n .kind) 5 && leb (n .a) 2) || (eqb (n .kind) 6 && loopDirectionKnown (n .a)) || eqb (n .kind) 7)
 
 unfoldable pub recordKnown : RecordNumbers → Bool
@@ -120,7 +138,8 @@ targetNumber (TargetSaturation.To saturation) = saturation
 
 abbrev pub moveToNumbers : HueSaturationMoveTo → TaskNumbers
 moveToNumbers t =
-    numbers 1 (deltaSign (t .delta)) (deltaSize (t .delta)) (targetGiven (t .saturation)) (targetNumber (t .saturation)) (t .ms)
+    numbers 1 (deltaSign (t .delta)) (deltaSize (t .delta)) (targetGiven (t .saturation))
+    (targetNumber (t .saturation)) (t .ms)
     (flagNumber (t .enhanced))
 
 abbrev pub hueMoveNumbers : HueMove → TaskNumbers
@@ -156,7 +175,8 @@ found start x y task = record { start = start; x = x; y = y; task = task }
 
 unfoldable pub recordNumbers : Running → RecordNumbers
 recordNumbers Running.Idle = found 0 0 0 none
-recordNumbers (Running.HueSaturationMoveTo run) = found (run .start) (run .hue) (run .saturation) (moveToNumbers (run .task))
+recordNumbers (Running.HueSaturationMoveTo run) = found (run .start) (run .hue) (run .saturation)
+    (moveToNumbers (run .task))
 recordNumbers (Running.HueMove run) = found (run .start) (run .hue) 0 (hueMoveNumbers (run .task))
 recordNumbers (Running.SaturationMove run) = found (run .start) (run .saturation) 0 (saturationMoveNumbers (run .task))
 recordNumbers (Running.ColorTemperatureMoveTo run) = found (run .start) (run .mireds) 0 (miredsToNumbers (run .task))

@@ -20,7 +20,7 @@ pub record Back {A N : Type 0} (read : N → A) (known : N → Bool) (written : 
   pub same : read written ≡ thing
   pub taken : known written ≡ true
 
--- a typed lamp valid
+-- a valid lamp in range
 pub record Good (l : Lamp) : Type 0 where
   pub validity : lampValid l ≡ true
   pub inRange : InRangeLamp l

@@ -1,5 +1,5 @@
--- When a line is settled, in bytes: at its newline, or at the first byte that no line of the form has there (DECISIONS 13).
--- Bytes are written as their numbers: 10 is the newline, 32 the blank, 48 to 57 the digits, 120 is `x`.
+-- When a line is settled, in bytes: at its newline, or at the first byte that no line of the form has there (DECISIONS
+-- 13). Bytes are written as their numbers: 10 is the newline, 32 the blank, 48 to 57 the digits, 120 is `x`.
 use Prim.Native.Nat.{ℕ}
 use mathlib.Core.Bool.{Bool, true, false}
 use mathlib.Core.List.{List, [], _∷_, map}

@@ -52,13 +52,16 @@ allNumbers [] = true
 allNumbers (w ∷ ws) = isNumber w && allNumbers ws
 
 abbrev pub withDirection : DirectionFound → ℕ → ℕ → ℕ → Asked
-withDirection (DirectionFound.Known direction) hue tenths clock = Asked.Fade (record { hue = hue; direction = direction; tenths = tenths; clock = clock })
+withDirection (DirectionFound.Known direction) hue tenths clock =
+    Asked.Fade (record { hue = hue; direction = direction; tenths = tenths; clock = clock })
 withDirection DirectionFound.Reserved hue tenths clock = Asked.BadLine
 
--- "hue, direction (0 Shortest, 1 Longest, 2 Up, 3 Down), tenths, clock"; "a direction above 3, or a number past its field
--- (hue 255, tenths 65,535, clock 64 bits)" is a bad line
+-- "hue, direction (0 Shortest, 1 Longest, 2 Up, 3 Down), tenths, clock"; "a direction above 3, or a number past its
+-- field (hue 255, tenths 65,535, clock 64 bits)" is a bad line
 unfoldable pub wanted : ℕ → ℕ → ℕ → ℕ → Asked
-wanted hue direction tenths clock = cond (leb hue 255 && leb direction 3 && leb tenths 65535) (withDirection (directionFound direction) hue tenths clock) Asked.BadLine
+wanted hue direction tenths clock =
+    cond (leb hue 255 && leb direction 3 && leb tenths 65535)
+    (withDirection (directionFound direction) hue tenths clock) Asked.BadLine
 
 -- "four decimal numbers"
 unfoldable pub askedByWords : List (List ℕ) → Asked

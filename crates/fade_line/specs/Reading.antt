@@ -13,23 +13,61 @@ fresh = record { bad = false; over = false; begun = false; blanks = 0; first = 0
 
 -- no line that begins so has the form
 abbrev pub spoilt : Reader → Reader
-spoilt r = record { bad = true; over = r .over; begun = r .begun; blanks = r .blanks; first = r .first; second = r .second; third = r .third; last = r .last }
+spoilt r =
+    record {
+      bad = true;
+      over = r .over;
+      begun = r .begun;
+      blanks = r .blanks;
+      first = r .first;
+      second = r .second;
+      third = r .third;
+      last = r .last;
+    }
 
 abbrev pub ended : Reader → Reader
-ended r = record { bad = r .bad; over = true; begun = r .begun; blanks = r .blanks; first = r .first; second = r .second; third = r .third; last = r .last }
+ended r =
+    record {
+      bad = r .bad;
+      over = true;
+      begun = r .begun;
+      blanks = r .blanks;
+      first = r .first;
+      second = r .second;
+      third = r .third;
+      last = r .last;
+    }
 
 -- a blank: the word before it has a digit, and there are four words at most
 unfoldable pub nextWord : Reader → Reader
 nextWord r =
     cond (r .begun && ltb (r .blanks) 3)
-    (record { bad = r .bad; over = r .over; begun = false; blanks = r .blanks + 1; first = r .second; second = r .third; third = r .last; last = 0 })
+    (record {
+      bad = r .bad;
+      over = r .over;
+      begun = false;
+      blanks = r .blanks + 1;
+      first = r .second;
+      second = r .third;
+      third = r .last;
+      last = 0;
+    })
     (spoilt r)
 
 -- a digit: the number stays within 64 bits
 unfoldable pub nextDigit : Reader → ℕ → Reader
 nextDigit r d =
     cond (ltb (r .last * 10 + d) (2 ^ 64))
-    (record { bad = r .bad; over = r .over; begun = true; blanks = r .blanks; first = r .first; second = r .second; third = r .third; last = r .last * 10 + d })
+    (record {
+      bad = r .bad;
+      over = r .over;
+      begun = true;
+      blanks = r .blanks;
+      first = r .first;
+      second = r .second;
+      third = r .third;
+      last = r .last * 10 + d;
+    })
     (spoilt r)
 
 -- the newline has come, or something spoils the line: no further byte counts

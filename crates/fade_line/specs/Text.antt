@@ -1,5 +1,6 @@
 -- What `fade` writes, as lists of bytes: "A line has clock, hue, remaining tenths and wait, a colon, then the notices";
--- "a refusal prints `refused`, a space and its number"; another line "prints `bad line`". Every line ends with a newline.
+-- "a refusal prints `refused`, a space and its number"; another line "prints `bad line`". Every line ends with a
+-- newline.
 use Prim.Native.Nat.{ℕ, zero, suc, _+_, _/_, _%_}
 use mathlib.Core.Path.{_≡_}
 use mathlib.Core.Bool.{Bool, cond}
@@ -34,7 +35,8 @@ numbers list = take (list .len) (list .places)
 
 -- clock, hue, remaining tenths and wait, and a colon: `5000 0 2 100:`
 unfoldable pub stateText : Line → List ℕ
-stateText line = decimal (line .clock) ++ spaced (line .hue) ++ spaced (line .tenths) ++ spaced (line .wait) ++ (58 ∷ [])
+stateText line =
+    decimal (line .clock) ++ spaced (line .hue) ++ spaced (line .tenths) ++ spaced (line .wait) ++ (58 ∷ [])
 
 -- `5000 0 2 100: 15`
 unfoldable pub lineText : Line → List ℕ

@@ -1,5 +1,5 @@
--- The program `fade`: document 01, "Checked by sums". "It makes this lamp at that clock, gives the plain command, starts it, and
--- steps at each wait until done."
+-- The program `fade`: document 01, "Checked by sums". "It makes this lamp at that clock, gives the plain command,
+-- starts it, and steps at each wait until done."
 use Prim.Native.Nat.{ℕ, zero, suc, _+_, _-_}
 use mathlib.Core.Bool.{Bool, true, false, cond, _&&_, _||_}
 use mathlib.Core.List.{List, [], _++_}
@@ -27,7 +27,14 @@ use Rattle.fade_run.specs.declared.Fade.{Fade}
 
 -- "A line has clock, hue, remaining tenths and wait, a colon, then the notices of the start or step"
 unfoldable pub lineOf : Answer → ℕ → Line
-lineOf a clock = record { clock = clock; hue = a .lamp .color .hue; tenths = a .lamp .remaining .tenths; wait = a .wait; notices = a .notices }
+lineOf a clock =
+    record {
+      clock = clock;
+      hue = a .lamp .color .hue;
+      tenths = a .lamp .remaining .tenths;
+      wait = a .wait;
+      notices = a .notices;
+    }
 
 -- "A refusal prints `refused`, a space and its number"
 abbrev pub oneText : Answer → ℕ → List ℕ
@@ -54,8 +61,12 @@ further (suc left) a clock =
 abbrev pub text : Fade → List ℕ
 text Fade.BadLine = badLineText
 text (Fade.Refused number) = refusedText number
-text (Fade.Start s) = oneText (startAnswer (s .lamp) (s .task) (s .clock)) (s .clock) ++ further (s .left) (startAnswer (s .lamp) (s .task) (s .clock)) (s .clock)
-text (Fade.Step s) = oneText (stepAnswer (s .lamp) (s .clock)) (s .clock) ++ further (s .left) (stepAnswer (s .lamp) (s .clock)) (s .clock)
+text (Fade.Start s) =
+    oneText (startAnswer (s .lamp) (s .task) (s .clock)) (s .clock)
+    ++ further (s .left) (startAnswer (s .lamp) (s .task) (s .clock)) (s .clock)
+text (Fade.Step s) =
+    oneText (stepAnswer (s .lamp) (s .clock)) (s .clock)
+    ++ further (s .left) (stepAnswer (s .lamp) (s .clock)) (s .clock)
 text Fade.Over = []
 
 -- ---- a run as it begins, with so many steps at most
@@ -65,7 +76,8 @@ startOf left clock l GivenTask.Nothing = Fade.Over
 startOf left clock l (GivenTask.Given task) = Fade.Start (record { lamp = l; task = task; clock = clock; left = left })
 
 abbrev pub afterCommand : ℕ → ℕ → Answer → Fade
-afterCommand left clock a = cond (eqb (a .number) accepted) (startOf left clock (a .lamp) (a .task)) (Fade.Refused (a .number))
+afterCommand left clock a =
+    cond (eqb (a .number) accepted) (startOf left clock (a .lamp) (a .task)) (Fade.Refused (a .number))
 
 -- "gives the plain command", on, with no options of its own
 abbrev pub commanded : ℕ → Wanted → Lamp → Fade
@@ -101,7 +113,13 @@ nextText (Fade.Step s) = oneText (stepAnswer (s .lamp) (s .clock)) (s .clock)
 nextText Fade.Over = []
 
 unfoldable pub stepOf : Answer → ℕ → ℕ → Fade
-stepOf a clock left = cond (goesOn a && ltb 0 left) (Fade.Step (record { lamp = a .lamp; clock = clock + a .wait; left = left - 1 })) Fade.Over
+stepOf a clock left =
+    cond (goesOn a && ltb 0 left) (Fade.Step (record {
+      lamp =
+          a .lamp;
+      clock = clock + a .wait;
+      left = left - 1;
+    })) Fade.Over
 
 abbrev pub rest : Fade → Fade
 rest Fade.BadLine = Fade.Over

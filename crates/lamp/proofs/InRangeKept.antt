@@ -68,7 +68,7 @@ module _ (l : Lamp) (P : Lamp → Type 0) (any : (c : Color) (r : Running) (t : 
 
 -- ---- widths
 
--- a lamp valid: its form bounds the other numbers
+-- a valid lamp: its validity bounds the other numbers
 pub in-range-of : (m : Lamp) → lampValid m ≡ true → InRangeBounds (m .bounds) → Short (m .color .hue) → Short (m .looping .time) → Short (m .looping .start) → Short (m .looping .stored) → Short (m .remaining .tenths) → Byte (m .options) → InRangeRunning (m .running) → InRangeLamp m
 in-range-of m validity bounds hue time start stored tenths options run =
     let f : colorValid (m .color) (m .bounds) (m .clock) ≡ true = valid-color m validity in
@@ -121,7 +121,7 @@ module _ (l : Lamp) (inRange : InRangeLamp l) where
   saturation-part-hue c TargetSaturation.Keep start permille = refl
   saturation-part-hue c (TargetSaturation.To target) start permille = saturation-hue c _ _ _
 
-  -- a pass of a move-to keeps widths, if it keeps form
+  -- a pass of a move-to keeps widths, if it keeps validity
   hue-saturation-in-range : (run : HueSaturationRun) (permille : ℕ) → InRangeRunning (Running.HueSaturationMoveTo run) → lampValid (hueSaturationPass l run permille .lamp) ≡ true → InRangeLamp (hueSaturationPass l run permille .lamp)
   unfolding hueSaturationPass
   hue-saturation-in-range run permille t validity =

@@ -45,7 +45,7 @@ use Rattle.lamp.specs.Valid.{lampValid}
 use Rattle.matter.specs.Rules.{signed}
 use Rattle.lamp.specs.Passes.{Effect, unless, atEnd, saturationDone, miredsDone, hueMoved, hueMovedReported, saturationMoved, saturationMovedReported, leftWritten, miredsNow, hueSaturationPass, temperatureToPass, huePass, saturationPass, temperaturePass, loopPass}
 
--- ---- the parts of form
+-- ---- the parts of validity
 
 module _ (l : Lamp) (validity : lampValid l ≡ true) where
   -- the clock is at most the limit
@@ -68,9 +68,9 @@ pub valid-of : (l : Lamp) → l .clock ≤ clockLimit → colorValid (l .color) 
 unfolding lampValid
 valid-of l h c r = all-of _ (le-leb _ _ h, (c, (r, tt)))
 
--- ---- form lasts
+-- ---- validity lasts
 
--- a running record valid is valid at a later clock
+-- a valid running record is valid at a later clock
 pub running-later : (r : Running) (b : Bounds) (c d : ℕ) → runningValid r b c ≡ true → c ≤ d → runningValid r b d ≡ true
 unfolding runningValid
 running-later Running.Idle b c d e h = refl
@@ -89,13 +89,13 @@ running-later (Running.ColorTemperatureMove run) b c d e h =
     all-of _ (t, (m, (o, (p, (q, (leb-later _ c d z h, tt))))))
 running-later (Running.ColorLoop run) b c d e h = leb-later _ c d e h
 
--- a lamp valid is valid at a later clock, up to the limit
+-- a valid lamp is valid at a later clock, up to the limit
 pub later-valid : (l : Lamp) (clock : ℕ) → lampValid l ≡ true → l .clock ≤ clock → clock ≤ clockLimit → lampValid (atClock l clock) ≡ true
 later-valid l clock e h k =
     valid-of (atClock l clock) k (color-later (l .color) (l .bounds) (l .clock) clock (valid-color l e) h)
     (running-later (l .running) (l .bounds) (l .clock) clock (valid-running l e) h)
 
--- ---- a pass keeps form
+-- ---- a pass keeps validity
 
 -- both tests of a number within the bounds
 within : (b : Bounds) (n : ℕ) → withinBounds b n ≡ true → (b .min ≤ n) × (n ≤ b .max)
@@ -116,7 +116,7 @@ module _ (l : Lamp) (timely : l .clock ≤ clockLimit) (validity : colorValid (l
   hue-part HueDelta.Keep start permille enhanced = validity
   hue-part (HueDelta.By way) start permille enhanced = hue-kept (l .color) (l .bounds) (l .clock) validity _ (atEnd permille) enhanced
 
-  -- the saturation's, on a colour valid
+  -- the saturation's, on a valid colour
   saturation-part : (c : Color) (t : TargetSaturation) (start permille : ℕ) → colorValid c (l .bounds) (l .clock) ≡ true → saturationValid t ≡ true → colorValid (saturationMoved c t start permille (l .clock)) (l .bounds) (l .clock) ≡ true
   saturation-part c TargetSaturation.Keep start permille e h = e
   saturation-part c (TargetSaturation.To target) start permille e h =
@@ -168,7 +168,7 @@ module _ (l : Lamp) (timely : l .clock ≤ clockLimit) (validity : colorValid (l
   unfolding loopPass
   loop-pass run r = valid-of _ timely (hue-kept _ _ _ validity _ false true) r
 
--- ---- a start keeps form
+-- ---- a start keeps validity
 
 -- a move-to that does not end at once takes time
 takes-time : (ms : ℕ) (noDelta : Bool) → atEnd (startPermille ms noDelta) ≡ false → ltb 0 ms ≡ true
@@ -209,7 +209,7 @@ module _ (l : Lamp) (validity : lampValid l ≡ true) where
       (all-of _
       (e, (is-within _ _ (valid-above _ _ _ c) (valid-below _ _ _ c), (lt-ltb _ _ apart, (is-within _ low (omega arith) (omega arith), (is-within _ high (omega arith) (omega arith), (le-leb (l .clock) _ (omega arith), tt))))))))
 
-  -- a start of a task valid
+  -- a start of a valid task
   pub started-valid : (task : Task) → taskValid task ≡ true → lampValid (started l task .lamp) ≡ true
   unfolding started taskValid runningValid
   started-valid (Task.HueSaturationMoveTo task) e = move-to-start task e
@@ -223,7 +223,7 @@ module _ (l : Lamp) (validity : lampValid l ≡ true) where
   started-valid (Task.ColorLoop task) e = loop-pass l (valid-clock l validity) (valid-color l validity) _ (le-leb (l .clock) _ (omega arith))
   started-valid Task.Stop e = validity
 
--- ---- a step keeps form
+-- ---- a step keeps validity
 
 -- whatever record it is given, if that is valid
 step-of : (l : Lamp) (r : Running) → lampValid l ≡ true → runningValid r (l .bounds) (l .clock) ≡ true → lampValid (stepped l r .lamp) ≡ true
@@ -291,7 +291,7 @@ module _ (l : Lamp) (clock : ℕ) where
       let (h, k) = good-clock (no-first (badClock l clock) 3 0 (no-first (not (runs (l .running))) 6 _ r .1) .0) in
       later-valid l clock (not-false _ f) h k
 
--- ---- answers keep form
+-- ---- answers keep validity
 
 -- what holds of a refusal, and of the answer where there is no cause, holds of the one chosen
 pub choose-both : (P : Answer → Type 0) (cause : ℕ) (l : Lamp) (a : Answer) → (cause ≡ 0 → P a) → ((cause ≡ 0 → ⊥) → P (refusal l cause)) → P (choose cause l a)

@@ -14,13 +14,21 @@ use Rattle.lamp.specs.Valid.{lampValid}
 -- the lamp at another clock
 abbrev pub atClock : Lamp → ℕ → Lamp
 atClock l clock =
-    record { clock = clock; bounds = l .bounds; color = l .color; looping = l .looping; remaining = l .remaining; options = l .options; running = l .running }
+    record {
+      clock = clock;
+      bounds = l .bounds;
+      color = l .color;
+      looping = l .looping;
+      remaining = l .remaining;
+      options = l .options;
+      running = l .running;
+    }
 
 -- "clock earlier than the lamp's, or above 1,099,511,627,776"
 abbrev pub badClock : Lamp → ℕ → Bool
 badClock l clock = ltb clock (l .clock) || ltb clockLimit clock
 
--- 8, then 4: what a halt looks at, and a command and a start before all else
+-- 8, then 4: what a halt checks, and a command and a start before all else
 unfoldable pub firstCause : Lamp → ℕ → ℕ
 firstCause l clock = cond (not (lampValid l)) invalidLamp (cond (badClock l clock) clockRefused accepted)
 

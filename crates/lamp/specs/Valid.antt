@@ -1,4 +1,4 @@
--- The form of a lamp: document 01, "Lamp out of form".
+-- When a lamp is valid: document 01, "Lamp out of form".
 use mathlib.Core.Bool.{Bool}
 use mathlib.Core.List.{[], _∷_}
 use lib.Dec.{leb}

@@ -24,7 +24,7 @@ clockRefused = 4
 abbrev pub crossedBounds : ℕ
 crossedBounds = 5
 
--- task invalid
+-- an invalid task
 abbrev pub invalidTask : ℕ
 invalidTask = 6
 
@@ -32,6 +32,6 @@ invalidTask = 6
 abbrev pub stepWhileIdle : ℕ
 stepWhileIdle = 7
 
--- lamp invalid
+-- an invalid lamp
 abbrev pub invalidLamp : ℕ
 invalidLamp = 8

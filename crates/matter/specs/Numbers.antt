@@ -69,7 +69,9 @@ loopActionNumber ColorLoopActionEnum.ActivateFromColorLoopStartEnhancedHue = 1
 loopActionNumber ColorLoopActionEnum.ActivateFromEnhancedCurrentHue = 2
 
 abbrev pub loopActions : List ColorLoopActionEnum
-loopActions = ColorLoopActionEnum.Deactivate ∷ ColorLoopActionEnum.ActivateFromColorLoopStartEnhancedHue ∷ ColorLoopActionEnum.ActivateFromEnhancedCurrentHue ∷ []
+loopActions =
+    ColorLoopActionEnum.Deactivate ∷ ColorLoopActionEnum.ActivateFromColorLoopStartEnhancedHue
+    ∷ ColorLoopActionEnum.ActivateFromEnhancedCurrentHue ∷ []
 
 abbrev pub loopActionFound : ℕ → ColorLoopActionFound
 loopActionFound n = caseNumbered loopActionNumber ColorLoopActionFound.Known ColorLoopActionFound.Reserved loopActions n
@@ -83,7 +85,8 @@ abbrev pub loopDirections : List ColorLoopDirectionEnum
 loopDirections = ColorLoopDirectionEnum.Decrement ∷ ColorLoopDirectionEnum.Increment ∷ []
 
 abbrev pub loopDirectionFound : ℕ → ColorLoopDirectionFound
-loopDirectionFound n = caseNumbered loopDirectionNumber ColorLoopDirectionFound.Known ColorLoopDirectionFound.Reserved loopDirections n
+loopDirectionFound n =
+    caseNumbered loopDirectionNumber ColorLoopDirectionFound.Known ColorLoopDirectionFound.Reserved loopDirections n
 
 -- ColorModeEnum
 abbrev pub colorModeNumber : ColorModeEnum → ℕ
@@ -92,7 +95,9 @@ colorModeNumber ColorModeEnum.CurrentXAndCurrentY = 1
 colorModeNumber ColorModeEnum.ColorTemperatureMireds = 2
 
 abbrev pub colorModes : List ColorModeEnum
-colorModes = ColorModeEnum.CurrentHueAndCurrentSaturation ∷ ColorModeEnum.CurrentXAndCurrentY ∷ ColorModeEnum.ColorTemperatureMireds ∷ []
+colorModes =
+    ColorModeEnum.CurrentHueAndCurrentSaturation ∷ ColorModeEnum.CurrentXAndCurrentY
+    ∷ ColorModeEnum.ColorTemperatureMireds ∷ []
 
 abbrev pub colorModeFound : ℕ → ColorModeFound
 colorModeFound n = caseNumbered colorModeNumber ColorModeFound.Known ColorModeFound.Reserved colorModes n
@@ -105,10 +110,13 @@ enhancedColorModeNumber EnhancedColorModeEnum.ColorTemperatureMireds = 2
 enhancedColorModeNumber EnhancedColorModeEnum.EnhancedCurrentHueAndCurrentSaturation = 3
 
 abbrev pub enhancedColorModes : List EnhancedColorModeEnum
-enhancedColorModes = EnhancedColorModeEnum.CurrentHueAndCurrentSaturation ∷ EnhancedColorModeEnum.CurrentXAndCurrentY ∷ EnhancedColorModeEnum.ColorTemperatureMireds ∷ EnhancedColorModeEnum.EnhancedCurrentHueAndCurrentSaturation ∷ []
+enhancedColorModes =
+    EnhancedColorModeEnum.CurrentHueAndCurrentSaturation ∷ EnhancedColorModeEnum.CurrentXAndCurrentY
+    ∷ EnhancedColorModeEnum.ColorTemperatureMireds ∷ EnhancedColorModeEnum.EnhancedCurrentHueAndCurrentSaturation ∷ []
 
 abbrev pub enhancedColorModeFound : ℕ → EnhancedColorModeFound
-enhancedColorModeFound n = caseNumbered enhancedColorModeNumber EnhancedColorModeFound.Known EnhancedColorModeFound.Reserved enhancedColorModes n
+enhancedColorModeFound n =
+    caseNumbered enhancedColorModeNumber EnhancedColorModeFound.Known EnhancedColorModeFound.Reserved enhancedColorModes n
 
 -- OnOff: the on/off attribute's numbers, and 2 where there is no on/off cluster (ours)
 abbrev pub onOffNumber : OnOff → ℕ

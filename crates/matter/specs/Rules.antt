@@ -8,8 +8,8 @@ use Rattle.matter.specs.declared.enums.ColorModeEnum.{ColorModeEnum}
 use Rattle.matter.specs.declared.enums.EnhancedColorModeEnum.{EnhancedColorModeEnum}
 use Rattle.matter.specs.Flags.{hasFlag, executeIfOff, xy, hueAndSaturation, colorTemperature}
 
--- "Leave to run", document 01: "No handler, or lamp on: yes. Lamp off: if the options mask has ExecuteIfOff (bit 0), the override's
--- bit decides, else the lamp's own option." From the lamp's options, the mask and the override
+-- "Leave to run", document 01: "No handler, or lamp on: yes. Lamp off: if the options mask has ExecuteIfOff (bit 0),
+-- the override's bit decides, else the lamp's own option." From the lamp's options, the mask and the override
 abbrev pub mayExecute : OnOff → ℕ → ℕ → ℕ → Bool
 mayExecute OnOff.NoHandler options mask overrides = true
 mayExecute OnOff.On options mask overrides = true

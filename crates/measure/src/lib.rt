@@ -37,7 +37,7 @@ fn run(lamp: Lamp, calls: &[u64]) -> Ran
 }
 
 // Runs the calls, ten words each, one after another on the lamp (28 words), and gives the checksum. The words are read
-// without a look at which numbers the enums have; words that a lamp lacks are 0.
+// without a check which numbers the enums have; words that a lamp lacks are 0.
 #[no_mangle]
 pub extern "C" fn yemkruos_run(words: &[u64], calls: &[u64]) -> u64
     ensures { λ r. ⌜ r ≡ checksum (now (words .entry)) (now (calls .entry)) ⌝ }

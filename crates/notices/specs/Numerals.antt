@@ -1,5 +1,5 @@
--- A notice list as a numeral: how it is built, from its last notice to its first. `Numerals.placed-noted` in proofs/ says that
--- what is built so and then placed is the list.
+-- A notice list as a numeral: how it is built, from its last notice to its first. `Numerals.placed-noted` in proofs/
+-- says that what is built so and then placed is the list.
 use Prim.Native.Nat.{ℕ, zero, suc, _+_, _*_, _%_, _/_}
 use mathlib.Core.List.{List, [], _∷_, _++_}
 use Rattle.notices.specs.declared.Notices.{Notices}

@@ -12,7 +12,7 @@ use Rattle.matter.specs.Limits.{clockLimit}
 unfoldable pub permilleOf : ℕ → ℕ → ℕ
 permilleOf elapsed time = cond (eqb time 0) 1000 (min 1000 (elapsed * 1000 / time))
 
--- no task valid has a way or a rate beyond ±65,535 (document 01, "Task out of form"): one beyond is read as that limit
+-- no valid task has a way or a rate beyond ±65,535 (document 01, "Task out of form"): one beyond is read as that limit
 unfoldable pub limited : ℤ → ℤ
 limited z = cond (ltZ (pos 65535) z) (pos 65535) (cond (ltZ z (negℤ (pos 65535))) (negℤ (pos 65535)) z)
 

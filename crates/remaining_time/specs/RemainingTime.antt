@@ -13,7 +13,8 @@ apart a b = (a - b) + (b - a)
 -- "It is reported when the new number is 0 and the old was not, when the old was 0 and the new exceeds 10, or, at a
 -- transition's start only, when they differ by more than 10"
 unfoldable pub reported : ℕ → ℕ → Bool → Bool
-reported old new start = (eqb new 0 && not (eqb old 0)) || (eqb old 0 && ltb 10 new) || (ltb 10 (apart new old) && start)
+reported old new start =
+    (eqb new 0 && not (eqb old 0)) || (eqb old 0 && ltb 10 new) || (ltb 10 (apart new old) && start)
 
 -- "Milliseconds become tenths, rounded up", in the attribute's sixteen bits
 abbrev pub newTenths : ℕ → ℕ
@@ -21,4 +22,5 @@ newTenths ms = tenthsOf ms % 65536
 
 -- "It is stored in every case"
 abbrev pub writtenQuietly : RemainingTime → ℕ → Bool → Written
-writtenQuietly t ms start = record { reported = reported (t .tenths) (newTenths ms) start; remaining = record { tenths = newTenths ms } }
+writtenQuietly t ms start =
+    record { reported = reported (t .tenths) (newTenths ms) start; remaining = record { tenths = newTenths ms } }

@@ -297,7 +297,7 @@ fn leaf_line(line: &[u8], at: usize) -> LineRead {
     lost_line()
 }
 
-// The lines that make a lamp, look at something on its own, or change the lamp by hand.
+// The lines that make a lamp, check something on its own, or change the lamp by hand.
 fn other_line(line: &[u8], at: usize) -> LineRead {
     if words::is(line, 0, b"leaf") {
         return leaf_line(line, at);

@@ -82,7 +82,7 @@ fn answered(last: GivenTask, answer: Answer, out: &mut [u8], at: usize) -> Turn 
     }
 }
 
-// A lamp that was put in place or looked at.
+// A lamp that was put in place or checked.
 fn shown(lamp: Lamp) -> Answer {
     lamp.refused(ACCEPTED)
 }

@@ -1,4 +1,4 @@
--- Which calls a lamp valid accepts, that a refused one leaves it as it was, and what an accepted one gives.
+-- Which calls a valid lamp accepts, that a refused one leaves it as it was, and what an accepted one gives.
 use Prim.Native.Nat.{ℕ}
 use mathlib.Core.Bool.{Bool, true, false, not, cond, _&&_, _||_}
 use mathlib.Core.Logic.{inl, inr}
@@ -23,7 +23,7 @@ use Rattle.schedule.proofs.Tests.{either, below-is}
 abbrev pub timely : ℕ → ℕ → Bool
 timely now clock = leb now clock && leb clock clockLimit
 
--- a call that nothing but form and clock can turn away
+-- a call that nothing but validity and clock can turn away
 abbrev pub grounds : Lamp → Call → Bool
 grounds l (Call.Command r onOff clock) = checks (r .command) .stop || (eqb (checks (r .command) .cause) 0 && not (allowed l r onOff && crossed (l .bounds) (r .command)))
 grounds l (Call.Start task clock) = taskValid task

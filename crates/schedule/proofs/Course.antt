@@ -21,7 +21,7 @@ use Rattle.matter.proofs.Laws.{and-left, and-right, or-left, or-right}
 use Rattle.schedule.proofs.Tests.{either, never, positive, leb-same}
 use Rattle.schedule.proofs.Arithmetic.{gone, gone-part, gone-whole}
 
--- the numbers that the schedule is fed are hues, and the time of a task valid
+-- the numbers that the schedule is fed are hues, and the time of a valid task
 pub record Sane (f : Fed) : Type 0 where
   pub found : f .found < 65536
   pub target : target (f .fade) < 65536

@@ -103,7 +103,7 @@ task-is l h onOff clock a e =
     rw (accepted-is l (Call.Command (asRequest h) onOff clock) a)
     (elim (either (h .enhanced)) [ inl z ↦ rw (z, rw z at e) | inr z ↦ rw (z, rw z at e) ])
 
--- the target of a typed command is a hue
+-- the target of a command in range is a hue
 pub target-small : (h : HueCommand) → InRangeRequest (asRequest h) → target h < 65536
 target-small h t =
     elim (either (h .enhanced)) [
@@ -111,7 +111,7 @@ target-small h t =
       | inr z ↦ rw z (let k = (rw z at (t .command)) .0 in omega arith)
     ]
 
--- the time of an accepted start is that of a task valid
+-- the time of an accepted start is that of a valid task
 time-small : (l : Lamp) (h : HueCommand) (found clock : ℕ) → lampValid l ≡ true → accepts l (Call.Start (taskOf h found) clock) ≡ true → time h ≤ 6553500
 unfolding taskValid moveToValid
 time-small l h found clock f a =

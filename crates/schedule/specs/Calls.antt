@@ -62,12 +62,13 @@ unfoldable pub reached : ℕ → Lamp → List Call → Bool
 reached clock l [] = false
 reached clock l (x ∷ xs) = (acceptedStep l x && leb clock (clockOf x)) || reached clock (next l x) xs
 
--- "each accepted step also comes at or after the wait its start or last accepted step asked": `due` is the clock of the one
--- before, and its wait
+-- "each accepted step also comes at or after the wait its start or last accepted step asked": `due` is the clock of the
+-- one before, and its wait
 unfoldable pub paced : ℕ → Lamp → List Call → Bool
 paced due l [] = true
 paced due l (x ∷ xs) =
-    cond (acceptedStep l x) (leb due (clockOf x) && paced (clockOf x + answer l x .wait) (next l x) xs) (paced due (next l x) xs)
+    cond (acceptedStep l x) (leb due (clockOf x) && paced (clockOf x + answer l x .wait) (next l x) xs)
+    (paced due (next l x) xs)
 
 -- a mired step whose limits cross within the bounds, and a list without one
 abbrev pub crosses : Bounds → Call → Bool

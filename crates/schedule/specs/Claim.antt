@@ -1,6 +1,7 @@
--- The claim about every list of commands, starts, steps and halts, refused ones too, from any lamp valid: each move to a hue
--- that is accepted with leave to execute gives its task and, once a start of that task is accepted, keeps its schedule. One statement
--- over a lamp and a whole list. Premises: the lamp is valid; lamp and calls are typed; the demand's own.
+-- The claim about every list of commands, starts, steps and halts, refused ones too, from any valid lamp: each move to
+-- a hue that is accepted and may execute gives its task and, once a start of that task is accepted, keeps its schedule.
+-- One statement over a lamp and a whole list. Premises: the lamp is valid; lamp and calls are in range; the demand's
+-- own.
 use Prim.Native.Nat.{ℕ, _+_, _≤_}
 use mathlib.Core.Bool.{true, cond, _||_}
 use mathlib.Core.List.{List, [], _∷_, _++_}
@@ -23,7 +24,9 @@ use Rattle.schedule.specs.Schedule.{HueCommand, asRequest, target, delta
 
 -- the way travelled, read off a hue: how far it is from the one found, on the side of the way's sign
 abbrev pub travelled : Fed → Lamp → ℕ
-travelled f l = cond (leZ (pos 0) (deltaFrom (f .fade) (f .found))) (distance (f .found) (l .color .hue)) (distance (l .color .hue) (f .found))
+travelled f l =
+    cond (leZ (pos 0) (deltaFrom (f .fade) (f .found))) (distance (f .found) (l .color .hue))
+    (distance (l .color .hue) (f .found))
 
 abbrev pub wholeDelta : Fed → ℕ
 wholeDelta f = natAbs (deltaFrom (f .fade) (f .found))
@@ -39,21 +42,25 @@ pub record Keeps (a : Answer) (f : Fed) (ys : List Call) : Type 0 where
   -- (b) the same hue, remaining time and done
   pub agrees : Agrees (after (a .lamp) ys) (scheduled f ys)
   -- (d) "done exactly at the first accepted step at or after its time, or at its start if time or way is zero"
-  pub done : idle (after (a .lamp) ys) ≡ (eqb (time (f .fade)) 0 || eqb (wholeDelta f) 0 || reached (f .start + time (f .fade)) (a .lamp) ys)
-  -- (e) "Where each accepted step also comes at or after the wait [..] asked, at most d steps are accepted after the start of a
-  -- fade of d tenths, and once d are, it is done"
-  pub pace : paced (f .start + a .wait) (a .lamp) ys ≡ true → (steps (a .lamp) ys ≤ f .fade .tenths) × (steps (a .lamp) ys ≡ f .fade .tenths → idle (after (a .lamp) ys) ≡ true)
+  pub done : idle (after (a .lamp) ys)
+      ≡ (eqb (time (f .fade)) 0 || eqb (wholeDelta f) 0 || reached (f .start + time (f .fade)) (a .lamp) ys)
+  -- (e) "Where each accepted step also comes at or after the wait [..] asked, at most d steps are accepted after the
+  -- start of a fade of d tenths, and once d are, it is done"
+  pub pace : paced (f .start + a .wait) (a .lamp) ys ≡ true →
+      (steps (a .lamp) ys ≤ f .fade .tenths) × (steps (a .lamp) ys ≡ f .fade .tenths → idle (after (a .lamp) ys) ≡ true)
   -- (f) "no hue lies off the chosen arc"
   pub arc : travelled f (after (a .lamp) ys) ≤ wholeDelta f
   -- (g) "At done, the hue is the target and the remaining time 0"
-  pub end : idle (after (a .lamp) ys) ≡ true → (after (a .lamp) ys .color .hue ≡ target (f .fade)) × (after (a .lamp) ys .remaining .tenths ≡ 0)
+  pub end : idle (after (a .lamp) ys) ≡ true →
+      (after (a .lamp) ys .color .hue ≡ target (f .fade)) × (after (a .lamp) ys .remaining .tenths ≡ 0)
 
 -- at the call `x` that comes after those
 pub record KeepsAt (a : Answer) (f : Fed) (ys : List Call) (x : Call) : Type 0 where
   -- (b) it is accepted exactly when the schedule takes it
   pub accepted : accepts (after (a .lamp) ys) x ≡ takes f (scheduled f ys) x
   -- (c) an accepted step asks for the schedule's wait
-  pub wait : acceptedStep (after (a .lamp) ys) x ≡ true → answer (after (a .lamp) ys) x .wait ≡ scheduled f (ys ++ (x ∷ [])) .wait
+  pub wait : acceptedStep (after (a .lamp) ys) x ≡ true →
+      answer (after (a .lamp) ys) x .wait ≡ scheduled f (ys ++ (x ∷ [])) .wait
   -- (f) "the way travelled never shrinks"
   pub grows : travelled f (after (a .lamp) ys) ≤ travelled f (after (a .lamp) (ys ++ (x ∷ [])))
 
@@ -67,7 +74,13 @@ pub record KeptFade (a : Answer) (f : Fed) (calls : List Call) : Type 0 where
 -- what the schedule of a fade is fed: the command, what the lamp that it found has, and the clock of the start
 abbrev pub fed : HueCommand → Lamp → ℕ → Fed
 fed h l clock =
-    record { fade = h; found = l .color .hue; bounds = l .bounds; executeIfOff = hasFlag (l .options) executeIfOff; start = clock }
+    record {
+      fade = h;
+      found = l .color .hue;
+      bounds = l .bounds;
+      executeIfOff = hasFlag (l .options) executeIfOff;
+      start = clock;
+    }
 
 -- a move to a hue, as a call, and a start of the task that it gives on the lamp `l`
 abbrev pub moveTo : HueCommand → OnOff → ℕ → Call
@@ -94,12 +107,16 @@ pub record Kept (l : Lamp) (h : HueCommand) (onOff : OnOff) (clock : ℕ) (rest 
   -- (a) it gives a task of its way and time
   pub task : answer l (moveTo h onOff clock) .task ≡ GivenTask.Given (taskOf h (l .color .hue))
   -- every start of that task that follows, after the calls `between`
-  pub fades : (between calls : List Call) (at : ℕ) → rest ≡ between ++ (startOf h l at ∷ calls) → FadeFrom h l (after (next l (moveTo h onOff clock)) between) at calls
+  pub fades : (between calls : List Call) (at : ℕ) → rest ≡ between ++ (startOf h l at ∷ calls) →
+      FadeFrom h l (after (next l (moveTo h onOff clock)) between) at calls
 
--- every move to a hue in the list, on the lamp that the calls before it left, that is accepted with leave to execute
+-- every move to a hue in the list, on the lamp that the calls before it left, that is accepted and may execute
 abbrev pub Everywhere : Lamp → List Call → Type 0
-Everywhere l calls = (before rest : List Call) (h : HueCommand) (onOff : OnOff) (clock : ℕ) → calls ≡ before ++ (moveTo h onOff clock ∷ rest) → accepts (after l before) (moveTo h onOff clock) ≡ true → allowed (after l before) (asRequest h) onOff ≡ true → Kept (after l before) h onOff clock rest
+Everywhere l calls =
+    (before rest : List Call) (h : HueCommand) (onOff : OnOff) (clock : ℕ) →
+    calls ≡ before ++ (moveTo h onOff clock ∷ rest) → accepts (after l before) (moveTo h onOff clock) ≡ true →
+    allowed (after l before) (asRequest h) onOff ≡ true → Kept (after l before) h onOff clock rest
 
--- the claim: from any lamp valid, for every list of calls
+-- the claim: from any valid lamp, for every list of calls
 abbrev pub Claim : Type 0
 Claim = (l : Lamp) (calls : List Call) → lampValid l ≡ true → InRangeLamp l → InRangeCalls calls → Everywhere l calls

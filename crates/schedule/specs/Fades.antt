@@ -1,5 +1,5 @@
--- A fade, with a name for each of its parts: a lamp, a list of calls, in it a move to a hue, a start of the task that it gives,
--- and the calls that follow; the claim's premises of it; and what its lamp shows.
+-- A fade, with a name for each of its parts: a lamp, a list of calls, in it a move to a hue, a start of the task that
+-- it gives, and the calls that follow; the claim's premises of it; and what its lamp shows.
 use Prim.Native.Nat.{ℕ, _+_}
 use mathlib.Core.Bool.{Bool, true}
 use mathlib.Core.List.{List, [], _∷_, _++_}
@@ -59,8 +59,8 @@ listOf e = e .before ++ (commandCall e ∷ (e .between ++ (startCall e ∷ e .ca
 
 -- ---- the claim's premises
 
--- but for the hue at the start: lamp valid, lamp and calls typed, the command accepted with leave to execute, the start accepted,
--- and no other accepted start, halt or colour-loop command after it
+-- but for the hue at the start: lamp valid, lamp and calls in range, the command accepted and may execute, the start
+-- accepted, and no other accepted start, halt or colour-loop command after it
 pub record PremisedButHue (e : Fade) : Type 0 where
   pub valid : lampValid (e .lamp) ≡ true
   pub inRangeLamp : InRangeLamp (e .lamp)

@@ -1,6 +1,6 @@
--- The schedule of a fade: document 01, "Demand 3's schedule". A machine of its own. It is fed a move to a hue, the hue that the
--- command found, the lamp's bounds and its ExecuteIfOff, and from the accepted start on the calls alone; it sees no lamp and no
--- answer, and keeps its own clock and its own done.
+-- The schedule of a fade: document 01, "Demand 3's schedule". A machine of its own. It is fed a move to a hue, the hue
+-- that the command found, the lamp's bounds and its ExecuteIfOff, and from the accepted start on the calls alone; it
+-- sees no lamp and no answer, and keeps its own clock and its own done.
 use Prim.Native.Nat.{ℕ, _-_, _*_, min}
 use mathlib.Core.Bool.{Bool, true, false, not, cond, _&&_, _||_}
 use mathlib.Core.List.{List, [], _∷_}
@@ -55,7 +55,12 @@ time h = h .tenths * 100
 abbrev pub taskOf : HueCommand → ℕ → Task
 taskOf h found =
     Task.HueSaturationMoveTo
-    (record { delta = HueDelta.By (deltaFrom h found); saturation = TargetSaturation.Keep; ms = time h; enhanced = h .enhanced })
+    (record {
+      delta = HueDelta.By (deltaFrom h found);
+      saturation = TargetSaturation.Keep;
+      ms = time h;
+      enhanced = h .enhanced;
+    })
 
 -- what the schedule is fed before the calls
 pub record Fed : Type 0 where
@@ -68,7 +73,8 @@ pub record Fed : Type 0 where
 
 -- the same, with another ExecuteIfOff
 abbrev pub withOption : Fed → Bool → Fed
-withOption f option = record { fade = f .fade; found = f .found; bounds = f .bounds; executeIfOff = option; start = f .start }
+withOption f option =
+    record { fade = f .fade; found = f .found; bounds = f .bounds; executeIfOff = option; start = f .start }
 
 -- what it says: its clock, its hue, remaining time, wait and done
 pub record Shown : Type 0 where
@@ -82,8 +88,9 @@ pub record Shown : Type 0 where
 abbrev pub over : Fed → ℕ → Bool
 over f e = leb (time (f .fade)) e || eqb (natAbs (deltaFrom (f .fade) (f .found))) 0
 
--- "At the accepted start and each accepted step, at elapsed e, its hue is the hue found plus the part [..], wrapped, its
--- remaining time is time − e in tenths, rounded up, and its wait is time − e, at most 100"; done: "target, 0, 0, idle"
+-- "At the accepted start and each accepted step, at elapsed e, its hue is the hue found plus the part [..], wrapped,
+-- its remaining time is time − e in tenths, rounded up, and its wait is time − e, at most 100"; done: "target, 0, 0,
+-- idle"
 unfoldable pub shownAt : Fed → ℕ → Shown
 shownAt f clock =
     let e : ℕ = clock - f .start in
@@ -96,13 +103,14 @@ shownAt f clock =
       done = false;
     })
 
--- "a call is accepted where it meets no cause below, the clock being the last accepted call's and the lamp idle once done":
--- the clock, and what the call itself can be refused for
+-- "a call is accepted where it meets no cause below, the clock being the last accepted call's and the lamp idle once
+-- done": the clock, and what the call itself can be refused for
 abbrev pub own : Fed → Call → Bool → Bool
 own f (Call.Command r onOff clock) done =
     checks (r .command) .stop
     || (eqb (checks (r .command) .cause) 0
-    && not (mayExecute onOff (cond (f .executeIfOff) 1 0) (r .options .mask) (r .options .overrides) && crossed (f .bounds) (r .command)))
+    && not (mayExecute onOff (cond (f .executeIfOff) 1 0) (r .options .mask) (r .options .overrides)
+    && crossed (f .bounds) (r .command)))
 own f (Call.Start task clock) done = taskValid task
 own f (Call.Step clock) done = not done
 own f (Call.Halt clock) done = true
@@ -112,10 +120,13 @@ takes f s x = (leb (s .clock) (clockOf x) && leb (clockOf x) clockLimit) && own 
 
 -- "No other call moves it": an accepted step shows the fade at its clock, another accepted call only sets the clock
 abbrev pub whenTaken : Fed → Shown → Call → Shown
-whenTaken f s (Call.Command r onOff clock) = record { clock = clock; hue = s .hue; remaining = s .remaining; wait = s .wait; done = s .done }
-whenTaken f s (Call.Start task clock) = record { clock = clock; hue = s .hue; remaining = s .remaining; wait = s .wait; done = s .done }
+whenTaken f s (Call.Command r onOff clock) =
+    record { clock = clock; hue = s .hue; remaining = s .remaining; wait = s .wait; done = s .done }
+whenTaken f s (Call.Start task clock) =
+    record { clock = clock; hue = s .hue; remaining = s .remaining; wait = s .wait; done = s .done }
 whenTaken f s (Call.Step clock) = shownAt f clock
-whenTaken f s (Call.Halt clock) = record { clock = clock; hue = s .hue; remaining = s .remaining; wait = s .wait; done = s .done }
+whenTaken f s (Call.Halt clock) =
+    record { clock = clock; hue = s .hue; remaining = s .remaining; wait = s .wait; done = s .done }
 
 abbrev pub followed : Fed → Shown → Call → Shown
 followed f s x = cond (takes f s x) (whenTaken f s x) s

@@ -1,4 +1,4 @@
--- The form of a task and of a running record: document 01, "Task out of form" and, in "Lamp out of form", the running
+-- When a task is valid and of a running record: document 01, "Task out of form" and, in "Lamp out of form", the running
 -- record. A definition here says what is valid; the comment quotes the sentence that says what is out of it.
 use Prim.Native.Nat.{ℕ, _%_}
 use mathlib.Core.Bool.{Bool, true, false, not, _&&_, _||_}
@@ -57,7 +57,8 @@ rateValid rate = not (eqb (natAbs rate) 0) && small rate
 -- a move-to; the last test is "neither hue nor saturation"
 unfoldable pub moveToValid : HueSaturationMoveTo → Bool
 moveToValid t =
-    allTrue (timeValid (t .ms) ∷ deltaValid (t .delta) ∷ saturationValid (t .saturation) ∷ (deltaGiven (t .delta) || saturationGiven (t .saturation)) ∷ [])
+    allTrue (timeValid (t .ms) ∷ deltaValid (t .delta) ∷ saturationValid (t .saturation)
+    ∷ (deltaGiven (t .delta) || saturationGiven (t .saturation)) ∷ [])
 
 -- "rate 0; hue rate above 65,535"; Stop
 unfoldable pub hueMoveValid : HueMove → Bool
@@ -67,7 +68,7 @@ hueMoveValid t = allTrue (ltb 0 (t .rate) ∷ leb (t .rate) 65535 ∷ moves (t .
 unfoldable pub saturationMoveValid : SaturationMove → Bool
 saturationMoveValid t = allTrue (ltb 0 (t .rate) ∷ leb (t .rate) 255 ∷ moves (t .direction) ∷ [])
 
--- a task valid; "the Stop task itself" is out of it
+-- a valid task; "the Stop task itself" is out of it
 unfoldable pub taskValid : Task → Bool
 taskValid (Task.HueSaturationMoveTo t) = moveToValid t
 taskValid (Task.HueMove t) = hueMoveValid t
@@ -87,18 +88,21 @@ withinBounds bounds mireds = leb (bounds .min) mireds && leb mireds (bounds .max
 unfoldable pub runningValid : Running → Bounds → ℕ → Bool
 runningValid Running.Idle bounds clock = true
 runningValid (Running.HueSaturationMoveTo run) bounds clock =
-    allTrue (moveToValid (run .task) ∷ ltb 0 (run .task .ms) ∷ leb (run .saturation) saturationLimit ∷ leb (run .start) clock ∷ [])
+    allTrue (moveToValid (run .task) ∷ ltb 0 (run .task .ms) ∷ leb (run .saturation) saturationLimit
+    ∷ leb (run .start) clock ∷ [])
 runningValid (Running.HueMove run) bounds clock = allTrue (hueMoveValid (run .task) ∷ leb (run .start) clock ∷ [])
 runningValid (Running.SaturationMove run) bounds clock =
     allTrue (saturationMoveValid (run .task) ∷ leb (run .saturation) saturationLimit ∷ leb (run .start) clock ∷ [])
 runningValid (Running.ColorTemperatureMoveTo run) bounds clock =
     allTrue
-    (timeValid (run .task .ms) ∷ ltb 0 (run .task .ms) ∷ withinBounds bounds (run .mireds) ∷ withinBounds bounds (run .task .target)
+    (timeValid (run .task .ms) ∷ ltb 0 (run .task .ms) ∷ withinBounds bounds (run .mireds)
+    ∷ withinBounds bounds (run .task .target)
     ∷ leb (run .start) clock
     ∷ [])
 runningValid (Running.ColorTemperatureMove run) bounds clock =
     allTrue
-    (rateValid (run .rate) ∷ withinBounds bounds (run .mireds) ∷ ltb (run .lo) (run .hi) ∷ withinBounds bounds (run .lo) ∷ withinBounds bounds (run .hi)
+    (rateValid (run .rate) ∷ withinBounds bounds (run .mireds) ∷ ltb (run .lo) (run .hi)
+    ∷ withinBounds bounds (run .lo) ∷ withinBounds bounds (run .hi)
     ∷ leb (run .start) clock
     ∷ [])
 runningValid (Running.ColorLoop run) bounds clock = leb (run .start) clock

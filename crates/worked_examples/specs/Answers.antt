@@ -1,5 +1,5 @@
--- What each command answers, whole: document 01, "Commands in their order", and docs/DECISIONS.md, points 3 to 6 and 10. A
--- command that gives a task changes nothing but the clock; the colour loop's command stands apart below.
+-- What each command answers, whole: document 01, "Commands in their order", and docs/DECISIONS.md, points 3 to 6 and
+-- 10. A command that gives a task changes nothing but the clock; the colour loop's command stands apart below.
 use Prim.Native.Nat.{ℕ}
 use mathlib.Core.Bool.{Bool, true, false}
 use mathlib.Core.List.{List, [], _∷_, _++_, map}
@@ -149,7 +149,7 @@ commands =
     ∷ gives (Command.MoveSaturation MoveModeEnum.Stop 0) Task.Stop
     ∷ gives (Command.MoveColorTemperature MoveModeEnum.Stop 0 400 300) Task.Stop
     ∷ givesOff (Command.MoveHue MoveModeEnum.Stop 0 false) Task.Stop
-    -- the numbers before off; off without leave
+    -- the numbers before off; off that may not execute
     ∷ refusesOff (Command.MoveToHue 255 DirectionEnum.Shortest 7) 1
     ∷ refusesOff (Command.MoveSaturation MoveModeEnum.Up 0) 2
     ∷ passes (Command.MoveToHue 128 DirectionEnum.Shortest 7)
@@ -187,7 +187,8 @@ settings active direction time start =
     record { active = active; direction = direction; time = time; start = start; stored = 0 }
 
 abbrev pub flagged : ℕ → List ℕ → LoopSettings → LoopRow
-flagged flags list looping = record { flags = flags; seconds = 30; list = list; task = GivenTask.Nothing; looping = looping }
+flagged flags list looping =
+    record { flags = flags; seconds = 30; list = list; task = GivenTask.Nothing; looping = looping }
 
 -- with the action: behind its flag's notice, and in the task the lamp's direction and time
 abbrev pub turned : ℕ → ℕ → List ℕ → ℕ → ℕ → LoopRow

@@ -1,5 +1,5 @@
--- A lamp that runs, its colour loop active: 13 is withheld in the setters; moves at a rate, the loop and a halt leave the
--- remaining time as it was (docs/DECISIONS.md, point 14); the colour loop's command leaves what runs (point 5).
+-- A lamp that runs, its colour loop active: 13 is withheld in the setters; moves at a rate, the loop and a halt leave
+-- the remaining time as it was (docs/DECISIONS.md, point 14); the colour loop's command leaves what runs (point 5).
 use Prim.Native.Nat.{ℕ}
 use mathlib.Core.Bool.{Bool, true, false}
 use mathlib.Core.List.{List, [], _∷_, map}

@@ -23,7 +23,13 @@ use Rattle.worked_examples.specs.Cases.{lamp, plain, given, answers, lis
 -- a move-to of a way, with a saturation or without, started on a lamp at clock 5000; and on the lamp of the cases
 abbrev pub begunOn : Lamp → HueDelta → TargetSaturation → ℕ → Bool → Answer
 begunOn l delta saturation ms enhanced =
-    startAnswer l (Task.HueSaturationMoveTo (record { delta = delta; saturation = saturation; ms = ms; enhanced = enhanced })) 5000
+    startAnswer l (Task.HueSaturationMoveTo (record {
+      delta =
+          delta;
+      saturation = saturation;
+      ms = ms;
+      enhanced = enhanced;
+    })) 5000
 
 abbrev pub begun : HueDelta → TargetSaturation → ℕ → Bool → Answer
 begun delta saturation ms enhanced = begunOn lamp delta saturation ms enhanced

@@ -46,7 +46,13 @@ makes min max features options clock mireds modes =
                   stamps = record { hue = 0; saturation = 0; mireds = 0 };
                 };
             looping =
-                record { active = false; direction = ColorLoopDirectionEnum.Increment; time = 25; start = 8960; stored = 0 };
+                record {
+                  active = false;
+                  direction = ColorLoopDirectionEnum.Increment;
+                  time = 25;
+                  start = 8960;
+                  stored = 0;
+                };
             remaining = record { tenths = 0 };
             options = options;
             running = Running.Idle;

@@ -1,6 +1,6 @@
--- Each transition, pass by pass: its start, where nothing has moved and the modes stay; on its way; within a second of a
--- notice; later; at its end, which reports within a second too. Document 01, leaves 5 and 6 and "The arithmetic of a step";
--- docs/DECISIONS.md, points 11 and 14.
+-- Each transition, pass by pass: its start, where nothing has moved and the modes stay; on its way; within a second of
+-- a notice; later; at its end, which reports within a second too. Document 01, leaves 5 and 6 and "The arithmetic of a
+-- step"; docs/DECISIONS.md, points 11 and 14.
 use Prim.Native.Nat.{ℕ}
 use mathlib.Core.Bool.{Bool, true, false}
 use mathlib.Core.List.{List, [], _∷_, map}
@@ -125,9 +125,10 @@ transitions =
     ∷ going warmth 0 0 158 1 (13 ∷ 14 ∷ 16 ∷ []) 50
     ∷ done warmth 0 0 153 0 (13 ∷ 5 ∷ 6 ∷ 7 ∷ 14 ∷ 16 ∷ 1 ∷ []) ∷ [])
     ∷ run lamp (Command.MoveToColorTemperature 153 11) [] (going xy 0 0 250 11 (1 ∷ 16 ∷ []) 100 ∷ [])
-    ∷ run lamp (Command.MoveToColorTemperature 250 11) [] (done warmth 0 0 250 0 (1 ∷ 13 ∷ 5 ∷ 6 ∷ 7 ∷ 14 ∷ 16 ∷ 1 ∷ []) ∷ [])
-    -- mireds up at 100 a second from 250 to 500, reported a second after the last notice, not after the last change; and down
-    -- to 153
+    ∷ run lamp (Command.MoveToColorTemperature 250 11) []
+    (done warmth 0 0 250 0 (1 ∷ 13 ∷ 5 ∷ 6 ∷ 7 ∷ 14 ∷ 16 ∷ 1 ∷ []) ∷ [])
+    -- mireds up at 100 a second from 250 to 500, reported a second after the last notice, not after the last change;
+    -- and down to 153
     ∷ run lamp (upBetween 0 0) (100 ∷ 200 ∷ 1100 ∷ 2500 ∷ [])
     (going xy 0 0 250 0 (16 ∷ []) 100
     ∷ going warmth 0 0 260 0 ofMireds 100
@@ -211,7 +212,8 @@ transitions =
     ∷ going enhanced 0 0 250 0 (14 ∷ 15 ∷ []) 5
     ∷ going enhanced 0 0 250 0 (15 ∷ []) 100
     ∷ going enhanced 393 0 250 0 (2 ∷ 3 ∷ 6 ∷ 7 ∷ 14 ∷ 15 ∷ []) 100 ∷ [])
-    -- the modes: saturation keeps an enhanced hue mode, a plain hue and mireds do not; saturation leaves the mireds' mode
+    -- the modes: saturation keeps an enhanced hue mode, a plain hue and mireds do not; saturation leaves the mireds'
+    -- mode
     ∷ run hued (Command.MoveSaturation MoveModeEnum.Up 100) (100 ∷ [])
     (going enhanced 1280 0 250 0 (15 ∷ []) 100
     ∷ going enhanced 1280 10 250 0 ofSaturation 100 ∷ [])

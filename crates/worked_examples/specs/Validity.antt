@@ -134,7 +134,12 @@ runsSaturation start saturation rate =
 
 abbrev pub runsMiredsTo : ℕ → ℕ → ℕ → ℕ → Lamp
 runsMiredsTo start mireds target ms =
-    running (Running.ColorTemperatureMoveTo (record { start = start; mireds = mireds; task = record { target = target; ms = ms } }))
+    running (Running.ColorTemperatureMoveTo (record {
+      start =
+          start;
+      mireds = mireds;
+      task = record { target = target; ms = ms };
+    }))
 
 abbrev pub runsMireds : ℕ → ℕ → ℤ → ℕ → ℕ → Lamp
 runsMireds start mireds rate lo hi =

@@ -1,4 +1,4 @@
--- The form is looked at first, then the clock.
+-- The form is checked first, then the clock.
 use Rattle.lamp.specs.Answers.{firstCause}
 use borrow.Author.Needs.{needs}
 use Rattle.lamp.proofs.Lamp.first_cause.Statement.{statement}

@@ -1,4 +1,4 @@
--- The clock is looked at first, then the bounds; else the fresh lamp. What each case says is a law.
+-- The clock is checked first, then the bounds; else the fresh lamp. What each case says is a law.
 use mathlib.Core.Path.{_≡_, ap, _∙_}
 use Prim.Native.Nat.{ℕ}
 use Rattle.matter.specs.declared.limits.Bounds.{Bounds}

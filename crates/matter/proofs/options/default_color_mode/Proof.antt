@@ -1,4 +1,4 @@
--- The features are looked at in the order of the definition.
+-- The features are checked in the order of the definition.
 use Rattle.matter.specs.Rules.{defaultColorMode}
 use borrow.Author.Needs.{needs}
 use Rattle.matter.proofs.options.default_color_mode.Statement.{statement}

@@ -1,4 +1,4 @@
--- Off alone looks at the bits: the mask says whose ExecuteIfOff decides.
+-- Off alone checks the bits: the mask says whose ExecuteIfOff decides.
 use borrow.Author.Needs.{needs}
 use Rattle.matter.proofs.options.should_continue.Statement.{statement}
 use Rattle.matter.proofs.options.should_continue.Tie as tie
