@@ -42,7 +42,7 @@ stepped-remaining l (Running.HueMove run) e = refl
 stepped-remaining l (Running.SaturationMove run) e = refl
 stepped-remaining l (Running.ColorTemperatureMoveTo run) e = absurd (true≢false e)
 stepped-remaining l (Running.ColorTemperatureMove run) e = refl
-stepped-remaining l (Running.ColorLoop run) e = refl
+stepped-remaining l (Running.ColorLoop direction hue seconds start) e = refl
 
 module _ (l : Lamp) where
   -- what holds of the lamp and of what is granted holds of the lamp after a call

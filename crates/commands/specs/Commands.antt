@@ -126,8 +126,7 @@ ms tenths = tenths * 100
 abbrev pub hueTask : ℤ → TargetSaturation → ℕ → Bool → Task
 hueTask way saturation tenths enhanced =
     Task.HueSaturationMoveTo (record {
-      delta =
-          HueDelta.By way;
+      delta = HueDelta.By way;
       saturation = saturation;
       ms = ms tenths;
       enhanced = enhanced;
@@ -136,8 +135,7 @@ hueTask way saturation tenths enhanced =
 abbrev pub saturationTask : ℕ → ℕ → Task
 saturationTask saturation tenths =
     Task.HueSaturationMoveTo (record {
-      delta =
-          HueDelta.Keep;
+      delta = HueDelta.Keep;
       saturation = TargetSaturation.To saturation;
       ms = ms tenths;
       enhanced = false;

@@ -41,7 +41,7 @@ movesTo (Running.HueMove run) = false
 movesTo (Running.SaturationMove run) = false
 movesTo (Running.ColorTemperatureMoveTo run) = true
 movesTo (Running.ColorTemperatureMove run) = false
-movesTo (Running.ColorLoop run) = false
+movesTo (Running.ColorLoop direction hue seconds start) = false
 
 pub record Leaves (l : Lamp) : Type 0 where
   -- "the lamp is then what it was and the notice list is empty"; "A refusal has no task and wait 0"

@@ -16,6 +16,7 @@ use Rattle.tasks.specs.declared.GivenTask.{GivenTask}
 use Rattle.tasks.specs.declared.Task.{Task}
 use Rattle.tasks.specs.declared.ColorLoopRun.{ColorLoopRun}
 use Rattle.tasks.specs.declared.Running.{Running}
+use Rattle.tasks.specs.Runs.{loopRunning}
 use Rattle.lamp.specs.declared.Answer.{Answer}
 use Rattle.lamp.specs.declared.Lamp.{Lamp}
 use Rattle.lamp.specs.Answers.{atClock}
@@ -148,12 +149,12 @@ module _ (l : Lamp) (flags : ℕ) (action : ColorLoopActionEnum) (direction : Co
 
 -- the smallest: flag 2 alone, and another direction
 pub loop-follow-differs : (l : Lamp) (run : ColorLoopRun) (options : CommandOptions) (onOff : OnOff) (clock : ℕ) →
-    l .running ≡ Running.ColorLoop run →
+    l .running ≡ loopRunning run →
     cause l (setting l 2 ColorLoopActionEnum.Deactivate ColorLoopDirectionEnum.Decrement 0 0 options onOff clock) ≡ 0 →
     allowed l (request (Command.ColorLoopSet 2 ColorLoopActionEnum.Deactivate ColorLoopDirectionEnum.Decrement 0 0) options) onOff
     ≡ true →
     (turningBy (set l 2 ColorLoopActionEnum.Deactivate ColorLoopDirectionEnum.Decrement 0 0 options onOff clock) .direction ≡ ColorLoopDirectionEnum.Decrement)
-    × (answer l (setting l 2 ColorLoopActionEnum.Deactivate ColorLoopDirectionEnum.Decrement 0 0 options onOff clock) .lamp .running ≡ Running.ColorLoop run)
+    × (answer l (setting l 2 ColorLoopActionEnum.Deactivate ColorLoopDirectionEnum.Decrement 0 0 options onOff clock) .lamp .running ≡ loopRunning run)
 unfolding colorLoopSet updatedBy hasFlag
 loop-follow-differs l run options onOff clock e z a =
     (refl, loop-not-followed l 2 ColorLoopActionEnum.Deactivate ColorLoopDirectionEnum.Decrement 0 0 options onOff clock z a refl .1 ∙ e)

@@ -27,7 +27,7 @@ use Rattle.tasks.specs.declared.Running.{Running}
 use Rattle.tasks.specs.declared.SaturationMove.{SaturationMove}
 use Rattle.tasks.specs.declared.SaturationRun.{SaturationRun}
 use Rattle.tasks.specs.declared.Task.{Task}
-use Rattle.tasks.specs.Runs.{runs}
+use Rattle.tasks.specs.Runs.{runs, loopRunning}
 use Rattle.lamp.specs.declared.Lamp.{Lamp}
 use Rattle.lamp.specs.Answers.{atClock}
 use Rattle.matter.specs.Bounds.{lower, upper}
@@ -150,13 +150,13 @@ module _ (l : Lamp) (clock : ℕ) (accepted : cause l (Call.Step clock) ≡ 0) w
       e accepted (λ f g. mireds-pass (atClock l clock) run mode rate r (valid-clock (atClock l clock) f) low high)
 
   -- the colour loop
-  pub shown-loop : (run : ColorLoopRun) → l .running ≡ Running.ColorLoop run → run .hue < 65536 →
+  pub shown-loop : (run : ColorLoopRun) → l .running ≡ loopRunning run → run .hue < 65536 →
       answer l (Call.Step clock) .lamp .color .hue
       ≡ hueMoveTo (turnMode (run .task .direction)) enhancedHueMaximum
       (loopTurn (clock - run .start) (run .task .seconds)) (run .hue)
   unfolding stepped
   shown-loop run e h =
-      step-by l (Running.ColorLoop run) clock
+      step-by l (loopRunning run) clock
       (λ y. y .color .hue ≡ hueMoveTo (turnMode (run .task .direction)) enhancedHueMaximum
       (loopTurn (clock - run .start) (run .task .seconds)) (run .hue))
       e accepted (λ f g. loop-pass (atClock l clock) run h)

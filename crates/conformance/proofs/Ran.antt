@@ -76,7 +76,7 @@ module _ (x : Lamp) where
   stepped-so (Running.SaturationMove run) e = saturation-so run
   stepped-so (Running.ColorTemperatureMoveTo run) e = mireds-to-so run _
   stepped-so (Running.ColorTemperatureMove run) e = mireds-so run
-  stepped-so (Running.ColorLoop run) e = inl refl
+  stepped-so (Running.ColorLoop direction hue seconds start) e = inl refl
 
 started-so : (m : Lamp) (clock : ℕ) (task : Task) → taskValid task ≡ true →
     OnOrIdle (saved m task clock) (started (atClock m clock) task .lamp .running)

@@ -28,7 +28,7 @@ use Rattle.tasks.specs.declared.HueSaturationRun.{HueSaturationRun}
 use Rattle.tasks.specs.declared.Running.{Running}
 use Rattle.tasks.specs.declared.SaturationRun.{SaturationRun}
 use Rattle.tasks.specs.declared.TargetSaturation.{TargetSaturation}
-use Rattle.tasks.specs.Runs.{runs}
+use Rattle.tasks.specs.Runs.{runs, loopRunning}
 use Rattle.lamp.specs.declared.Answer.{Answer}
 use Rattle.lamp.specs.declared.Lamp.{Lamp}
 use Rattle.lamp.specs.Answers.{atClock}
@@ -418,12 +418,12 @@ module _ (l : Lamp) (clock : ℕ) (accepted : cause l (Call.Step clock) ≡ 0) w
       hue-alone (run .task .enhanced) now (stepped on (Running.HueMove run)) (answer-is (Running.HueMove run) e)
       (hue-is-set (l .color) now false (run .task .enhanced) clock) refl refl n h
 
-  pub loop-reported : (run : ColorLoopRun) → l .running ≡ Running.ColorLoop run →
+  pub loop-reported : (run : ColorLoopRun) → l .running ≡ loopRunning run →
       (n : ℕ) → HueNotice n true → Reported n (λ c. c .hue) (λ c. c .stamps .hue) l clock (answer l (Call.Step clock))
   unfolding stepped loopPass hueReported
   loop-reported run e n h =
       let now : ℕ = movedHue (run .hue) (loopDelta (run .task .direction) (clock - run .start) (run .task .seconds)) in
-      hue-alone true now (stepped on (Running.ColorLoop run)) (answer-is (Running.ColorLoop run) e)
+      hue-alone true now (stepped on (loopRunning run)) (answer-is (loopRunning run) e)
       (hue-is-set (l .color) now false true clock) refl refl n h
 
   -- CurrentSaturation: of a move to a saturation, and of a move at a rate

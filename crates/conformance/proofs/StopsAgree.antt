@@ -13,7 +13,7 @@ use Rattle.tasks.specs.declared.GivenTask.{GivenTask}
 use Rattle.tasks.specs.declared.HueSaturationMoveTo.{HueSaturationMoveTo}
 use Rattle.tasks.specs.declared.Running.{Running}
 use Rattle.tasks.specs.declared.Task.{Task}
-use Rattle.tasks.specs.Runs.{runs}
+use Rattle.tasks.specs.Runs.{runs, loopRunning}
 use Rattle.lamp.specs.declared.Answer.{Answer}
 use Rattle.lamp.specs.declared.Lamp.{Lamp}
 use Rattle.lamp.specs.Answers.{atClock}
@@ -73,7 +73,7 @@ no-turn (Running.HueMove run) e = refl
 no-turn (Running.SaturationMove run) e = refl
 no-turn (Running.ColorTemperatureMoveTo run) e = refl
 no-turn (Running.ColorTemperatureMove run) e = refl
-no-turn (Running.ColorLoop run) e = absurd (true≢false e)
+no-turn (Running.ColorLoop direction hue seconds start) e = absurd (true≢false e)
 
 -- the lamp after StopMoveStep and the halt that answers it
 abbrev pub afterStop : Lamp → CommandOptions → OnOff → ℕ → ℕ → Lamp
@@ -111,7 +111,7 @@ idle-or : (t : Bool) (running : Running) → loopTurns running ≡ false → loo
 idle-or true running e = refl
 idle-or false running e = e
 
-pub loop-replaced : (l : Lamp) (task : HueSaturationMoveTo) (run : ColorLoopRun) → l .running ≡ Running.ColorLoop run → (loopTurns (l .running) ≡ true) × (loopTurns (started l (Task.HueSaturationMoveTo task) .lamp .running) ≡ false) × (started l (Task.HueSaturationMoveTo task) .lamp .looping ≡ l .looping)
+pub loop-replaced : (l : Lamp) (task : HueSaturationMoveTo) (run : ColorLoopRun) → l .running ≡ loopRunning run → (loopTurns (l .running) ≡ true) × (loopTurns (started l (Task.HueSaturationMoveTo task) .lamp .running) ≡ false) × (started l (Task.HueSaturationMoveTo task) .lamp .looping ≡ l .looping)
 unfolding started hueSaturationStart hueSaturationPass
 loop-replaced l task run e = (
   rw e,

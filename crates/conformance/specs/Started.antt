@@ -46,5 +46,5 @@ saved m (Task.ColorTemperatureMove task) clock =
       lo = lower (m .bounds) (task .min);
       hi = upper (m .bounds) (task .max);
     })
-saved m (Task.ColorLoop task) clock = Running.ColorLoop (record { start = clock; hue = m .color .hue; task = task })
+saved m (Task.ColorLoop task) clock = Running.ColorLoop (task .direction) (m .color .hue) (task .seconds) clock
 saved m Task.Stop clock = Running.Idle

@@ -32,7 +32,7 @@ loopTurns (Running.HueMove run) = false
 loopTurns (Running.SaturationMove run) = false
 loopTurns (Running.ColorTemperatureMoveTo run) = false
 loopTurns (Running.ColorTemperatureMove run) = false
-loopTurns (Running.ColorLoop run) = true
+loopTurns (Running.ColorLoop direction hue seconds start) = true
 
 -- whether it turns after a stop
 abbrev pub turnsAfterStop : Bool → Bool → Bool

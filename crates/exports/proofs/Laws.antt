@@ -210,8 +210,8 @@ running-back (Running.ColorTemperatureMove run) bounds clock e h =
     let t = task-back (Task.ColorTemperatureMove (record { rate = run .rate; min = run .lo; max = run .hi })) (record { rate = h .2; min = h .3; max = h .4 }) (rate-sized (run .rate) (each _ e .0)) in
     let x = within 65535 (h .1) in
     record { same = simp (t .same, x .same); taken = simp (t .taken, x .taken) }
-running-back (Running.ColorLoop run) bounds clock e h =
-    let t = task-back (Task.ColorLoop (run .task)) (h .2) (omega arith) in
+running-back (Running.ColorLoop direction hue seconds start) bounds clock e h =
+    let t = task-back (Task.ColorLoop (record { direction = direction; seconds = seconds })) (h .2) (omega arith) in
     let x = within 65535 (h .1) in
     record { same = simp (t .same, x .same); taken = simp (t .taken, x .taken) }
 

@@ -141,14 +141,12 @@ pub record StartWords : Type 0 where
       (Call.Start (Task.HueMove (record { direction = MoveModeEnum.Up; rate = 700; enhanced = true })) 5000)
   pub saturation-move :
       Reads (startWords 3 3 9 0 0 0 0) (Call.Start (Task.SaturationMove (record {
-        direction =
-            MoveModeEnum.Down;
+        direction = MoveModeEnum.Down;
         rate = 9;
       })) 5000)
   pub move-to-mireds :
       Reads (startWords 4 300 7700 0 0 0 0) (Call.Start (Task.ColorTemperatureMoveTo (record {
-        target =
-            300;
+        target = 300;
         ms = 7700;
       })) 5000)
   pub mired-move :
@@ -212,32 +210,28 @@ pub record LampWords : Type 0 where
       ∷ 1 ∷ 2 ∷ 2000 ∷ 1 ∷ 250 ∷ 7700 ∷ 1 ∷ []
   pub hue-move :
       runningWords (Running.HueMove (record {
-        start =
-            8500;
+        start = 8500;
         hue = 39000;
         task = record { direction = MoveModeEnum.Up; rate = 700; enhanced = true };
       }))
       ≡ 8500 ∷ 39000 ∷ 0 ∷ 2 ∷ 1 ∷ 700 ∷ 1 ∷ 0 ∷ 0 ∷ 0 ∷ []
   pub saturation-move :
       runningWords (Running.SaturationMove (record {
-        start =
-            8500;
+        start = 8500;
         saturation = 100;
         task = record { direction = MoveModeEnum.Down; rate = 9 };
       }))
       ≡ 8500 ∷ 100 ∷ 0 ∷ 3 ∷ 3 ∷ 9 ∷ 0 ∷ 0 ∷ 0 ∷ 0 ∷ []
   pub move-to-mireds :
       runningWords (Running.ColorTemperatureMoveTo (record {
-        start =
-            8500;
+        start = 8500;
         mireds = 250;
         task = record { target = 300; ms = 7700 };
       }))
       ≡ 8500 ∷ 250 ∷ 0 ∷ 4 ∷ 300 ∷ 7700 ∷ 0 ∷ 0 ∷ 0 ∷ 0 ∷ []
   pub mired-move :
       runningWords (Running.ColorTemperatureMove (record {
-        start =
-            8500;
+        start = 8500;
         mireds = 250;
         rate = negℤ (pos 100);
         lo = 160;
@@ -245,12 +239,7 @@ pub record LampWords : Type 0 where
       }))
       ≡ 8500 ∷ 250 ∷ 0 ∷ 5 ∷ 2 ∷ 100 ∷ 160 ∷ 400 ∷ 0 ∷ 0 ∷ []
   pub color-loop :
-      runningWords (Running.ColorLoop (record {
-        start =
-            8500;
-        hue = 39000;
-        task = record { direction = ColorLoopDirectionEnum.Increment; seconds = 33 };
-      }))
+      runningWords (Running.ColorLoop ColorLoopDirectionEnum.Increment 39000 33 8500)
       ≡ 8500 ∷ 39000 ∷ 0 ∷ 6 ∷ 1 ∷ 33 ∷ 0 ∷ 0 ∷ 0 ∷ 0 ∷ []
 
 -- ---- answers

@@ -40,8 +40,7 @@ laid w (Made.Refused number) = record { number = number; lamp = w }
 unfoldable pub made : List ℕ → Bounds → ℕ → ℕ → ℕ → Left
 made w bounds features options clock =
     cond (eqb (length w) 28) (laid w (making bounds features options clock)) (record {
-      number =
-          unreadableLamp;
+      number = unreadableLamp;
       lamp = w;
     })
 

@@ -73,15 +73,8 @@ startedWith r (Task.SaturationMove t) =
 startedWith r (Task.ColorTemperatureMoveTo t) =
     Running.ColorTemperatureMoveTo (record { start = r .start; mireds = short (r .x); task = t })
 startedWith r (Task.ColorTemperatureMove t) =
-    Running.ColorTemperatureMove (record {
-      start =
-          r .start;
-      mireds = short (r .x);
-      rate = t .rate;
-      lo = t .min;
-      hi = t .max;
-    })
-startedWith r (Task.ColorLoop t) = Running.ColorLoop (record { start = r .start; hue = short (r .x); task = t })
+    Running.ColorTemperatureMove (record { start = r .start; mireds = short (r .x); rate = t .rate; lo = t .min; hi = t .max })
+startedWith r (Task.ColorLoop t) = Running.ColorLoop (t .direction) (short (r .x)) (t .seconds) (r .start)
 startedWith r Task.Stop = Running.Idle
 
 abbrev pub runningOf : RecordNumbers → Running
@@ -182,4 +175,5 @@ recordNumbers (Running.SaturationMove run) = found (run .start) (run .saturation
 recordNumbers (Running.ColorTemperatureMoveTo run) = found (run .start) (run .mireds) 0 (miredsToNumbers (run .task))
 recordNumbers (Running.ColorTemperatureMove run) =
     found (run .start) (run .mireds) 0 (miredsMoveNumbers (record { rate = run .rate; min = run .lo; max = run .hi }))
-recordNumbers (Running.ColorLoop run) = found (run .start) (run .hue) 0 (colorLoopNumbers (run .task))
+recordNumbers (Running.ColorLoop direction hue seconds start) =
+    found start hue 0 (colorLoopNumbers (record { direction = direction; seconds = seconds }))

@@ -2,7 +2,6 @@
 use crate::enums;
 use crate::words;
 use tasks::ColorLoop;
-use tasks::ColorLoopRun;
 use tasks::ColorTemperatureMove;
 use tasks::ColorTemperatureMoveTo;
 use tasks::ColorTemperatureRun;
@@ -250,11 +249,15 @@ impl RecordNumbers {
                 })
             }
             Task::ColorTemperatureMove(t) => Running::ColorTemperatureMove(self.mireds_run(t)),
-            Task::ColorLoop(t) => Running::ColorLoop(ColorLoopRun {
-                start: self.start,
-                hue: words::short(self.x),
-                task: t,
-            }),
+            Task::ColorLoop(t) => {
+                let direction = t.direction;
+                Running::ColorLoop {
+                    direction: direction,
+                    hue: words::short(self.x),
+                    seconds: t.seconds,
+                    start: self.start,
+                }
+            }
             Task::Stop => Running::Idle,
         }
     }
@@ -464,9 +467,17 @@ pub fn of_running(running: Running) -> RecordNumbers
             };
             record(run.start, run.mireds as u64, 0, of_mireds_move(task))
         }
-        Running::ColorLoop(run) => {
-            let task = run.task;
-            record(run.start, run.hue as u64, 0, of_color_loop(task))
+        Running::ColorLoop {
+            direction,
+            hue,
+            seconds,
+            start,
+        } => {
+            let task = ColorLoop {
+                direction: direction,
+                seconds: seconds,
+            };
+            record(start, hue as u64, 0, of_color_loop(task))
         }
     }
 }

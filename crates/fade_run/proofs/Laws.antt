@@ -19,6 +19,7 @@ use Rattle.tasks.specs.declared.SaturationRun.{SaturationRun}
 use Rattle.tasks.specs.declared.ColorTemperatureToRun.{ColorTemperatureToRun}
 use Rattle.tasks.specs.declared.ColorTemperatureRun.{ColorTemperatureRun}
 use Rattle.tasks.specs.declared.ColorLoopRun.{ColorLoopRun}
+use Rattle.tasks.specs.Runs.{loopRun}
 use Rattle.lamp.specs.declared.Lamp.{Lamp}
 use Rattle.lamp.specs.declared.Answer.{Answer}
 use Rattle.lamp.specs.Answers.{atClock, refusal}
@@ -102,7 +103,7 @@ stepped-wait l (Running.HueMove run) = omega arith
 stepped-wait l (Running.SaturationMove run) = saturation-wait l run
 stepped-wait l (Running.ColorTemperatureMoveTo run) = temperature-to-wait l run _
 stepped-wait l (Running.ColorTemperatureMove run) = temperature-wait l run
-stepped-wait l (Running.ColorLoop run) = loop-wait l run
+stepped-wait l (Running.ColorLoop direction hue seconds start) = loop-wait l (loopRun direction hue seconds start)
 
 started-wait : (l : Lamp) (task : Task) → started l task .wait ≤ 100
 unfolding started hueSaturationStart temperatureToStart temperatureStart huePass

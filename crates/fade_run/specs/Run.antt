@@ -115,8 +115,7 @@ nextText Fade.Over = []
 unfoldable pub stepOf : Answer → ℕ → ℕ → Fade
 stepOf a clock left =
     cond (goesOn a && ltb 0 left) (Fade.Step (record {
-      lamp =
-          a .lamp;
+      lamp = a .lamp;
       clock = clock + a .wait;
       left = left - 1;
     })) Fade.Over

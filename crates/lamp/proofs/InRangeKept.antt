@@ -24,6 +24,7 @@ use Rattle.tasks.specs.declared.ColorTemperatureToRun.{ColorTemperatureToRun}
 use Rattle.tasks.specs.declared.ColorTemperatureRun.{ColorTemperatureRun}
 use Rattle.tasks.specs.declared.ColorLoopRun.{ColorLoopRun}
 use Rattle.tasks.specs.declared.Running.{Running}
+use Rattle.tasks.specs.Runs.{loopRun, loopRunning}
 use Rattle.tasks.specs.declared.Task.{Task}
 use Rattle.tasks.specs.InRange.{InRangeTask, InRangeRunning}
 use Rattle.lamp.specs.declared.Lamp.{Lamp}
@@ -64,7 +65,7 @@ module _ (l : Lamp) (P : Lamp → Type 0) (any : (c : Color) (r : Running) (t : 
   stepped-any (Running.SaturationMove run) = any _ _ _
   stepped-any (Running.ColorTemperatureMoveTo run) = any _ _ _
   stepped-any (Running.ColorTemperatureMove run) = any _ _ _
-  stepped-any (Running.ColorLoop run) = any _ _ _
+  stepped-any (Running.ColorLoop direction hue seconds start) = any _ _ _
 
 -- ---- widths
 
@@ -155,7 +156,7 @@ module _ (l : Lamp) (inRange : InRangeLamp l) where
       changed-in-range _ _ _ validity (rw mireds-hue (inRange .hue)) (inRange .remaining) (unless-in-range (miredsDone (run .rate) (run .lo) (run .hi) now) _ t)
 
   -- of the colour loop
-  loop-in-range : (run : ColorLoopRun) → InRangeRunning (Running.ColorLoop run) → lampValid (loopPass l run .lamp) ≡ true → InRangeLamp (loopPass l run .lamp)
+  loop-in-range : (run : ColorLoopRun) → InRangeRunning (loopRunning run) → lampValid (loopPass l run .lamp) ≡ true → InRangeLamp (loopPass l run .lamp)
   unfolding loopPass
   loop-in-range run t validity = changed-in-range _ _ _ validity (hue-word _ _ _ _ true (inRange .hue) (moved-small _ _)) (inRange .remaining) t
 
@@ -168,7 +169,7 @@ module _ (l : Lamp) (inRange : InRangeLamp l) where
   stepped-in-range (Running.SaturationMove run) t validity = saturation-in-range run t validity
   stepped-in-range (Running.ColorTemperatureMoveTo run) t validity = temperature-to-in-range run _ t validity
   stepped-in-range (Running.ColorTemperatureMove run) t validity = temperature-in-range run t validity
-  stepped-in-range (Running.ColorLoop run) t validity = loop-in-range run t validity
+  stepped-in-range (Running.ColorLoop direction hue seconds start) t validity = loop-in-range (loopRun direction hue seconds start) t validity
 
 -- a start keeps widths
 pub started-in-range : (l : Lamp) (task : Task) → lampValid l ≡ true → lampValid (started l task .lamp) ≡ true → InRangeLamp l → InRangeTask task → InRangeLamp (started l task .lamp)

@@ -34,7 +34,7 @@ use Rattle.tasks.specs.declared.ColorTemperatureRun.{ColorTemperatureRun}
 use Rattle.tasks.specs.declared.ColorLoopRun.{ColorLoopRun}
 use Rattle.tasks.specs.declared.Running.{Running}
 use Rattle.tasks.specs.declared.Task.{Task}
-use Rattle.tasks.specs.Runs.{runs}
+use Rattle.tasks.specs.Runs.{runs, loopRun, loopRunning}
 use Rattle.tasks.specs.Valid.{timeValid, rateValid, saturationValid, moveToValid, withinBounds, taskValid, runningValid}
 use Rattle.lamp.specs.declared.Lamp.{Lamp}
 use Rattle.lamp.specs.declared.Answer.{Answer}
@@ -87,7 +87,7 @@ running-later (Running.ColorTemperatureMoveTo run) b c d e h =
 running-later (Running.ColorTemperatureMove run) b c d e h =
     let (t, (m, (o, (p, (q, (z, tt)))))) = each _ e in
     all-of _ (t, (m, (o, (p, (q, (leb-later _ c d z h, tt))))))
-running-later (Running.ColorLoop run) b c d e h = leb-later _ c d e h
+running-later (Running.ColorLoop direction hue seconds start) b c d e h = leb-later _ c d e h
 
 -- a valid lamp is valid at a later clock, up to the limit
 pub later-valid : (l : Lamp) (clock : ℕ) → lampValid l ≡ true → l .clock ≤ clock → clock ≤ clockLimit → lampValid (atClock l clock) ≡ true
@@ -164,7 +164,7 @@ module _ (l : Lamp) (timely : l .clock ≤ clockLimit) (validity : colorValid (l
       valid-of _ timely (mireds-kept _ _ _ validity now end (omega (arith, within (l .bounds) (run .lo) p)) (omega (arith, within (l .bounds) (run .hi) q))) (unless-valid end _ (λ e. r))
 
   -- a pass of the colour loop
-  pub loop-pass : (run : ColorLoopRun) → runningValid (Running.ColorLoop run) (l .bounds) (l .clock) ≡ true → lampValid (loopPass l run .lamp) ≡ true
+  pub loop-pass : (run : ColorLoopRun) → runningValid (loopRunning run) (l .bounds) (l .clock) ≡ true → lampValid (loopPass l run .lamp) ≡ true
   unfolding loopPass
   loop-pass run r = valid-of _ timely (hue-kept _ _ _ validity _ false true) r
 
@@ -236,8 +236,8 @@ step-of l (Running.SaturationMove run) h e = saturation-pass l (valid-clock l h)
 step-of l (Running.ColorTemperatureMoveTo run) h e =
     temperature-to-pass l (valid-clock l h) (valid-color l h) run _ (each _ e .1 .1 .1 .0) (λ t. e)
 step-of l (Running.ColorTemperatureMove run) h e = temperature-pass l (valid-clock l h) (valid-color l h) run e
-step-of l (Running.ColorLoop run) h e =
-    loop-pass l (valid-clock l h) (valid-color l h) run e
+step-of l (Running.ColorLoop direction hue seconds start) h e =
+    loop-pass l (valid-clock l h) (valid-color l h) (loopRun direction hue seconds start) e
 
 -- a step of what runs
 pub stepped-valid : (l : Lamp) → lampValid l ≡ true → lampValid (stepped l (l .running) .lamp) ≡ true
@@ -396,4 +396,4 @@ module _ (l : Lamp) where
   stepped-few (Running.SaturationMove run) = le-trans (saturation-pass-few l run) (omega arith)
   stepped-few (Running.ColorTemperatureMoveTo run) = le-trans (temperature-to-few l run _) (omega arith)
   stepped-few (Running.ColorTemperatureMove run) = le-trans (temperature-pass-few l run) (omega arith)
-  stepped-few (Running.ColorLoop run) = le-trans (loop-pass-few l run) (omega arith)
+  stepped-few (Running.ColorLoop direction hue seconds start) = le-trans (loop-pass-few l (loopRun direction hue seconds start)) (omega arith)

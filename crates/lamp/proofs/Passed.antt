@@ -26,6 +26,7 @@ use Rattle.tasks.specs.declared.ColorTemperatureToRun.{ColorTemperatureToRun}
 use Rattle.tasks.specs.declared.ColorTemperatureRun.{ColorTemperatureRun}
 use Rattle.tasks.specs.declared.ColorLoopRun.{ColorLoopRun}
 use Rattle.tasks.specs.declared.Running.{Running}
+use Rattle.tasks.specs.Runs.{loopRunning}
 use Rattle.lamp.specs.declared.Lamp.{Lamp}
 use Rattle.lamp.specs.declared.passes.Passed.{Passed}
 use Rattle.lamp.specs.Calls.{after}
@@ -70,7 +71,7 @@ module _ (l : Lamp) where
   unfolding temperaturePass temperaturePassed
   temperature-left run = rw (mireds-change-reported, append-nil, append-nil)
 
-  pub loop-left : (run : ColorLoopRun) → leftEffect l (leftBy false (loopPassed (foundIn l) run) (Running.ColorLoop run)) ≡ loopPass l run
+  pub loop-left : (run : ColorLoopRun) → leftEffect l (leftBy false (loopPassed (foundIn l) run) (loopRunning run)) ≡ loopPass l run
   unfolding loopPass loopPassed
   loop-left run = rw (hue-change-reported, append-nil, append-nil)
 

@@ -22,7 +22,7 @@ use Rattle.tasks.specs.declared.ColorTemperatureMove.{ColorTemperatureMove}
 use Rattle.tasks.specs.declared.Task.{Task}
 use Rattle.tasks.specs.declared.Running.{Running}
 use Rattle.tasks.specs.Valid.{taskValid}
-use Rattle.tasks.specs.Runs.{runs}
+use Rattle.tasks.specs.Runs.{runs, loopRun}
 use Rattle.lamp.specs.declared.Lamp.{Lamp}
 use Rattle.lamp.specs.declared.Answer.{Answer}
 use Rattle.lamp.specs.Answers.{atClock, badClock, firstCause, refusal}
@@ -58,8 +58,7 @@ hueSaturationStart l task =
     after (only (w .reported) RemainingTime)
     (hueSaturationPass (remainingSet l w)
     (record { start = l .clock; hue = l .color .hue; saturation = l .color .saturation; task = task })
-    (startPermille (task .ms)
-    (noHueDelta (task .delta) && noSaturationDelta (task .saturation) (l .color .saturation))))
+    (startPermille (task .ms) (noHueDelta (task .delta) && noSaturationDelta (task .saturation) (l .color .saturation))))
 
 -- the target is clamped to the bounds
 unfoldable pub temperatureToStart : Lamp → ColorTemperatureMoveTo → Effect
@@ -83,8 +82,7 @@ temperatureStart l task =
 unfoldable pub started : Lamp → Task → Effect
 started l (Task.HueSaturationMoveTo task) = hueSaturationStart l task
 started l (Task.HueMove task) = huePass l (record { start = l .clock; hue = l .color .hue; task = task })
-started l (Task.SaturationMove task) =
-    saturationPass l (record { start = l .clock; saturation = l .color .saturation; task = task })
+started l (Task.SaturationMove task) = saturationPass l (record { start = l .clock; saturation = l .color .saturation; task = task })
 started l (Task.ColorTemperatureMoveTo task) = temperatureToStart l task
 started l (Task.ColorTemperatureMove task) = temperatureStart l task
 started l (Task.ColorLoop task) = loopPass l (record { start = l .clock; hue = l .color .hue; task = task })
@@ -97,23 +95,15 @@ stepped l Running.Idle = record { lamp = l; reported = []; wait = 0 }
 stepped l (Running.HueSaturationMoveTo run) = hueSaturationPass l run (permilleOf (l .clock - run .start) (run .task .ms))
 stepped l (Running.HueMove run) = huePass l run
 stepped l (Running.SaturationMove run) = saturationPass l run
-stepped l (Running.ColorTemperatureMoveTo run) =
-    temperatureToPass l run (permilleOf (l .clock - run .start) (run .task .ms))
+stepped l (Running.ColorTemperatureMoveTo run) = temperatureToPass l run (permilleOf (l .clock - run .start) (run .task .ms))
 stepped l (Running.ColorTemperatureMove run) = temperaturePass l run
-stepped l (Running.ColorLoop run) = loopPass l run
+stepped l (Running.ColorLoop direction hue seconds start) = loopPass l (loopRun direction hue seconds start)
 
 -- ---- the causes, in the table's order, and the answers
 
 -- an accepted start's or step's answer
 abbrev pub done : Effect → Answer
-done e =
-    record {
-      number = accepted;
-      lamp = e .lamp;
-      notices = noted (e .reported);
-      task = GivenTask.Nothing;
-      wait = e .wait;
-    }
+done e = record { number = accepted; lamp = e .lamp; notices = noted (e .reported); task = GivenTask.Nothing; wait = e .wait }
 
 -- the choice between a refusal and an effect
 abbrev pub choose : ℕ → Lamp → Answer → Answer
@@ -121,8 +111,7 @@ choose cause l answer = cond (eqb cause accepted) answer (refusal l cause)
 
 -- "starts 8, 4, 6"
 abbrev pub startCause : Lamp → Task → ℕ → ℕ
-startCause l task clock =
-    cond (eqb (firstCause l clock) accepted) (cond (taskValid task) accepted invalidTask) (firstCause l clock)
+startCause l task clock = cond (eqb (firstCause l clock) accepted) (cond (taskValid task) accepted invalidTask) (firstCause l clock)
 
 unfoldable pub startAnswer : Lamp → Task → ℕ → Answer
 startAnswer l task clock = choose (startCause l task clock) l (done (started (atClock l clock) task))

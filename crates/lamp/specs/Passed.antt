@@ -1,5 +1,5 @@
--- What the code of a start or a step hands on until the answer is built: what a pass is given of the lamp, what it
--- leaves, and the record that stays. `proofs/Passed` says that it comes to the effects of `Passes`.
+-- What the code of a start or a step hands on until the answer is built: what a pass is given of the lamp, what it leaves, and
+-- the record that stays. `proofs/Passed` says that it comes to the effects of `Passes`.
 use Prim.Native.Nat.{ℕ, _-_}
 use mathlib.Core.Bool.{Bool, true, false, cond}
 use mathlib.Core.List.{List, _++_}
@@ -46,8 +46,7 @@ foundIn l = record { clock = l .clock; bounds = l .bounds; remaining = l .remain
 -- the changes of a move-to: of the hue and of the saturation, where the task moves them
 abbrev pub hueMovedChange : Color → HueDelta → ℕ → ℕ → Bool → ℕ → Change
 hueMovedChange c HueDelta.Keep start permille enhanced clock = noChange
-hueMovedChange c (HueDelta.By way) start permille enhanced clock =
-    hueChange c (hueNow start way permille) (atEnd permille) enhanced clock
+hueMovedChange c (HueDelta.By way) start permille enhanced clock = hueChange c (hueNow start way permille) (atEnd permille) enhanced clock
 
 abbrev pub saturationMovedChange : Color → TargetSaturation → ℕ → ℕ → ℕ → Change
 saturationMovedChange c TargetSaturation.Keep start permille clock = noChange
@@ -106,34 +105,29 @@ passed f color change device wait end =
 
 unfoldable pub huePassed : Found → HueRun → Passed
 huePassed f run =
-    let now : ℕ = movedHue (run .hue)
-    (deltaAtRate (signed (run .task .direction) (run .task .rate)) (f .clock - run .start)) in
+    let now : ℕ = movedHue (run .hue) (deltaAtRate (signed (run .task .direction) (run .task .rate)) (f .clock - run .start)) in
     passed f (hueSet (f .color) now false (run .task .enhanced) (f .clock))
     (hueChange (f .color) now false (run .task .enhanced) (f .clock)) deviceHueSaturation tick false
 
 unfoldable pub saturationPassed : Found → SaturationRun → Passed
 saturationPassed f run =
     let now : ℕ =
-    clampedSum 0 saturationLimit (run .saturation)
-    (deltaAtRate (signed (run .task .direction) (run .task .rate)) (f .clock - run .start))
+    clampedSum 0 saturationLimit (run .saturation) (deltaAtRate (signed (run .task .direction) (run .task .rate)) (f .clock - run .start))
     in
     let end : Bool = saturationDone (run .task .direction) now in
-    passed f (saturationSet (f .color) now end (f .clock))
-    (saturationChange (f .color) now end (f .clock)) deviceHueSaturation tick end
+    passed f (saturationSet (f .color) now end (f .clock)) (saturationChange (f .color) now end (f .clock)) deviceHueSaturation tick end
 
 unfoldable pub temperaturePassed : Found → ColorTemperatureRun → Passed
 temperaturePassed f run =
     let now : ℕ = clampedSum (run .lo) (run .hi) (run .mireds) (deltaAtRate (run .rate) (f .clock - run .start)) in
     let end : Bool = miredsDone (run .rate) (run .lo) (run .hi) now in
-    passed f (miredsSet (f .color) now end (f .clock))
-    (miredsChange (f .color) now end (f .clock)) deviceMireds tick end
+    passed f (miredsSet (f .color) now end (f .clock)) (miredsChange (f .color) now end (f .clock)) deviceMireds tick end
 
 unfoldable pub loopPassed : Found → ColorLoopRun → Passed
 loopPassed f run =
     let elapsed : ℕ = f .clock - run .start in
     let now : ℕ = movedHue (run .hue) (loopDelta (run .task .direction) elapsed (run .task .seconds)) in
-    passed f (hueSet (f .color) now false true (f .clock))
-    (hueChange (f .color) now false true (f .clock)) deviceHueSaturation
+    passed f (hueSet (f .color) now false true (f .clock)) (hueChange (f .color) now false true (f .clock)) deviceHueSaturation
     (turnWait elapsed (run .task .seconds)) false
 
 -- where nothing runs, nothing changes, and no device is written

@@ -1,5 +1,5 @@
--- One pass of each transition: document 01, leaf 6 and "The arithmetic of a step". A pass is given the lamp at the
--- call's clock and the running record, and says what it leaves, what it reports in its order, and the wait.
+-- One pass of each transition: document 01, leaf 6 and "The arithmetic of a step". A pass is given the lamp at the call's
+-- clock and the running record, and says what it leaves, what it reports in its order, and the wait.
 use Prim.Native.Nat.{ℕ, _-_}
 use mathlib.Core.Bool.{Bool, true, false, cond, _&&_, _||_}
 use mathlib.Core.List.{List, [], _∷_, _++_}
@@ -27,6 +27,7 @@ use Rattle.tasks.specs.declared.ColorTemperatureToRun.{ColorTemperatureToRun}
 use Rattle.tasks.specs.declared.ColorTemperatureRun.{ColorTemperatureRun}
 use Rattle.tasks.specs.declared.ColorLoopRun.{ColorLoopRun}
 use Rattle.tasks.specs.declared.Running.{Running}
+use Rattle.tasks.specs.Runs.{loopRunning}
 use Rattle.lamp.specs.declared.Lamp.{Lamp}
 
 -- what an accepted start or step does: the lamp after it, what it reports, and the wait
@@ -38,28 +39,12 @@ pub record Effect : Type 0 where
 -- the lamp with another colour and running record
 abbrev pub moved : Lamp → Color → Running → Lamp
 moved l color running =
-    record {
-      clock = l .clock;
-      bounds = l .bounds;
-      color = color;
-      looping = l .looping;
-      remaining = l .remaining;
-      options = l .options;
-      running = running;
-    }
+    record { clock = l .clock; bounds = l .bounds; color = color; looping = l .looping; remaining = l .remaining; options = l .options; running = running }
 
 -- the lamp with another remaining time
 abbrev pub remainingSet : Lamp → Written → Lamp
 remainingSet l w =
-    record {
-      clock = l .clock;
-      bounds = l .bounds;
-      color = l .color;
-      looping = l .looping;
-      remaining = w .remaining;
-      options = l .options;
-      running = l .running;
-    }
+    record { clock = l .clock; bounds = l .bounds; color = l .color; looping = l .looping; remaining = w .remaining; options = l .options; running = l .running }
 
 -- what a pass leaves running: nothing at its end, and then asks for no wait
 abbrev pub unless : Bool → Running → Running
@@ -80,8 +65,7 @@ hueNow start way permille = movedHue start (partOf way permille)
 
 abbrev pub hueMoved : Color → HueDelta → ℕ → ℕ → Bool → ℕ → Color
 hueMoved c HueDelta.Keep start permille enhanced clock = c
-hueMoved c (HueDelta.By way) start permille enhanced clock =
-    hueSet c (hueNow start way permille) (atEnd permille) enhanced clock
+hueMoved c (HueDelta.By way) start permille enhanced clock = hueSet c (hueNow start way permille) (atEnd permille) enhanced clock
 
 abbrev pub hueMovedReported : Color → HueDelta → ℕ → ℕ → Bool → ℕ → Bool → List ℕ
 hueMovedReported c HueDelta.Keep start permille enhanced clock active = []
@@ -103,8 +87,8 @@ saturationMovedReported c TargetSaturation.Keep start permille clock active = []
 saturationMovedReported c (TargetSaturation.To target) start permille clock active =
     saturationReported c (saturationNow start target permille) (atEnd permille) clock active
 
--- "Each pass writes the device after the setters, then, in a move-to, the remaining time": what is left of the time,
--- and 0 at the end
+-- "Each pass writes the device after the setters, then, in a move-to, the remaining time": what is left of the time, and 0
+-- at the end
 abbrev pub leftWritten : Lamp → Bool → ℕ → ℕ → Written
 leftWritten l end elapsed ms = writtenQuietly (l .remaining) (cond end 0 (ms - elapsed)) false
 
@@ -118,14 +102,11 @@ hueSaturationPass l run permille =
     record {
       lamp =
           remainingSet
-          (moved l (saturationMoved hued (run .task .saturation) (run .saturation) permille (l .clock))
-          (unless end (Running.HueSaturationMoveTo run)))
+          (moved l (saturationMoved hued (run .task .saturation) (run .saturation) permille (l .clock)) (unless end (Running.HueSaturationMoveTo run)))
           w;
       reported =
-          hueMovedReported (l .color) (run .task .delta) (run .hue) permille (run .task .enhanced) (l .clock)
-          (l .looping .active)
-          ++ saturationMovedReported hued (run .task .saturation) (run .saturation) permille (l .clock)
-          (l .looping .active)
+          hueMovedReported (l .color) (run .task .delta) (run .hue) permille (run .task .enhanced) (l .clock) (l .looping .active)
+          ++ saturationMovedReported hued (run .task .saturation) (run .saturation) permille (l .clock) (l .looping .active)
           ++ (deviceHueSaturation ∷ [])
           ++ only (w .reported) RemainingTime;
       wait = waiting end (endWait elapsed (run .task .ms));
@@ -135,8 +116,7 @@ hueSaturationPass l run permille =
 
 abbrev pub miredsNow : Bounds → ℕ → ℕ → ℕ → ℕ
 miredsNow bounds start target permille =
-    cond (atEnd permille) target
-    (clampedSum (bounds .min) (bounds .max) start (partOf (pos target -ℤ pos start) permille))
+    cond (atEnd permille) target (clampedSum (bounds .min) (bounds .max) start (partOf (pos target -ℤ pos start) permille))
 
 -- one pass of move_to_color_temperature_transition at so many thousandths
 unfoldable pub temperatureToPass : Lamp → ColorTemperatureToRun → ℕ → Effect
@@ -146,12 +126,8 @@ temperatureToPass l run permille =
     let now : ℕ = miredsNow (l .bounds) (run .mireds) (run .task .target) permille in
     let w : Written = leftWritten l end elapsed (run .task .ms) in
     record {
-      lamp =
-          remainingSet
-          (moved l (miredsSet (l .color) now end (l .clock)) (unless end (Running.ColorTemperatureMoveTo run))) w;
-      reported =
-          miredsReported (l .color) now end (l .clock) (l .looping .active) ++ (deviceMireds ∷ [])
-          ++ only (w .reported) RemainingTime;
+      lamp = remainingSet (moved l (miredsSet (l .color) now end (l .clock)) (unless end (Running.ColorTemperatureMoveTo run))) w;
+      reported = miredsReported (l .color) now end (l .clock) (l .looping .active) ++ (deviceMireds ∷ []) ++ only (w .reported) RemainingTime;
       wait = waiting end (endWait elapsed (run .task .ms));
     }
 
@@ -160,13 +136,10 @@ temperatureToPass l run permille =
 -- one pass of hue_move_transition: "A hue move never ends"
 unfoldable pub huePass : Lamp → HueRun → Effect
 huePass l run =
-    let now : ℕ = movedHue (run .hue)
-    (deltaAtRate (signed (run .task .direction) (run .task .rate)) (l .clock - run .start)) in
+    let now : ℕ = movedHue (run .hue) (deltaAtRate (signed (run .task .direction) (run .task .rate)) (l .clock - run .start)) in
     record {
       lamp = moved l (hueSet (l .color) now false (run .task .enhanced) (l .clock)) (Running.HueMove run);
-      reported =
-          hueReported (l .color) now false (run .task .enhanced) (l .clock) (l .looping .active)
-          ++ (deviceHueSaturation ∷ []);
+      reported = hueReported (l .color) now false (run .task .enhanced) (l .clock) (l .looping .active) ++ (deviceHueSaturation ∷ []);
       wait = tick;
     }
 
@@ -179,8 +152,7 @@ saturationDone MoveModeEnum.Down now = eqb now 0
 -- one pass of saturation_move_transition
 unfoldable pub saturationPass : Lamp → SaturationRun → Effect
 saturationPass l run =
-    let now : ℕ = clampedSum 0 saturationLimit (run .saturation)
-    (deltaAtRate (signed (run .task .direction) (run .task .rate)) (l .clock - run .start)) in
+    let now : ℕ = clampedSum 0 saturationLimit (run .saturation) (deltaAtRate (signed (run .task .direction) (run .task .rate)) (l .clock - run .start)) in
     let end : Bool = saturationDone (run .task .direction) now in
     record {
       lamp = moved l (saturationSet (l .color) now end (l .clock)) (unless end (Running.SaturationMove run));
@@ -210,7 +182,7 @@ loopPass l run =
     let elapsed : ℕ = l .clock - run .start in
     let now : ℕ = movedHue (run .hue) (loopDelta (run .task .direction) elapsed (run .task .seconds)) in
     record {
-      lamp = moved l (hueSet (l .color) now false true (l .clock)) (Running.ColorLoop run);
+      lamp = moved l (hueSet (l .color) now false true (l .clock)) (loopRunning run);
       reported = hueReported (l .color) now false true (l .clock) (l .looping .active) ++ (deviceHueSaturation ∷ []);
       wait = turnWait elapsed (run .task .seconds);
     }

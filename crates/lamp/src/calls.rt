@@ -20,6 +20,7 @@ use progress::clamped_sum;
 use progress::elapsed;
 use progress::permille;
 use remaining_time::RemainingTime;
+use tasks::ColorLoop;
 use tasks::ColorLoopRun;
 use tasks::ColorTemperatureMove;
 use tasks::ColorTemperatureMoveTo;
@@ -39,7 +40,7 @@ ghost use mathlib.Core.Bool.{true};
 ghost use Rattle.tasks.specs.Valid.{moveToValid, rateValid, taskValid, runningValid};
 ghost use Rattle.matter.specs.Bounds.{lower, upper};
 ghost use Rattle.lamp.specs.Calls.{noHueDelta, noSaturationDelta, startPermille, hueSaturationStart, temperatureToStart, temperatureStart, started, stepped, startAnswer, stepAnswer, haltAnswer};
-ghost use Rattle.tasks.specs.Runs.{runs};
+ghost use Rattle.tasks.specs.Runs.{runs, loopRunning};
 ghost use Rattle.lamp.specs.Answers.{atClock};
 ghost use Rattle.lamp.specs.Passed.{leftEffect, acceptedWith};
 
@@ -66,6 +67,20 @@ fn start_permille(ms: u32, no_delta: bool) -> u16
     ensures { λ r. ⌜ r ≡ startPermille ms «no_delta» ⌝ }
 {
     if (ms == 0) | no_delta { 1000 } else { 0 }
+}
+
+// The colour loop's record as what runs.
+fn loop_running(run: ColorLoopRun) -> Running
+    ensures { λ r. ⌜ r ≡ loopRunning run ⌝ }
+{
+    let task = run.task;
+    let direction = task.direction;
+    Running::ColorLoop {
+        direction: direction,
+        hue: run.hue,
+        seconds: task.seconds,
+        start: run.start,
+    }
 }
 
 impl Lamp {
@@ -186,11 +201,7 @@ impl Lamp {
                     hue: self.color.hue,
                     task: t,
                 };
-                left_by(
-                    false,
-                    found.color_loop_transition(run),
-                    Running::ColorLoop(run),
-                )
+                left_by(false, found.color_loop_transition(run), loop_running(run))
             }
             Task::Stop => left_by(false, found.no_transition(), Running::Idle),
         }
@@ -231,12 +242,21 @@ impl Lamp {
                 let passed = found.color_temperature_move_transition(run);
                 left_by(false, passed, Running::ColorTemperatureMove(run))
             }
-            Running::ColorLoop(run) => {
-                left_by(
-                    false,
-                    found.color_loop_transition(run),
-                    Running::ColorLoop(run),
-                )
+            Running::ColorLoop {
+                direction,
+                hue,
+                seconds,
+                start,
+            } => {
+                let run = ColorLoopRun {
+                    start: start,
+                    hue: hue,
+                    task: ColorLoop {
+                        direction: direction,
+                        seconds: seconds,
+                    },
+                };
+                left_by(false, found.color_loop_transition(run), loop_running(run))
             }
         }
     }

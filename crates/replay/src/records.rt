@@ -2,7 +2,6 @@
 use crate::moves;
 use crate::words;
 use crate::words::LOST;
-use tasks::ColorLoopRun;
 use tasks::ColorTemperatureRun;
 use tasks::ColorTemperatureToRun;
 use tasks::HueRun;
@@ -89,11 +88,15 @@ fn record(initial: Initial, task: Task) -> Running {
             lo: task.min,
             hi: task.max,
         }),
-        Task::ColorLoop(task) => Running::ColorLoop(ColorLoopRun {
-            start,
-            hue: number,
-            task,
-        }),
+        Task::ColorLoop(task) => {
+            let direction = task.direction;
+            Running::ColorLoop {
+                direction,
+                hue: number,
+                seconds: task.seconds,
+                start,
+            }
+        }
         Task::Stop => Running::Idle,
     }
 }

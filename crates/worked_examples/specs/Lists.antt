@@ -24,8 +24,7 @@ use Rattle.worked_examples.specs.Cases.{lamp, plain, given, answers, lis
 abbrev pub begunOn : Lamp → HueDelta → TargetSaturation → ℕ → Bool → Answer
 begunOn l delta saturation ms enhanced =
     startAnswer l (Task.HueSaturationMoveTo (record {
-      delta =
-          delta;
+      delta = delta;
       saturation = saturation;
       ms = ms;
       enhanced = enhanced;

@@ -135,8 +135,7 @@ runsSaturation start saturation rate =
 abbrev pub runsMiredsTo : ℕ → ℕ → ℕ → ℕ → Lamp
 runsMiredsTo start mireds target ms =
     running (Running.ColorTemperatureMoveTo (record {
-      start =
-          start;
+      start = start;
       mireds = mireds;
       task = record { target = target; ms = ms };
     }))
@@ -148,8 +147,7 @@ runsMireds start mireds rate lo hi =
 abbrev pub runsLoop : ℕ → Lamp
 runsLoop start =
     running
-    (Running.ColorLoop
-    (record { start = start; hue = 0; task = record { direction = ColorLoopDirectionEnum.Increment; seconds = 0 } }))
+    (Running.ColorLoop ColorLoopDirectionEnum.Increment 0 0 start)
 
 abbrev pub byOne : ℕ → HueSaturationMoveTo
 byOne ms = moveTo (HueDelta.By (pos 1)) TargetSaturation.Keep ms

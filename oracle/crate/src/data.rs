@@ -309,7 +309,12 @@ pub fn running(record: Option<&data::Record>) -> Running {
                 task,
             })
         }
-        Task::ColorLoop(task) => Running::ColorLoop(ColorLoopRun { start, hue, task }),
+        Task::ColorLoop(ColorLoop { direction, seconds }) => Running::ColorLoop {
+            direction,
+            hue,
+            seconds,
+            start,
+        },
         Task::ColorTemperatureMove(_) | Task::Stop => unreachable!("no record has this task"),
     }
 }
@@ -354,9 +359,17 @@ pub fn record(running: &Running) -> Option<data::Record> {
                 ..of(run.start, task)
             }
         }
-        Running::ColorLoop(run) => data::Record {
-            hue: run.hue,
-            ..of(run.start, Task::ColorLoop(run.task).theirs())
+        Running::ColorLoop {
+            direction,
+            hue,
+            seconds,
+            start,
+        } => data::Record {
+            hue,
+            ..of(
+                start,
+                Task::ColorLoop(ColorLoop { direction, seconds }).theirs(),
+            )
         },
     })
 }

@@ -20,6 +20,7 @@ use crate::progress::clamped_sum;
 use crate::progress::elapsed;
 use crate::progress::permille;
 use crate::remaining_time::RemainingTime;
+use crate::tasks::ColorLoop;
 use crate::tasks::ColorLoopRun;
 use crate::tasks::ColorTemperatureMove;
 use crate::tasks::ColorTemperatureMoveTo;
@@ -52,6 +53,18 @@ fn no_saturation_delta(target: TargetSaturation, start: u8) -> bool {
 /// Permille at a start: the end at once where there is no time or no way.
 fn start_permille(ms: u32, no_delta: bool) -> u16 {
     if (ms == 0) | no_delta { 1000 } else { 0 }
+}
+
+/// The colour loop's record as what runs.
+fn loop_running(run: ColorLoopRun) -> Running {
+    let task = run.task;
+    let direction = task.direction;
+    Running::ColorLoop {
+        direction: direction,
+        hue: run.hue,
+        seconds: task.seconds,
+        start: run.start,
+    }
 }
 
 impl Lamp {
@@ -159,11 +172,7 @@ impl Lamp {
                     hue: self.color.hue,
                     task: t,
                 };
-                left_by(
-                    false,
-                    found.color_loop_transition(run),
-                    Running::ColorLoop(run),
-                )
+                left_by(false, found.color_loop_transition(run), loop_running(run))
             }
             Task::Stop => left_by(false, found.no_transition(), Running::Idle),
         }
@@ -200,12 +209,21 @@ impl Lamp {
                 let passed = found.color_temperature_move_transition(run);
                 left_by(false, passed, Running::ColorTemperatureMove(run))
             }
-            Running::ColorLoop(run) => {
-                left_by(
-                    false,
-                    found.color_loop_transition(run),
-                    Running::ColorLoop(run),
-                )
+            Running::ColorLoop {
+                direction,
+                hue,
+                seconds,
+                start,
+            } => {
+                let run = ColorLoopRun {
+                    start: start,
+                    hue: hue,
+                    task: ColorLoop {
+                        direction: direction,
+                        seconds: seconds,
+                    },
+                };
+                left_by(false, found.color_loop_transition(run), loop_running(run))
             }
         }
     }

@@ -241,11 +241,16 @@ impl Words<'_> {
                 lo: self.u16()?,
                 hi: self.u16()?,
             }),
-            b"loop" => Running::ColorLoop(ColorLoopRun {
-                start,
-                hue: self.u16()?,
-                task: self.color_loop()?,
-            }),
+            b"loop" => {
+                let hue = self.u16()?;
+                let ColorLoop { direction, seconds } = self.color_loop()?;
+                Running::ColorLoop {
+                    direction,
+                    hue,
+                    seconds,
+                    start,
+                }
+            }
             _ => return None,
         })
     }

@@ -120,7 +120,7 @@ returns-6 c =
 
 returns-7 : tie.Need-returns-7
 unfolding recordNumbers
-returns-7 c = simp (c .record7 .ensures, c .before .of-color-loop .ensures, c .before .before .before .before .before .running6 .given .1)
+returns-7 c = simp (c .record7 .ensures, c .before .of-color-loop .ensures, c .before .before .before .running6 .given .1)
 
 pub of-running-spec : {M : Type 1} → statement M
 of-running-spec =

@@ -59,6 +59,9 @@ enum-known-task-6 c = search needs
 color-loop-transition-requires : tie.Need-color-loop-transition-requires
 color-loop-transition-requires c κs = search needs
 
+loop-running-requires : tie.Need-loop-running-requires
+loop-running-requires c κs = search needs
+
 left-by-requires-3 : tie.Need-left-by-requires-3
 left-by-requires-3 c κs = search needs
 
@@ -100,9 +103,9 @@ returns-5 c = rw (c .before .before .task5 .given .1) (c .start-color-temperatur
 returns-6 : tie.Need-returns-6
 unfolding started
 returns-6 c =
-    let k = c .before .before in
+    let k = c .before .before .before in
     let args = k .before .before .before .before .before .args in
-    rw (c .left-by3 .ensures, c .before .color-loop-transition .ensures, k .before .task6 .given .1, k .before .before .before .found .ensures) (loop-left (atClock (args .self) (args .clock)) _)
+    rw (c .left-by3 .ensures, c .before .loop-running .ensures, c .before .before .color-loop-transition .ensures, k .before .task6 .given .1, k .before .before .before .found .ensures) (loop-left (atClock (args .self) (args .clock)) _)
 
 returns-7 : tie.Need-returns-7
 unfolding taskValid
@@ -129,6 +132,7 @@ begin-spec =
     start-color-temperature-requires
     enum-known-task-6
     color-loop-transition-requires
+    loop-running-requires
     left-by-requires-3
     enum-told
     no-transition-requires

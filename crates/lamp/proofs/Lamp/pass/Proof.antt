@@ -97,6 +97,9 @@ enum-known-running-6 c = search needs
 color-loop-transition-requires : tie.Need-color-loop-transition-requires
 color-loop-transition-requires c κs = search needs
 
+loop-running-requires : tie.Need-loop-running-requires
+loop-running-requires c κs = search needs
+
 left-by-requires-7 : tie.Need-left-by-requires-7
 left-by-requires-7 c κs = search needs
 
@@ -143,9 +146,9 @@ returns-6 c =
 returns-7 : tie.Need-returns-7
 unfolding stepped
 returns-7 c =
-    let k = c .before .before in
+    let k = c .before .before .before in
     let args = k .before .before .before .before .before .args in
-    rw (c .left-by7 .ensures, c .before .color-loop-transition .ensures, k .before .running6 .given .1, k .before .before .before .found .ensures) (loop-left (atClock (args .self) (args .clock)) (k .before .running6 .given .0 .0))
+    rw (c .left-by7 .ensures, c .before .loop-running .ensures, c .before .before .color-loop-transition .ensures, k .before .running6 .given .1, k .before .before .before .found .ensures) (loop-left (atClock (args .self) (args .clock)) _)
 
 pub pass-spec : {M : Type 1} → statement M
 pass-spec =
@@ -178,6 +181,7 @@ pass-spec =
     left-by-requires-6
     enum-known-running-6
     color-loop-transition-requires
+    loop-running-requires
     left-by-requires-7
     returns
     returns-2

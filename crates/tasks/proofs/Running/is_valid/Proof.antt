@@ -105,7 +105,7 @@ returns-6 c =
 
 returns-7 : tie.Need-returns-7
 unfolding runningValid allTrue
-returns-7 c = simp (c .before .before .self6 .given .1)
+returns-7 c = simp (c .before .self6 .given .1)
 
 pub is-valid-spec : {M : Type 1} → statement M
 is-valid-spec =
