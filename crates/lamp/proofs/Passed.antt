@@ -1,7 +1,7 @@
 -- What a pass leaves comes to the definition's effect on the lamp; and what it reports has room in a list.
 use Prim.Native.Nat.{ℕ, _+_, _≤_, _<_}
 use mathlib.Core.Bool.{Bool, true, false, cond}
-use mathlib.Core.List.{List, [], _∷_, _++_, append-nil}
+use mathlib.Core.List.{List, [], _∷_, _++_, append-assoc}
 use mathlib.Core.Path.{_≡_, refl, ap, _∙_}
 use native.Mathlib.Omega.{arith}
 use lib.Dec.{ltb}
@@ -31,7 +31,7 @@ use Rattle.lamp.specs.declared.Lamp.{Lamp}
 use Rattle.lamp.specs.declared.passes.Passed.{Passed}
 use Rattle.lamp.specs.Calls.{after}
 use Rattle.lamp.specs.Passes.{Effect, remainingSet, hueMovedReported, saturationMovedReported, hueSaturationPass, temperatureToPass, huePass, saturationPass, temperaturePass, loopPass}
-use Rattle.lamp.specs.Passed.{foundIn, hueMovedChange, saturationMovedChange, hueSaturationMoved, temperatureToMoved, timed, huePassed, saturationPassed, temperaturePassed, loopPassed, leftBy, passReported, leftEffect}
+use Rattle.lamp.specs.Passed.{foundIn, hueMovedChange, saturationMovedChange, hueSaturationMoved, temperatureToMoved, timed, huePassed, saturationPassed, temperaturePassed, loopPassed, leftBy, reportedBehind, passReported, leftEffect}
 
 -- ---- the effects
 
@@ -51,29 +51,29 @@ module _ (l : Lamp) where
       leftEffect l (leftBy false (timed (foundIn l) (hueSaturationMoved (foundIn l) run permille) (run .start) (run .task .ms) permille) (Running.HueSaturationMoveTo run))
       ≡ hueSaturationPass l run permille
   unfolding hueSaturationPass hueSaturationMoved timed
-  hue-saturation-left run permille = rw (hue-moved-reported, saturation-moved-reported)
+  hue-saturation-left run permille = rw (hue-moved-reported, saturation-moved-reported, ← append-assoc, ← append-assoc)
 
   pub temperature-to-left : (run : ColorTemperatureToRun) (permille : ℕ) →
       leftEffect l (leftBy false (timed (foundIn l) (temperatureToMoved (foundIn l) run permille) (run .start) (run .task .ms) permille) (Running.ColorTemperatureMoveTo run))
       ≡ temperatureToPass l run permille
   unfolding temperatureToPass temperatureToMoved timed
-  temperature-to-left run permille = rw (mireds-change-reported, append-nil)
+  temperature-to-left run permille = rw mireds-change-reported (simp append-assoc)
 
   pub hue-left : (run : HueRun) → leftEffect l (leftBy false (huePassed (foundIn l) run) (Running.HueMove run)) ≡ huePass l run
   unfolding huePass huePassed
-  hue-left run = rw (hue-change-reported, append-nil, append-nil)
+  hue-left run = rw hue-change-reported
 
   pub saturation-left : (run : SaturationRun) → leftEffect l (leftBy false (saturationPassed (foundIn l) run) (Running.SaturationMove run)) ≡ saturationPass l run
   unfolding saturationPass saturationPassed
-  saturation-left run = rw (saturation-change-reported, append-nil, append-nil)
+  saturation-left run = rw saturation-change-reported
 
   pub temperature-left : (run : ColorTemperatureRun) → leftEffect l (leftBy false (temperaturePassed (foundIn l) run) (Running.ColorTemperatureMove run)) ≡ temperaturePass l run
   unfolding temperaturePass temperaturePassed
-  temperature-left run = rw (mireds-change-reported, append-nil, append-nil)
+  temperature-left run = rw mireds-change-reported
 
   pub loop-left : (run : ColorLoopRun) → leftEffect l (leftBy false (loopPassed (foundIn l) run) (loopRunning run)) ≡ loopPass l run
   unfolding loopPass loopPassed
-  loop-left run = rw (hue-change-reported, append-nil, append-nil)
+  loop-left run = rw hue-change-reported
 
 -- a move-to's start: the full time is written first
 module _ (l : Lamp) (w : Written) where
@@ -90,10 +90,9 @@ module _ (l : Lamp) (w : Written) where
 -- ---- the list
 
 -- its parts, one in front of the other
-pub pass-in-front : (first second device time : List ℕ) →
-    inFront first (inFront second (inFront device (inFront time empty))) ≡ inFront (first ++ second ++ device ++ time) empty
-pass-in-front first second device time =
-    rw (in-front-append first second, in-front-append (first ++ second) device, in-front-append (first ++ second ++ device) time)
+pub behind-in-front : (second device time : List ℕ) →
+    inFront second (inFront device (inFront time empty)) ≡ inFront (second ++ device ++ time) empty
+behind-in-front second device time = rw (in-front-append second device, in-front-append (second ++ device) time)
 
 -- a pass reports at most fifteen notices
 pub pass-few : (p : Passed) (active : Bool) → length (passReported p active) ≤ 15
@@ -105,13 +104,18 @@ pass-few p active =
 -- which are bytes
 pub pass-bytes : (p : Passed) (active : Bool) → p .first .attribute < 256 → p .second .attribute < 256 → p .device < 256 → Bytes (passReported p active)
 pass-bytes p active h k d =
-    bytes-append
-    (bytes-append (bytes-append (change-bytes (p .first) active h) (change-bytes (p .second) active k)) (bytes-only (ltb 0 (p .device)) (p .device) d))
-    (bytes-only (p .time) RemainingTime (omega arith))
+    bytes-append (change-bytes (p .first) active h)
+    (bytes-append
+    (bytes-append (change-bytes (p .second) active k) (bytes-only (ltb 0 (p .device)) (p .device) d))
+    (bytes-only (p .time) RemainingTime (omega arith)))
 
 -- the list of a start or a step, with the full time in front where it is reported
-pub left-placed : (full : Bool) (xs : List ℕ) → length xs ≤ 15 → Bytes xs →
-    placed (inFront (only full RemainingTime) (inFront xs empty)) ≡ noted (only full RemainingTime ++ xs)
-left-placed full xs h b =
-    ap placed (in-front-append (only full RemainingTime) xs empty)
-    ∙ placed-noted (only full RemainingTime ++ xs) (bytes-append (bytes-only full RemainingTime (omega arith)) b) (simp length-append (omega (arith, only-one full RemainingTime)))
+pub left-placed : (full : Bool) (p : Passed) (active : Bool) → Bytes (passReported p active) →
+    placed (inFront (only full RemainingTime) (inFront (changeReported (p .first) active) (inFront (reportedBehind p active) empty)))
+    ≡ noted (only full RemainingTime ++ passReported p active)
+left-placed full p active b =
+    ap (λ m. placed (inFront (only full RemainingTime) m)) (in-front-append (changeReported (p .first) active) (reportedBehind p active) empty)
+    ∙ ap placed (in-front-append (only full RemainingTime) (passReported p active) empty)
+    ∙ placed-noted (only full RemainingTime ++ passReported p active)
+    (bytes-append (bytes-only full RemainingTime (omega arith)) b)
+    (rw length-append (omega (arith, only-one full RemainingTime, pass-few p active)))

@@ -140,11 +140,12 @@ nothingPassed f = passed f (f .color) noChange 0 0 true
 abbrev pub leftBy : Bool → Passed → Running → Left
 leftBy full p running = record { full = full; passed = p; running = unless (p .ends) running }
 
--- what a pass reports
+-- what a pass reports: its first change, and behind it
+abbrev pub reportedBehind : Passed → Bool → List ℕ
+reportedBehind p active = changeReported (p .second) active ++ only (ltb 0 (p .device)) (p .device) ++ only (p .time) RemainingTime
+
 abbrev pub passReported : Passed → Bool → List ℕ
-passReported p active =
-    changeReported (p .first) active ++ changeReported (p .second) active ++ only (ltb 0 (p .device)) (p .device)
-    ++ only (p .time) RemainingTime
+passReported p active = changeReported (p .first) active ++ reportedBehind p active
 
 -- the effect on a lamp at the call's clock
 abbrev pub leftEffect : Lamp → Left → Effect

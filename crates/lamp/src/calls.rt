@@ -297,7 +297,10 @@ impl Lamp {
         }
         let left = self.begin(task, clock);
         let passed = left.passed;
-        self.accepted(left, passed.reported(self.looping.active), clock)
+        let first = passed.first;
+        let active = self.looping.active;
+        let list = first.cons(passed.behind(active), active);
+        self.accepted(left, list, clock)
     }
 
     // One step of what runs.
@@ -316,7 +319,10 @@ impl Lamp {
         }
         let left = self.pass(running, clock);
         let passed = left.passed;
-        self.accepted(left, passed.reported(self.looping.active), clock)
+        let first = passed.first;
+        let active = self.looping.active;
+        let list = first.cons(passed.behind(active), active);
+        self.accepted(left, list, clock)
     }
 
     // Makes the lamp idle, and nothing else.

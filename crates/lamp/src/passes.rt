@@ -33,14 +33,13 @@ use tasks::SaturationRun;
 use tasks::TargetSaturation;
 ghost use mathlib.Core.Path.{_≡_};
 ghost use mathlib.Core.Bool.{true, cond};
-ghost use Prim.Native.Nat.{_-_, _≤_};
+ghost use Prim.Native.Nat.{_-_};
 ghost use lib.IntN.{pos, _-ℤ_};
-ghost use lib.ListN.{length};
 ghost use Rattle.notices.specs.Numerals.{empty, inFront};
 ghost use Rattle.notices.proofs.Numerals.{Bytes};
 ghost use Rattle.tasks.specs.Valid.{deltaValid, moveToValid, hueMoveValid, saturationMoveValid, rateValid};
 ghost use Rattle.lamp.specs.Passes.{hueMoved, saturationNow, saturationMoved, miredsNow, saturationDone, miredsDone, unless, waiting};
-ghost use Rattle.lamp.specs.Passed.{hueMovedChange, saturationMovedChange, hueSaturationMoved, temperatureToMoved, timed, huePassed, saturationPassed, temperaturePassed, loopPassed, passed, nothingPassed, leftBy, passReported};
+ghost use Rattle.lamp.specs.Passed.{hueMovedChange, saturationMovedChange, hueSaturationMoved, temperatureToMoved, timed, huePassed, saturationPassed, temperaturePassed, loopPassed, passed, nothingPassed, leftBy, reportedBehind, passReported};
 
 // What a pass is given of the lamp.
 pub struct Found {
@@ -205,16 +204,15 @@ fn mireds_done(rate: i64, lo: u16, hi: u16, now: u16) -> bool
 }
 
 impl Passed {
-    // What the pass reports, in the order in which it comes.
-    pub(crate) fn reported(self, loop_active: bool) -> Numeral
-        ensures { λ r. ⌜ (r ≡ inFront (passReported self «loop_active») empty) × (length (passReported self «loop_active») ≤ 15) × Bytes (passReported self «loop_active») ⌝ }
+    // What the pass reports behind its first change. Apart from that, so that both are inlined (docs/SPEED.md).
+    pub(crate) fn behind(self, loop_active: bool) -> Numeral
+        ensures { λ r. ⌜ (r ≡ inFront (reportedBehind self «loop_active») empty) × Bytes (passReported self «loop_active») ⌝ }
     {
-        let first = self.first;
         let second = self.second;
         let list = Numeral::new()
             .cons_if(self.time, REMAINING_TIME)
             .cons_if(0 < self.device, self.device);
-        first.cons(second.cons(list, loop_active), loop_active)
+        second.cons(list, loop_active)
     }
 }
 

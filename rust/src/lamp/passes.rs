@@ -179,14 +179,13 @@ fn mireds_done(rate: i64, lo: u16, hi: u16, now: u16) -> bool {
 }
 
 impl Passed {
-    /// What the pass reports, in the order in which it comes.
-    pub(in crate::lamp) fn reported(self, loop_active: bool) -> Numeral {
-        let first = self.first;
+    /// What the pass reports behind its first change. Apart from that, so that both are inlined (docs/SPEED.md).
+    pub(in crate::lamp) fn behind(self, loop_active: bool) -> Numeral {
         let second = self.second;
         let list = Numeral::new()
             .cons_if(self.time, REMAINING_TIME)
             .cons_if(0 < self.device, self.device);
-        first.cons(second.cons(list, loop_active), loop_active)
+        second.cons(list, loop_active)
     }
 }
 

@@ -2,7 +2,6 @@
 use native.Mathlib.Omega.{arith}
 use borrow.Author.Tests.{eq-eqb, ne-eqb, not-true, not-false}
 use Rattle.lamp.specs.Calls.{startAnswer}
-use Rattle.lamp.specs.Passed.{passReported}
 use Rattle.lamp.proofs.Passed.{left-placed}
 use borrow.Author.Needs.{needs}
 use Rattle.lamp.proofs.Lamp.start.Statement.{statement}
@@ -35,8 +34,11 @@ returns-2 c =
 begin-requires : tie.Need-begin-requires
 begin-requires c κs = rw (← c .before .is-valid .ensures) (not-false _ (c .if2 .left))
 
-reported-requires : tie.Need-reported-requires
-reported-requires c κs = search needs
+behind-requires : tie.Need-behind-requires
+behind-requires c κs = search needs
+
+cons-requires : tie.Need-cons-requires
+cons-requires c κs = search needs
 
 accepted-requires : tie.Need-accepted-requires
 accepted-requires c κs = search needs
@@ -44,14 +46,15 @@ accepted-requires c κs = search needs
 returns-3 : tie.Need-returns-3
 unfolding startAnswer
 returns-3 c =
-    let k1 = c .before in
-    let k2 = k1 .before .before in
+    let k0 = c .before in
+    let k1 = k0 .before in
+    let k2 = k1 .before .before .before in
     let k3 = k2 .before in
     let k4 = k3 .before in
     let k5 = k4 .before .before in
     let left = k2 .begin .result in
     let active = k5 .before .args .self .looping .active in
-    rw (c .accepted .ensures, k1 .reported .ensures .0, ← k5 .first-cause .ensures, eq-eqb (k5 .first-cause .result) 0 (omega arith), ← k4 .is-valid .ensures, not-false (k4 .is-valid .result) (k3 .if2 .left), ← k2 .begin .ensures, left-placed (left .full) (passReported (left .passed) active) (k1 .reported .ensures .1) (k1 .reported .ensures .2))
+    rw (c .accepted .ensures, k0 .cons .ensures, k1 .behind .ensures .0, ← k5 .first-cause .ensures, eq-eqb (k5 .first-cause .result) 0 (omega arith), ← k4 .is-valid .ensures, not-false (k4 .is-valid .result) (k3 .if2 .left), ← k2 .begin .ensures, left-placed (left .full) (left .passed) active (k1 .behind .ensures .1))
 
 pub start-spec : {M : Type 1} → statement M
 start-spec =
@@ -64,6 +67,7 @@ start-spec =
     refused-requires-2
     returns-2
     begin-requires
-    reported-requires
+    behind-requires
+    cons-requires
     accepted-requires
     returns-3)

@@ -4,7 +4,6 @@ use native.Mathlib.Omega.{arith}
 use borrow.Author.Tests.{ltb-false, not-true, not-false}
 use Rattle.lamp.specs.Valid.{lampValid}
 use Rattle.lamp.specs.Calls.{stepAnswer}
-use Rattle.lamp.specs.Passed.{passReported}
 use Rattle.lamp.proofs.Kept.{running-later}
 use Rattle.lamp.proofs.Passed.{left-placed}
 use Rattle.matter.proofs.Laws.{each, or-left}
@@ -63,8 +62,11 @@ pass-requires c κs =
       rw (← k2 .is-running .ensures) (not-false _ (k1 .if2 .left)),
     )
 
-reported-requires : tie.Need-reported-requires
-reported-requires c κs = search needs
+behind-requires : tie.Need-behind-requires
+behind-requires c κs = search needs
+
+cons-requires : tie.Need-cons-requires
+cons-requires c κs = search needs
 
 accepted-requires : tie.Need-accepted-requires
 accepted-requires c κs = search needs
@@ -72,8 +74,9 @@ accepted-requires c κs = search needs
 returns-4 : tie.Need-returns-4
 unfolding stepAnswer
 returns-4 c =
-    let k1 = c .before in
-    let k2 = k1 .before .before in
+    let k0 = c .before in
+    let k1 = k0 .before in
+    let k2 = k1 .before .before .before in
     let k3 = k2 .before in
     let k4 = k3 .before .before in
     let k5 = k4 .before in
@@ -81,7 +84,7 @@ returns-4 c =
     let k7 = k6 .before in
     let left = k2 .pass .result in
     let active = k7 .before .args .self .looping .active in
-    rw (c .accepted .ensures, k1 .reported .ensures .0, ← k7 .is-valid .ensures, not-false (k7 .is-valid .result) (k6 .if1 .left), ← k5 .is-running .ensures, not-false (k5 .is-running .result) (k4 .if2 .left), k3 .if3 .left, ← k2 .pass .ensures, left-placed (left .full) (passReported (left .passed) active) (k1 .reported .ensures .1) (k1 .reported .ensures .2))
+    rw (c .accepted .ensures, k0 .cons .ensures, k1 .behind .ensures .0, ← k7 .is-valid .ensures, not-false (k7 .is-valid .result) (k6 .if1 .left), ← k5 .is-running .ensures, not-false (k5 .is-running .result) (k4 .if2 .left), k3 .if3 .left, ← k2 .pass .ensures, left-placed (left .full) (left .passed) active (k1 .behind .ensures .1))
 
 pub step-spec : {M : Type 1} → statement M
 step-spec =
@@ -96,6 +99,7 @@ step-spec =
     refused-requires-3
     returns-3
     pass-requires
-    reported-requires
+    behind-requires
+    cons-requires
     accepted-requires
     returns-4)
