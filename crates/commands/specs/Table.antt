@@ -1,6 +1,6 @@
 -- The table of causes (document 01, "Why a call is turned away"), as statements: each number in its cause and in no
 -- other, for every call. For each kind of call the lines go through all cases of its tests, in the table's order, so
--- that no two of them meet and none is left out. 1 and 2 are as `numberCause` has them (`fields-agree` and
+-- that no two of them meet and none is left out. 1 and 2 are as `checks` has them (`fields-agree` and
 -- `invalid-agree` in `conformance`). And: no number is above 8; no answer uses more than 14 of its sixteen places, the
 -- rest being 0.
 use Prim.Native.Nat.{ℕ, _≤_}
