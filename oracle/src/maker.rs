@@ -1397,7 +1397,7 @@ impl<S: Stage> Maker<S> {
                                 break;
                             }
                             let now = self.stage.player().fields().unwrap().clock;
-                            let clock = now + recorder::wait().max(1);
+                            let clock = now.wrapping_add(recorder::wait().max(1));
                             if !say!(self, "step {clock}") {
                                 break;
                             }
