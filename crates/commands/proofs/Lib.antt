@@ -2,6 +2,6 @@ pub mod Laws
 pub mod Kept
 pub mod TaskValid
 pub mod Table
-pub mod Leaves
+pub mod Unchanged
 pub mod Built
 pub mod LoopLaws

@@ -2,4 +2,4 @@ pub mod Commands
 pub mod Answers
 pub mod Outcomes
 pub mod Table
-pub mod Leaves
+pub mod Unchanged

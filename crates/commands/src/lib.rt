@@ -65,7 +65,6 @@ ghost use Rattle.commands.specs.Outcomes.{outcomeOf, acceptedOutcome};
 fn execute(lamp: Lamp, command: Command, clock: u64) -> Outcome
     ensures { λ r. ⌜ r ≡ acceptedOutcome (commandEffect (atClock lamp clock) command) ⌝ }
 {
-    let at = lamp.at_clock(clock);
     match command {
         Command::MoveToHue {
             hue,
@@ -117,7 +116,14 @@ fn execute(lamp: Lamp, command: Command, clock: u64) -> Outcome
             direction,
             time,
             start_hue,
-        } => set_loop(at, flags, action, direction, time, start_hue),
+        } => set_loop(
+            lamp.at_clock(clock),
+            flags,
+            action,
+            direction,
+            time,
+            start_hue,
+        ),
         Command::StopMoveStep => given(lamp, Task::Stop),
     }
 }

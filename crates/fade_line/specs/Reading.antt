@@ -1,4 +1,4 @@
--- The line of `fade` (document 01), read a byte at a time. That this is the line of `Line` is shown in `LineLaws`.
+-- The line of `fade` (document 01), read a byte at a time. That this is the line of `Line` is shown in proofs/LineLaws.
 use Prim.Native.Nat.{ℕ, _+_, _-_, _*_, _^_}
 use mathlib.Core.Bool.{Bool, true, false, cond, not, _&&_, _||_}
 use mathlib.Core.List.{List, [], _∷_}

@@ -12,7 +12,7 @@ constraintError = 1
 abbrev pub invalidCommand : ℕ
 invalidCommand = 2
 
--- step of mireds with lo above hi
+-- step of mireds with lo above hi: "crossed bounds" in document 01's order of checks
 abbrev pub crossedLimits : ℕ
 crossedLimits = 3
 

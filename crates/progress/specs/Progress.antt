@@ -24,7 +24,7 @@ partOf way permille = quotZ (way *ℤ pos permille) (pos 1000)
 abbrev pub deltaAtRate : ℤ → ℕ → ℤ
 deltaAtRate rate elapsed = quotZ (rate *ℤ pos (min elapsed clockLimit)) (pos 1000)
 
--- a turn of the loop in milliseconds: "seconds × 1000, 0 seconds read as 25"
+-- a turn of the loop in milliseconds: "seconds × 1000", with "0 seconds read as 25"
 abbrev pub loopMs : ℕ → ℕ
 loopMs seconds = cond (eqb seconds 0) 25 seconds * 1000
 

@@ -10,7 +10,7 @@ use Rattle.remaining_time.specs.declared.Written.{Written}
 abbrev pub apart : ℕ → ℕ → ℕ
 apart a b = (a - b) + (b - a)
 
--- "It is reported when the new number is 0 and the old was not, when the old was 0 and the new exceeds 10, or, at a
+-- "It is told when the new number is 0 and the old was not, when the old was 0 and the new exceeds 10, or, at a
 -- transition's start only, when they differ by more than 10"
 unfoldable pub reported : ℕ → ℕ → Bool → Bool
 reported old new start =

@@ -1,4 +1,5 @@
--- A list of calls on a lamp, each given the lamp that the last one left, and what is asked of the list.
+-- A list of calls on a lamp, each given the lamp that the last one left, and what is asked of the list: demand 3
+-- (docs/DEMANDS.md), whose words are quoted here.
 use Prim.Native.Nat.{ℕ, suc, _+_}
 use mathlib.Core.Bool.{Bool, true, false, not, cond, _&&_, _||_}
 use mathlib.Core.List.{List, [], _∷_}

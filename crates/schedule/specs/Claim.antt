@@ -1,7 +1,7 @@
--- The claim about every list of commands, starts, steps and halts, refused ones too, from any valid lamp: each move to
--- a hue that is accepted and may execute gives its task and, once a start of that task is accepted, keeps its schedule.
--- One statement over a lamp and a whole list. Premises: the lamp is valid; lamp and calls are in range; the demand's
--- own.
+-- Demand 3 (docs/DEMANDS.md, whose words are quoted here). For every list of commands, starts, steps and halts, refused
+-- ones too, from any valid lamp: each move to a hue that is accepted and may execute gives its task and, once a start of
+-- that task is accepted, keeps its schedule. One statement over a lamp and a whole list. Premises: the lamp is valid;
+-- lamp and calls are in range; the demand's own.
 use Prim.Native.Nat.{ℕ, _+_, _≤_}
 use mathlib.Core.Bool.{true, cond, _||_}
 use mathlib.Core.List.{List, [], _∷_, _++_}

@@ -1,6 +1,6 @@
 -- The schedule of a fade: document 01, "Demand 3's schedule". A machine of its own. It is fed a move to a hue, the hue
--- that the command found, the lamp's bounds and its ExecuteIfOff, and from the accepted start on the calls alone; it
--- sees no lamp and no answer, and keeps its own clock and its own done.
+-- that the command found, the lamp's bounds and its ExecuteIfOff (docs/DECISIONS.md, point 12), and from the accepted
+-- start on the calls alone; it sees no lamp and no answer, and keeps its own clock and its own done.
 use Prim.Native.Nat.{ℕ, _-_, _*_, min}
 use mathlib.Core.Bool.{Bool, true, false, not, cond, _&&_, _||_}
 use mathlib.Core.List.{List, [], _∷_}

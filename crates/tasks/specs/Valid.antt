@@ -1,5 +1,5 @@
--- When a task is valid and of a running record: document 01, "Task out of form" and, in "Lamp out of form", the running
--- record. A definition here says what is valid; the comment quotes the sentence that says what is out of it.
+-- When a task and a running record are valid: document 01, "Task out of form" and, in "Lamp out of form", the running
+-- record. A definition here says what is valid; the comment quotes the sentence that says what is out of form.
 use Prim.Native.Nat.{ℕ, _%_}
 use mathlib.Core.Bool.{Bool, true, false, not, _&&_, _||_}
 use mathlib.Core.List.{[], _∷_}
@@ -59,15 +59,15 @@ unfoldable pub moveToValid : HueSaturationMoveTo → Bool
 moveToValid t =
     allTrue (timeValid (t .ms) ∷ deltaValid (t .delta) ∷ saturationValid (t .saturation) ∷ (deltaGiven (t .delta) || saturationGiven (t .saturation)) ∷ [])
 
--- "rate 0; hue rate above 65,535"; Stop
+-- not: "rate 0", "hue rate above 65,535", "Stop as a move's direction"
 unfoldable pub hueMoveValid : HueMove → Bool
 hueMoveValid t = allTrue (ltb 0 (t .rate) ∷ leb (t .rate) 65535 ∷ moves (t .direction) ∷ [])
 
--- "rate 0; saturation rate above 255"; Stop
+-- not: "rate 0", "saturation rate above 255", "Stop as a move's direction"
 unfoldable pub saturationMoveValid : SaturationMove → Bool
 saturationMoveValid t = allTrue (ltb 0 (t .rate) ∷ leb (t .rate) 255 ∷ moves (t .direction) ∷ [])
 
--- a valid task; "the Stop task itself" is out of it
+-- a valid task, not "the Stop task itself"
 unfoldable pub taskValid : Task → Bool
 taskValid (Task.HueSaturationMoveTo t) = moveToValid t
 taskValid (Task.HueMove t) = hueMoveValid t
@@ -81,7 +81,7 @@ taskValid Task.Stop = false
 abbrev pub withinBounds : Bounds → ℕ → Bool
 withinBounds bounds mireds = leb (bounds .min) mireds && leb mireds (bounds .max)
 
--- a running record at the lamp's clock and bounds: not one "whose task is invalid, whose move-to time is 0, whose
+-- a running record at the lamp's clock and bounds: not one "whose task is out of form, whose move-to time is 0, whose
 -- saved start numbers break these rules, whose clock is after the lamp's, whose lo is not below hi, or whose kept mired
 -- target, lo or hi lies outside the bounds"
 unfoldable pub runningValid : Running → Bounds → ℕ → Bool

@@ -194,7 +194,7 @@ loop direction = Command.ColorLoopSet 7 ColorLoopActionEnum.ActivateFromEnhanced
 abbrev pub upBetween : ℕ → ℕ → Command
 upBetween min max = Command.MoveColorTemperature MoveModeEnum.Up 100 min max
 
--- a lamp whose loop is active, halfway through a move of hue and saturation (`busy-runs` in Busy)
+-- a lamp whose loop is active, halfway through a move of hue and saturation (`BusyRuns` in Busy)
 abbrev pub busy : Lamp
 busy =
     next

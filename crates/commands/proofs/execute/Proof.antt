@@ -4,9 +4,6 @@ use borrow.Author.Needs.{needs}
 use Rattle.commands.proofs.execute.Statement.{statement}
 use Rattle.commands.proofs.execute.Tie as tie
 
-at-clock-requires : tie.Need-at-clock-requires
-at-clock-requires c κs = search needs
-
 enum-known-command : tie.Need-enum-known-command
 enum-known-command c = search needs
 
@@ -100,6 +97,9 @@ step-mireds-requires c κs = search needs
 enum-known-command-14 : tie.Need-enum-known-command-14
 enum-known-command-14 c = search needs
 
+at-clock-requires : tie.Need-at-clock-requires
+at-clock-requires c κs = search needs
+
 set-loop-requires : tie.Need-set-loop-requires
 set-loop-requires c κs = search needs
 
@@ -111,69 +111,68 @@ given-requires c κs = search needs
 
 returns : tie.Need-returns
 unfolding commandEffect
-returns c = simp (c .to-hue .ensures, c .before .stored-hue .ensures, c .before .before .before .command .given .1, c .before .before .before .before .before .at-clock .ensures)
+returns c = simp (c .to-hue .ensures, c .before .stored-hue .ensures, c .before .before .before .command .given .1)
 
 returns-2 : tie.Need-returns-2
 unfolding commandEffect
-returns-2 c = simp (c .move-hue .ensures, c .before .enhanced-rate .ensures, c .before .before .before .command2 .given .1, c .before .before .before .before .before .at-clock .ensures)
+returns-2 c = simp (c .move-hue .ensures, c .before .enhanced-rate .ensures, c .before .before .before .command2 .given .1)
 
 returns-3 : tie.Need-returns-3
 unfolding commandEffect
-returns-3 c = simp (c .step-hue .ensures, c .before .stored-hue2 .ensures, c .before .before .before .command3 .given .1, c .before .before .before .before .before .at-clock .ensures)
+returns-3 c = simp (c .step-hue .ensures, c .before .stored-hue2 .ensures, c .before .before .before .command3 .given .1)
 
 returns-4 : tie.Need-returns-4
 unfolding commandEffect
-returns-4 c = simp (c .to-saturation .ensures, c .before .before .command4 .given .1, c .before .before .before .before .at-clock .ensures)
+returns-4 c = simp (c .to-saturation .ensures, c .before .before .command4 .given .1)
 
 returns-5 : tie.Need-returns-5
 unfolding commandEffect
-returns-5 c = simp (c .move-saturation .ensures, c .before .before .command5 .given .1, c .before .before .before .before .at-clock .ensures)
+returns-5 c = simp (c .move-saturation .ensures, c .before .before .command5 .given .1)
 
 returns-6 : tie.Need-returns-6
 unfolding commandEffect
-returns-6 c = simp (c .step-saturation .ensures, c .before .before .command6 .given .1, c .before .before .before .before .at-clock .ensures)
+returns-6 c = simp (c .step-saturation .ensures, c .before .before .command6 .given .1)
 
 returns-7 : tie.Need-returns-7
 unfolding commandEffect
-returns-7 c = simp (c .to-both .ensures, c .before .before .command7 .given .1, c .before .before .before .before .at-clock .ensures)
+returns-7 c = simp (c .to-both .ensures, c .before .before .command7 .given .1)
 
 returns-8 : tie.Need-returns-8
 unfolding commandEffect
-returns-8 c = simp (c .to-hue2 .ensures, c .before .before .command8 .given .1, c .before .before .before .before .at-clock .ensures)
+returns-8 c = simp (c .to-hue2 .ensures, c .before .before .command8 .given .1)
 
 returns-9 : tie.Need-returns-9
 unfolding commandEffect
-returns-9 c = simp (c .move-hue2 .ensures, c .before .before .command9 .given .1, c .before .before .before .before .at-clock .ensures)
+returns-9 c = simp (c .move-hue2 .ensures, c .before .before .command9 .given .1)
 
 returns-10 : tie.Need-returns-10
 unfolding commandEffect
-returns-10 c = simp (c .step-hue2 .ensures, c .before .before .command10 .given .1, c .before .before .before .before .at-clock .ensures)
+returns-10 c = simp (c .step-hue2 .ensures, c .before .before .command10 .given .1)
 
 returns-11 : tie.Need-returns-11
 unfolding commandEffect
-returns-11 c = simp (c .to-mireds .ensures, c .before .before .command11 .given .1, c .before .before .before .before .at-clock .ensures)
+returns-11 c = simp (c .to-mireds .ensures, c .before .before .command11 .given .1)
 
 returns-12 : tie.Need-returns-12
 unfolding commandEffect
-returns-12 c = simp (c .move-mireds .ensures, c .before .before .command12 .given .1, c .before .before .before .before .at-clock .ensures)
+returns-12 c = simp (c .move-mireds .ensures, c .before .before .command12 .given .1)
 
 returns-13 : tie.Need-returns-13
 unfolding commandEffect
-returns-13 c = simp (c .step-mireds .ensures, c .before .before .command13 .given .1, c .before .before .before .before .at-clock .ensures)
+returns-13 c = simp (c .step-mireds .ensures, c .before .before .command13 .given .1)
 
 returns-14 : tie.Need-returns-14
 unfolding commandEffect
-returns-14 c = simp (c .set-loop .ensures, c .before .before .command14 .given .1, c .before .before .before .before .at-clock .ensures)
+returns-14 c = simp (c .set-loop .ensures, c .before .at-clock .ensures, c .before .before .before .command14 .given .1)
 
 returns-15 : tie.Need-returns-15
 unfolding commandEffect
-returns-15 c = simp (c .given .ensures, c .before .enum-told .given .1, c .before .before .before .at-clock .ensures)
+returns-15 c = simp (c .given .ensures, c .before .enum-told .given .1)
 
 pub execute-spec : {M : Type 1} → statement M
 execute-spec =
     tie.close
     (tie.spec
-    at-clock-requires
     enum-known-command
     stored-hue-requires
     to-hue-requires
@@ -205,6 +204,7 @@ execute-spec =
     enum-known-command-13
     step-mireds-requires
     enum-known-command-14
+    at-clock-requires
     set-loop-requires
     enum-told
     given-requires

@@ -43,7 +43,7 @@ movesTo (Running.ColorTemperatureMoveTo run) = true
 movesTo (Running.ColorTemperatureMove run) = false
 movesTo (Running.ColorLoop direction hue seconds start) = false
 
-pub record Leaves (l : Lamp) : Type 0 where
+pub record Unchanged (l : Lamp) : Type 0 where
   -- "the lamp is then what it was and the notice list is empty"; "A refusal has no task and wait 0"
   pub refusal : (x : Call) → (cause l x ≡ 0 → ⊥) → answer l x ≡ bare (cause l x) l
   -- "halt, which only makes the lamp idle"

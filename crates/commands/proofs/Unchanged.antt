@@ -17,7 +17,7 @@ use Rattle.lamp.specs.Passes.{Effect, huePass, saturationPass, temperaturePass,
 use Rattle.lamp.specs.declared.Call.{Call}
 use Rattle.lamp.proofs.InRangeKept.{started-any, stepped-any}
 use Rattle.commands.specs.Answers.{cause, answer, granted}
-use Rattle.commands.specs.Leaves.{bare, isMoveTo, movesTo, Leaves}
+use Rattle.commands.specs.Unchanged.{bare, isMoveTo, movesTo, Unchanged}
 use Rattle.commands.proofs.Kept.{answer-both, refused-same, done-any, bounds-kept, options-kept}
 
 -- a start but a move-to's leaves the remaining time
@@ -49,9 +49,9 @@ module _ (l : Lamp) where
   lamp-both : (P : Lamp → Type 0) (x : Call) → P (granted l x .lamp) → P l → P (answer l x .lamp)
   lamp-both P x h k = answer-both l (λ a. P (a .lamp)) x (λ e. h) (λ n. k)
 
-  pub leaves : Leaves l
+  pub unchanged : Unchanged l
   unfolding filled
-  leaves =
+  unchanged =
       record {
         refusal = refused-same l;
         halting = λ clock z. answer-both l (λ a. a ≡ granted l (Call.Halt clock)) (Call.Halt clock) (λ e. refl) (λ n. absurd (n z));
