@@ -58,7 +58,6 @@ use temperatures::to_mireds;
 
 /// What a command does that may execute and is in no Stop mode.
 fn execute(lamp: Lamp, command: Command, clock: u64) -> Outcome {
-    let at = lamp.at_clock(clock);
     match command {
         Command::MoveToHue {
             hue,
@@ -110,7 +109,14 @@ fn execute(lamp: Lamp, command: Command, clock: u64) -> Outcome {
             direction,
             time,
             start_hue,
-        } => set_loop(at, flags, action, direction, time, start_hue),
+        } => set_loop(
+            lamp.at_clock(clock),
+            flags,
+            action,
+            direction,
+            time,
+            start_hue,
+        ),
         Command::StopMoveStep => given(lamp, Task::Stop),
     }
 }
