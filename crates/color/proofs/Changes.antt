@@ -43,7 +43,7 @@ module _ (a : Attribute) (c : Color) (new clock : ℕ) (active : Bool) (after : 
   by : (t end d : Bool) → eqb (a .number c) new ≡ t → leb (a .stamp c + 1000) clock ≡ d →
       Changes a c new end clock active
       (cond (t && not end) c (after (cond (end || d) clock (a .stamp c))))
-      (cond (t && not end) [] (changeNotices active (end || d) (a .notices)))
+      (cond (t && not end) [] (changeNotices active (cond (t && not end) false (end || d)) (a .notices)))
   by t true d e f = rw and-false (changed true true (λ h. absurd (true≢false h)) (λ h. refl) (λ h. refl) (λ h. absurd (true≢false h)))
   by true false d e f =
       let same : a .number c ≡ new = eqb-true _ _ e in
@@ -61,7 +61,7 @@ module _ (a : Attribute) (c : Color) (new clock : ℕ) (active : Bool) (after : 
   follows : (end : Bool) →
       Changes a c new end clock active
       (cond (same (a .number c) new end) c (after (cond (due end (a .stamp c) clock) clock (a .stamp c))))
-      (cond (same (a .number c) new end) [] (changeNotices active (due end (a .stamp c) clock) (a .notices)))
+      (cond (same (a .number c) new end) [] (changeNotices active (cond (same (a .number c) new end) false (due end (a .stamp c) clock)) (a .notices)))
   follows end = by (eqb (a .number c) new) end (leb (a .stamp c + 1000) clock) refl refl
 
 -- ---- the three setters
@@ -79,13 +79,13 @@ kept-emode EnhancedColorModeEnum.EnhancedCurrentHueAndCurrentSaturation = (λ e.
 module _ (c : Color) (new : ℕ) (end : Bool) (clock : ℕ) (active : Bool) where
   hue-changes : (enhanced : Bool) →
       Changes (hueAttribute enhanced) c new end clock active (hueSet c new end enhanced clock) (hueReported c new end enhanced clock active)
-  unfolding hueSet hueReported
+  unfolding hueSet
   hue-changes enhanced =
       follows (hueAttribute enhanced) c new clock active _
       (record { number = λ s. refl; mode = λ s. refl; emode = λ s. hue-emode enhanced (c .emode); stamp = λ s. refl; rest = λ s. refl }) end
 
   pub setters-change : SettersChange c new end clock active
-  unfolding saturationSet saturationReported miredsSet miredsReported
+  unfolding saturationSet miredsSet
   setters-change =
       record {
         hue = hue-changes;

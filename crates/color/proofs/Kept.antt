@@ -13,13 +13,12 @@ use Rattle.matter.specs.declared.enums.EnhancedColorModeEnum.{EnhancedColorMode
 use Rattle.matter.proofs.Laws.{cond-both, leb-later, each, all-of}
 use Rattle.matter.specs.Limits.{saturationLimit}
 use Rattle.matter.specs.InRange.{Short}
-use Rattle.notices.proofs.Laws.{only-one}
-use Rattle.notices.specs.Names.{CurrentHue, EnhancedCurrentHue, CurrentSaturation, ColorTemperatureMireds}
+use Rattle.notices.specs.Names.{EnhancedCurrentHue}
 use Rattle.notices.specs.Notices.{only}
 use Rattle.color.specs.declared.Change.{Change}
 use Rattle.color.specs.declared.Color.{Color}
 use Rattle.color.specs.Valid.{modesAgree, colorValid}
-use Rattle.color.specs.Setters.{due, changeNotices, changeReported, same, hueMode, keptHueMode, hueSet, hueReported, saturationSet, saturationReported, miredsSet, miredsReported}
+use Rattle.color.specs.Setters.{due, changeNotices, changeReported, same, hueMode, keptHueMode, hueSet, saturationSet, miredsSet}
 
 -- ---- validity lasts
 
@@ -127,26 +126,8 @@ reported-few false true false xs = omega arith
 reported-few false false true xs = simp length-append (omega arith)
 reported-few false false false xs = omega arith
 
--- a change reports at most six
-pub change-few : (change : Change) (active : Bool) → length (changeReported change active) ≤ 6
+-- a change reports at most five, and one more where it is of an enhanced hue
+pub change-few : (change : Change) (active : Bool) → length (changeReported change active) ≤ 5 + length (only (change .enhanced) EnhancedCurrentHue)
 change-few change active =
     omega
-    (arith, only-one (change .enhanced) EnhancedCurrentHue, reported-few (change .same) active (change .due) (change .attribute ∷ only (change .enhanced) EnhancedCurrentHue))
-
-module _ (c : Color) (new : ℕ) (end : Bool) (clock : ℕ) (active : Bool) where
-  -- `set_hue` reports at most six
-  pub hue-few : (enhanced : Bool) → length (hueReported c new end enhanced clock active) ≤ 6
-  unfolding hueReported
-  hue-few enhanced =
-      omega
-      (arith, only-one enhanced EnhancedCurrentHue, reported-few (same (c .hue) new end) active (due end (c .stamps .hue) clock) (CurrentHue ∷ only enhanced EnhancedCurrentHue))
-
-  -- `set_saturation` reports at most five
-  pub saturation-few : length (saturationReported c new end clock active) ≤ 5
-  unfolding saturationReported
-  saturation-few = reported-few (same (c .saturation) new end) active (due end (c .stamps .saturation) clock) (CurrentSaturation ∷ [])
-
-  -- `set_color_temperature` reports at most five
-  pub mireds-few : length (miredsReported c new end clock active) ≤ 5
-  unfolding miredsReported
-  mireds-few = reported-few (same (c .mireds) new end) active (due end (c .stamps .mireds) clock) (ColorTemperatureMireds ∷ [])
+    (arith, reported-few (change .same) active (change .due) (change .attribute ∷ only (change .enhanced) EnhancedCurrentHue))

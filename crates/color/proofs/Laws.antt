@@ -9,11 +9,10 @@ use borrow.Author.Tests.{leb-true, leb-false, le-leb, lt-leb}
 use Rattle.notices.specs.declared.Numeral.{Numeral}
 use Rattle.notices.specs.Notices.{only}
 use Rattle.notices.specs.Numerals.{consed, inFront}
-use Rattle.notices.specs.Names.{CurrentHue, EnhancedCurrentHue, CurrentSaturation, ColorTemperatureMireds, ColorMode, EnhancedColorMode, markedDirty}
+use Rattle.notices.specs.Names.{EnhancedCurrentHue, ColorMode, EnhancedColorMode, markedDirty}
 use Rattle.notices.proofs.Numerals.{Bytes, none, more, bytes-append, bytes-only}
 use Rattle.color.specs.declared.Change.{Change}
-use Rattle.color.specs.declared.Color.{Color}
-use Rattle.color.specs.Setters.{same, changeNotices, changeReported, changeOf, hueChange, hueReported, saturationChange, saturationReported, miredsChange, miredsReported}
+use Rattle.color.specs.Setters.{changeNotices, changeReported}
 
 -- a second or more from the stamp to the clock, by the difference or by the sum
 by : (stamp clock : ℕ) (b : Bool) → stamp ≤ clock → leb 1000 (clock - stamp) ≡ b → leb (stamp + 1000) clock ≡ b
@@ -49,26 +48,6 @@ notices-bytes : (t d active enhanced : Bool) (attribute : ℕ) → attribute < 2
 notices-bytes true d active enhanced attribute h = none
 notices-bytes false d active enhanced attribute h =
     bytes-append (bytes-only (not active) markedDirty (omega arith)) (bytes-append (due-bytes d enhanced attribute h) (more (omega arith) none))
-
--- what a setter's change reports is what the setter reports
-same-quiet : (t d active enhanced : Bool) (attribute : ℕ) →
-    changeReported (changeOf t d attribute enhanced) active
-    ≡ cond t [] (changeNotices active d (attribute ∷ only enhanced EnhancedCurrentHue))
-same-quiet true d active enhanced attribute = refl
-same-quiet false d active enhanced attribute = refl
-
-module _ (c : Color) (new : ℕ) (end : Bool) (clock : ℕ) (active : Bool) where
-  pub hue-change-reported : (enhanced : Bool) → changeReported (hueChange c new end enhanced clock) active ≡ hueReported c new end enhanced clock active
-  unfolding hueReported
-  hue-change-reported enhanced = same-quiet (same (c .hue) new end) _ active enhanced CurrentHue
-
-  pub saturation-change-reported : changeReported (saturationChange c new end clock) active ≡ saturationReported c new end clock active
-  unfolding saturationReported
-  saturation-change-reported = same-quiet (same (c .saturation) new end) _ active false CurrentSaturation
-
-  pub mireds-change-reported : changeReported (miredsChange c new end clock) active ≡ miredsReported c new end clock active
-  unfolding miredsReported
-  mireds-change-reported = same-quiet (same (c .mireds) new end) _ active false ColorTemperatureMireds
 
 -- a change's notices are bytes
 pub change-bytes : (change : Change) (active : Bool) → change .attribute < 256 → Bytes (changeReported change active)

@@ -9,6 +9,7 @@ use Rattle.notices.specs.Notices.{only}
 use Rattle.notices.specs.Names.{CurrentHue, EnhancedCurrentHue, CurrentSaturation, ColorTemperatureMireds, ColorMode, EnhancedColorMode, markedDirty, scenesNotified}
 use Rattle.color.specs.declared.Color.{Color}
 use Rattle.color.specs.declared.Change.{Change}
+use Rattle.color.specs.declared.ColorSet.{ColorSet}
 
 -- "notices of the attribute and of both modes come at an end, or one second or more after its last"
 abbrev pub due : Bool → ℕ → ℕ → Bool
@@ -76,11 +77,14 @@ abbrev pub hueChange : Color → ℕ → Bool → Bool → ℕ → Change
 hueChange c new end enhanced clock =
     changeOf (same (c .hue) new end) (due end (c .stamps .hue) clock) CurrentHue enhanced
 
--- and what it reports, with the loop active or not
-unfoldable pub hueReported : Color → ℕ → Bool → Bool → ℕ → Bool → List ℕ
-hueReported c new end enhanced clock active =
-    cond (same (c .hue) new end) []
-    (changeNotices active (due end (c .stamps .hue) clock) (CurrentHue ∷ only enhanced EnhancedCurrentHue))
+-- both, as `set_hue` answers them
+abbrev pub setHue : Color → ℕ → Bool → Bool → ℕ → ColorSet
+setHue c new end enhanced clock =
+    record { color = hueSet c new end enhanced clock; change = hueChange c new end enhanced clock }
+
+-- what the change reports, with the loop active or not
+abbrev pub hueReported : Color → ℕ → Bool → Bool → ℕ → Bool → List ℕ
+hueReported c new end enhanced clock active = changeReported (hueChange c new end enhanced clock) active
 
 -- `set_saturation` at this clock: the colour after it
 unfoldable pub saturationSet : Color → ℕ → Bool → ℕ → Color
@@ -105,11 +109,14 @@ abbrev pub saturationChange : Color → ℕ → Bool → ℕ → Change
 saturationChange c new end clock =
     changeOf (same (c .saturation) new end) (due end (c .stamps .saturation) clock) CurrentSaturation false
 
--- and what it reports
-unfoldable pub saturationReported : Color → ℕ → Bool → ℕ → Bool → List ℕ
-saturationReported c new end clock active =
-    cond (same (c .saturation) new end) []
-    (changeNotices active (due end (c .stamps .saturation) clock) (CurrentSaturation ∷ []))
+-- both, as `set_saturation` answers them
+abbrev pub setSaturation : Color → ℕ → Bool → ℕ → ColorSet
+setSaturation c new end clock =
+    record { color = saturationSet c new end clock; change = saturationChange c new end clock }
+
+-- what it reports
+abbrev pub saturationReported : Color → ℕ → Bool → ℕ → Bool → List ℕ
+saturationReported c new end clock active = changeReported (saturationChange c new end clock) active
 
 -- `set_color_temperature` at this clock: the colour after it
 unfoldable pub miredsSet : Color → ℕ → Bool → ℕ → Color
@@ -134,8 +141,11 @@ abbrev pub miredsChange : Color → ℕ → Bool → ℕ → Change
 miredsChange c new end clock =
     changeOf (same (c .mireds) new end) (due end (c .stamps .mireds) clock) ColorTemperatureMireds false
 
--- and what it reports
-unfoldable pub miredsReported : Color → ℕ → Bool → ℕ → Bool → List ℕ
-miredsReported c new end clock active =
-    cond (same (c .mireds) new end) []
-    (changeNotices active (due end (c .stamps .mireds) clock) (ColorTemperatureMireds ∷ []))
+-- both, as `set_color_temperature` answers them
+abbrev pub setMireds : Color → ℕ → Bool → ℕ → ColorSet
+setMireds c new end clock =
+    record { color = miredsSet c new end clock; change = miredsChange c new end clock }
+
+-- what it reports
+abbrev pub miredsReported : Color → ℕ → Bool → ℕ → Bool → List ℕ
+miredsReported c new end clock active = changeReported (miredsChange c new end clock) active

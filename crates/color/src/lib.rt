@@ -11,7 +11,7 @@ use progress::clamped_sum;
 ghost use mathlib.Core.Path.{_≡_};
 ghost use mathlib.Core.Bool.{cond};
 ghost use Rattle.notices.specs.Numerals.{inFront};
-ghost use Rattle.color.specs.Setters.{due, changeReported, hueMode, keptHueMode, hueSet, saturationSet, miredsSet, noChange, hueChange, saturationChange, miredsChange};
+ghost use Rattle.color.specs.Setters.{due, changeReported, hueMode, keptHueMode, noChange, setHue, setSaturation, setMireds};
 ghost use Rattle.color.specs.Valid.{modesAgree, colorValid};
 ghost use Rattle.color.specs.Making.{newColor};
 
@@ -157,7 +157,7 @@ impl Color {
 
     // Sets the hue, and reports it as plain or enhanced.
     pub fn set_hue(self, new_eh: u16, is_end: bool, is_enhanced: bool, clock: u64) -> ColorSet
-        ensures { λ r. ⌜ r ≡ record { color = hueSet self «new_eh» «is_end» «is_enhanced» clock; change = hueChange self «new_eh» «is_end» «is_enhanced» clock } ⌝ }
+        ensures { λ r. ⌜ r ≡ setHue self «new_eh» «is_end» «is_enhanced» clock ⌝ }
     {
         if (self.hue == new_eh) & !is_end {
             return ColorSet {
@@ -196,7 +196,7 @@ impl Color {
 
     // Sets the saturation.
     pub fn set_saturation(self, new_sat: u8, is_end: bool, clock: u64) -> ColorSet
-        ensures { λ r. ⌜ r ≡ record { color = saturationSet self «new_sat» «is_end» clock; change = saturationChange self «new_sat» «is_end» clock } ⌝ }
+        ensures { λ r. ⌜ r ≡ setSaturation self «new_sat» «is_end» clock ⌝ }
     {
         if (self.saturation == new_sat) & !is_end {
             return ColorSet {
@@ -236,7 +236,7 @@ impl Color {
 
     // Sets the mireds.
     pub fn set_color_temperature(self, new_mireds: u16, is_end: bool, clock: u64) -> ColorSet
-        ensures { λ r. ⌜ r ≡ record { color = miredsSet self «new_mireds» «is_end» clock; change = miredsChange self «new_mireds» «is_end» clock } ⌝ }
+        ensures { λ r. ⌜ r ≡ setMireds self «new_mireds» «is_end» clock ⌝ }
     {
         if (self.mireds == new_mireds) & !is_end {
             return ColorSet {
