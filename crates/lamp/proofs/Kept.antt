@@ -2,9 +2,7 @@
 -- A start or step reports few notices.
 use Prim.Native.Nat.{ℕ, zero, suc, _-_, _≤_, _<_, zero-le}
 use mathlib.Core.Bool.{Bool, true, false, cond, not, _||_, true≢false}
-use mathlib.Core.List.{List, _++_}
-use mathlib.Core.Path.{_≡_, refl, sym}
-use native.Mathlib.Nat.{le-refl, le-trans, add-le-add}
+use mathlib.Core.Path.{_≡_, refl, sym, ap}
 use native.Mathlib.Omega.{arith}
 use lib.Dec.{leb, ltb, eqb}
 use lib.IntN.{pos}
@@ -15,12 +13,13 @@ use Rattle.matter.proofs.Laws.{and-left, and-right, cond-both, leb-later, each,
 use Rattle.matter.specs.Limits.{clockLimit, saturationLimit}
 use Rattle.notices.proofs.Laws.{only-one}
 use Rattle.notices.specs.Notices.{only}
-use Rattle.notices.specs.Names.{RemainingTime}
+use Rattle.notices.specs.Names.{RemainingTime, EnhancedCurrentHue}
+use Rattle.remaining_time.specs.declared.RemainingTime.{RemainingTime as Remaining}
 use Rattle.progress.proofs.Laws.{clamp-within}
-use Rattle.progress.specs.Progress.{deltaAtRate, clamp, clampedSum}
+use Rattle.progress.specs.Progress.{permilleOf, deltaAtRate, clamp, clampedSum}
 use Rattle.color.specs.declared.Color.{Color}
 use Rattle.color.specs.Valid.{colorValid}
-use Rattle.color.proofs.Kept.{color-later, valid-saturation, valid-above, valid-below, hue-kept, saturation-kept, mireds-kept, hue-few, saturation-few, mireds-few}
+use Rattle.color.proofs.Kept.{color-later, valid-saturation, valid-above, valid-below, hue-kept, saturation-kept, mireds-kept}
 use Rattle.tasks.specs.declared.HueDelta.{HueDelta}
 use Rattle.tasks.specs.declared.TargetSaturation.{TargetSaturation}
 use Rattle.tasks.specs.declared.HueSaturationMoveTo.{HueSaturationMoveTo}
@@ -43,7 +42,9 @@ use Rattle.matter.specs.Bounds.{lower, upper}
 use Rattle.lamp.specs.Calls.{fullWritten, startPermille, hueSaturationStart, temperatureToStart, temperatureStart, started, stepped, choose, startCause, stepCause, startAnswer, stepAnswer, haltAnswer}
 use Rattle.lamp.specs.Valid.{lampValid}
 use Rattle.matter.specs.Rules.{signed}
-use Rattle.lamp.specs.Passes.{Effect, unless, atEnd, saturationDone, miredsDone, hueMoved, hueMovedReported, saturationMoved, saturationMovedReported, leftWritten, miredsNow, hueSaturationPass, temperatureToPass, huePass, saturationPass, temperaturePass, loopPass}
+use Rattle.lamp.specs.declared.passes.Passed.{Passed}
+use Rattle.lamp.proofs.Passed.{pass-few}
+use Rattle.lamp.specs.Passes.{Effect, unless, foundWith, foundIn, leftBy, leftEffect, idled, hueSaturationPassed, temperatureToPassed, atEnd, saturationDone, miredsDone, hueMoved, saturationMoved, miredsNow, huePass, saturationPass, temperaturePass, loopPass, huePassed, hueSaturationMoved, loopPassed, saturationPassed, temperaturePassed, temperatureToMoved, timed}
 
 -- ---- the parts of validity
 
@@ -112,28 +113,28 @@ module _ (l : Lamp) (timely : l .clock ≤ clockLimit) (validity : colorValid (l
   unless-valid end r h = cond-both (λ s. runningValid s (l .bounds) (l .clock) ≡ true) end _ r (λ e. refl) h
 
   -- the hue's part of a move-to
-  hue-part : (d : HueDelta) (start permille : ℕ) (enhanced : Bool) → colorValid (hueMoved (l .color) d start permille enhanced (l .clock)) (l .bounds) (l .clock) ≡ true
+  hue-part : (d : HueDelta) (start permille : ℕ) (enhanced : Bool) → colorValid (hueMoved (l .color) d start permille enhanced (l .clock) .color) (l .bounds) (l .clock) ≡ true
   hue-part HueDelta.Keep start permille enhanced = validity
   hue-part (HueDelta.By way) start permille enhanced = hue-kept (l .color) (l .bounds) (l .clock) validity _ (atEnd permille) enhanced
 
   -- the saturation's, on a valid colour
-  saturation-part : (c : Color) (t : TargetSaturation) (start permille : ℕ) → colorValid c (l .bounds) (l .clock) ≡ true → saturationValid t ≡ true → colorValid (saturationMoved c t start permille (l .clock)) (l .bounds) (l .clock) ≡ true
+  saturation-part : (c : Color) (t : TargetSaturation) (start permille : ℕ) → colorValid c (l .bounds) (l .clock) ≡ true → saturationValid t ≡ true → colorValid (saturationMoved c t start permille (l .clock) .color) (l .bounds) (l .clock) ≡ true
   saturation-part c TargetSaturation.Keep start permille e h = e
   saturation-part c (TargetSaturation.To target) start permille e h =
       saturation-kept c (l .bounds) (l .clock) e _ (atEnd permille)
       (cond-both (λ n. n ≤ saturationLimit) (atEnd permille) target _ (λ t. leb-true _ _ h) (λ t. clamp-within 0 saturationLimit _ (omega arith) .1))
 
   -- a pass of a move-to, whose record is valid unless it ends
-  pub hue-saturation-pass : (run : HueSaturationRun) (permille : ℕ) → saturationValid (run .task .saturation) ≡ true → (atEnd permille ≡ false → runningValid (Running.HueSaturationMoveTo run) (l .bounds) (l .clock) ≡ true) → lampValid (hueSaturationPass l run permille .lamp) ≡ true
-  unfolding hueSaturationPass
-  hue-saturation-pass run permille h r =
+  hue-saturation-pass : (t : Remaining) (run : HueSaturationRun) (permille : ℕ) → saturationValid (run .task .saturation) ≡ true → (atEnd permille ≡ false → runningValid (Running.HueSaturationMoveTo run) (l .bounds) (l .clock) ≡ true) → lampValid (leftEffect l (leftBy false (hueSaturationPassed (foundWith l t) run permille) (Running.HueSaturationMoveTo run)) .lamp) ≡ true
+  unfolding hueSaturationMoved timed
+  hue-saturation-pass t run permille h r =
       valid-of _ timely (saturation-part _ (run .task .saturation) (run .saturation) permille (hue-part (run .task .delta) (run .hue) permille (run .task .enhanced)) h)
       (unless-valid (atEnd permille) _ r)
 
   -- a pass of a move-to in mireds, likewise
-  pub temperature-to-pass : (run : ColorTemperatureToRun) (permille : ℕ) → withinBounds (l .bounds) (run .task .target) ≡ true → (atEnd permille ≡ false → runningValid (Running.ColorTemperatureMoveTo run) (l .bounds) (l .clock) ≡ true) → lampValid (temperatureToPass l run permille .lamp) ≡ true
-  unfolding temperatureToPass
-  temperature-to-pass run permille h r =
+  temperature-to-pass : (t : Remaining) (run : ColorTemperatureToRun) (permille : ℕ) → withinBounds (l .bounds) (run .task .target) ≡ true → (atEnd permille ≡ false → runningValid (Running.ColorTemperatureMoveTo run) (l .bounds) (l .clock) ≡ true) → lampValid (leftEffect l (leftBy false (temperatureToPassed (foundWith l t) run permille) (Running.ColorTemperatureMoveTo run)) .lamp) ≡ true
+  unfolding temperatureToMoved timed
+  temperature-to-pass t run permille h r =
       let target : (l .bounds .min ≤ run .task .target) × (run .task .target ≤ l .bounds .max) = within (l .bounds) (run .task .target) h in
       let now : (l .bounds .min ≤ miredsNow (l .bounds) (run .mireds) (run .task .target) permille) × (miredsNow (l .bounds) (run .mireds) (run .task .target) permille ≤ l .bounds .max) =
       cond-both (λ n. (l .bounds .min ≤ n) × (n ≤ l .bounds .max)) (atEnd permille) _ _ (λ t. target) (λ t. clamp-within _ _ _ (omega arith))
@@ -142,12 +143,12 @@ module _ (l : Lamp) (timely : l .clock ≤ clockLimit) (validity : colorValid (l
 
   -- a pass of a hue move
   pub hue-pass : (run : HueRun) → runningValid (Running.HueMove run) (l .bounds) (l .clock) ≡ true → lampValid (huePass l run .lamp) ≡ true
-  unfolding huePass
+  unfolding huePassed
   hue-pass run r = valid-of _ timely (hue-kept _ _ _ validity _ false (run .task .enhanced)) r
 
   -- a pass of a saturation move
   pub saturation-pass : (run : SaturationRun) → runningValid (Running.SaturationMove run) (l .bounds) (l .clock) ≡ true → lampValid (saturationPass l run .lamp) ≡ true
-  unfolding saturationPass
+  unfolding saturationPassed
   saturation-pass run r =
       let now : ℕ = clampedSum 0 saturationLimit (run .saturation) (deltaAtRate (signed (run .task .direction) (run .task .rate)) (l .clock - run .start)) in
       let end : Bool = saturationDone (run .task .direction) now in
@@ -155,7 +156,7 @@ module _ (l : Lamp) (timely : l .clock ≤ clockLimit) (validity : colorValid (l
 
   -- a pass of a temperature move
   pub temperature-pass : (run : ColorTemperatureRun) → runningValid (Running.ColorTemperatureMove run) (l .bounds) (l .clock) ≡ true → lampValid (temperaturePass l run .lamp) ≡ true
-  unfolding temperaturePass runningValid
+  unfolding temperaturePassed runningValid
   temperature-pass run r =
       let (t, (m, (o, (p, (q, (z, tt)))))) = each _ r in
       let now : ℕ = clampedSum (run .lo) (run .hi) (run .mireds) (deltaAtRate (run .rate) (l .clock - run .start)) in
@@ -165,8 +166,13 @@ module _ (l : Lamp) (timely : l .clock ≤ clockLimit) (validity : colorValid (l
 
   -- a pass of the colour loop
   pub loop-pass : (run : ColorLoopRun) → runningValid (loopRunning run) (l .bounds) (l .clock) ≡ true → lampValid (loopPass l run .lamp) ≡ true
-  unfolding loopPass
+  unfolding loopPassed
   loop-pass run r = valid-of _ timely (hue-kept _ _ _ validity _ false true) r
+
+-- made idle, a lamp stays valid
+idled-valid : (l : Lamp) → lampValid l ≡ true → lampValid (idled l .lamp) ≡ true
+unfolding runningValid
+idled-valid l h = valid-of _ (valid-clock l h) (valid-color l h) refl
 
 -- ---- a start keeps validity
 
@@ -177,21 +183,21 @@ takes-time (suc n) noDelta e = lt-ltb 0 (suc n) (omega arith)
 
 module _ (l : Lamp) (validity : lampValid l ≡ true) where
   -- a start of a move-to
-  move-to-start : (task : HueSaturationMoveTo) → moveToValid task ≡ true → lampValid (hueSaturationStart l task .lamp) ≡ true
+  move-to-start : (task : HueSaturationMoveTo) → moveToValid task ≡ true → lampValid (leftEffect l (hueSaturationStart l task) .lamp) ≡ true
   unfolding hueSaturationStart moveToValid runningValid
   move-to-start task e =
-      hue-saturation-pass _ (valid-clock l validity) (valid-color l validity) _ _ (each _ e .1 .1 .0)
+      hue-saturation-pass l (valid-clock l validity) (valid-color l validity) _ _ _ (each _ e .1 .1 .0)
       (λ t. all-of _ (e, (takes-time (task .ms) _ t, (le-leb _ _ (valid-saturation _ _ _ (valid-color l validity)), (le-leb (l .clock) _ (omega arith), tt)))))
 
   -- of one in mireds
-  temperature-to-start : (task : ColorTemperatureMoveTo) → timeValid (task .ms) ≡ true → lampValid (temperatureToStart l task .lamp) ≡ true
+  temperature-to-start : (task : ColorTemperatureMoveTo) → timeValid (task .ms) ≡ true → lampValid (leftEffect l (temperatureToStart l task) .lamp) ≡ true
   unfolding temperatureToStart runningValid
   temperature-to-start task e =
       let c : colorValid (l .color) (l .bounds) (l .clock) ≡ true = valid-color l validity in
       let found : (l .bounds .min ≤ l .color .mireds) × (l .color .mireds ≤ l .bounds .max) = (valid-above _ _ _ c, valid-below _ _ _ c) in
       let target : _ = clamp-within (l .bounds .min) (l .bounds .max) (pos (task .target)) (omega arith) in
       let to : withinBounds (l .bounds) (clamp (l .bounds .min) (l .bounds .max) (pos (task .target))) ≡ true = is-within _ _ (target .0) (target .1) in
-      temperature-to-pass _ (valid-clock l validity) c _ _ to
+      temperature-to-pass l (valid-clock l validity) c _ _ _ to
       (λ t. all-of _ (e, (takes-time (task .ms) _ t, (is-within _ _ (found .0) (found .1), (to, (le-leb (l .clock) _ (omega arith), tt))))))
 
   -- of a temperature move
@@ -202,7 +208,7 @@ module _ (l : Lamp) (validity : lampValid l ≡ true) where
       let low : ℕ = lower (l .bounds) (task .min) in
       let high : ℕ = upper (l .bounds) (task .max) in
       cond-both (λ (f : Effect). lampValid (f .lamp) ≡ true) (leb high low) _ _
-      (λ t. valid-of _ (valid-clock l validity) c refl)
+      (λ t. idled-valid l validity)
       (λ t.
       let apart : low < high = leb-false high low t in
       temperature-pass l (valid-clock l validity) c _
@@ -221,20 +227,20 @@ module _ (l : Lamp) (validity : lampValid l ≡ true) where
   started-valid (Task.ColorTemperatureMoveTo task) e = temperature-to-start task e
   started-valid (Task.ColorTemperatureMove task) e = temperature-start task e
   started-valid (Task.ColorLoop task) e = loop-pass l (valid-clock l validity) (valid-color l validity) _ (le-leb (l .clock) _ (omega arith))
-  started-valid Task.Stop e = validity
+  started-valid Task.Stop e = idled-valid l validity
 
 -- ---- a step keeps validity
 
 -- whatever record it is given, if that is valid
 step-of : (l : Lamp) (r : Running) → lampValid l ≡ true → runningValid r (l .bounds) (l .clock) ≡ true → lampValid (stepped l r .lamp) ≡ true
 unfolding stepped runningValid moveToValid
-step-of l Running.Idle h e = h
+step-of l Running.Idle h e = idled-valid l h
 step-of l (Running.HueSaturationMoveTo run) h e =
-    hue-saturation-pass l (valid-clock l h) (valid-color l h) run _ (each _ (each _ e .0) .1 .1 .0) (λ t. e)
+    hue-saturation-pass l (valid-clock l h) (valid-color l h) _ run _ (each _ (each _ e .0) .1 .1 .0) (λ t. e)
 step-of l (Running.HueMove run) h e = hue-pass l (valid-clock l h) (valid-color l h) run e
 step-of l (Running.SaturationMove run) h e = saturation-pass l (valid-clock l h) (valid-color l h) run e
 step-of l (Running.ColorTemperatureMoveTo run) h e =
-    temperature-to-pass l (valid-clock l h) (valid-color l h) run _ (each _ e .1 .1 .1 .0) (λ t. e)
+    temperature-to-pass l (valid-clock l h) (valid-color l h) _ run _ (each _ e .1 .1 .1 .0) (λ t. e)
 step-of l (Running.ColorTemperatureMove run) h e = temperature-pass l (valid-clock l h) (valid-color l h) run e
 step-of l (Running.ColorLoop direction hue seconds start) h e =
     loop-pass l (valid-clock l h) (valid-color l h) (loopRun direction hue seconds start) e
@@ -314,86 +320,48 @@ module _ (l : Lamp) (clock : ℕ) (validity : lampValid l ≡ true) where
 
   -- a halt's
   pub halt-valid : lampValid (haltAnswer l clock .lamp) ≡ true
-  unfolding haltAnswer runningValid
+  unfolding haltAnswer
   halt-valid =
       choose-both (λ a. lampValid (a .lamp) ≡ true) (firstCause l clock) l _
-      (λ e. let h : lampValid (atClock l clock) ≡ true = ready l clock e in valid-of _ (valid-clock _ h) (valid-color _ h) refl)
+      (λ e. idled-valid (atClock l clock) (ready l clock e))
       (λ e. validity)
 
 -- ---- a start or step reports few
 
--- the hue's part of a move-to reports at most six
-hue-part-few : (c : Color) (d : HueDelta) (start permille : ℕ) (enhanced : Bool) (clock : ℕ) (active : Bool) → length (hueMovedReported c d start permille enhanced clock active) ≤ 6
-hue-part-few c HueDelta.Keep start permille enhanced clock active = omega arith
-hue-part-few c (HueDelta.By way) start permille enhanced clock active = hue-few c _ (atEnd permille) clock active enhanced
-
--- the saturation's at most five
-saturation-part-few : (c : Color) (t : TargetSaturation) (start permille clock : ℕ) (active : Bool) → length (saturationMovedReported c t start permille clock active) ≤ 5
-saturation-part-few c TargetSaturation.Keep start permille clock active = omega arith
-saturation-part-few c (TargetSaturation.To target) start permille clock active = saturation-few c _ (atEnd permille) clock active
+-- the saturation of a move-to is no enhanced hue
+saturation-plain : (c : Color) (t : TargetSaturation) (start permille clock : ℕ) → saturationMoved c t start permille clock .change .enhanced ≡ false
+saturation-plain c TargetSaturation.Keep start permille clock = refl
+saturation-plain c (TargetSaturation.To target) start permille clock = refl
 
 module _ (l : Lamp) where
-  -- a pass of a move-to reports at most 13
-  hue-saturation-few : (run : HueSaturationRun) (permille : ℕ) → length (hueSaturationPass l run permille .reported) ≤ 13
-  unfolding hueSaturationPass
-  hue-saturation-few run permille =
-      let hued : Color = hueMoved (l .color) (run .task .delta) (run .hue) permille (run .task .enhanced) (l .clock) in
-      simp length-append
-      (omega
-      (arith, hue-part-few (l .color) (run .task .delta) (run .hue) permille (run .task .enhanced) (l .clock) (l .looping .active), saturation-part-few hued (run .task .saturation) (run .saturation) permille (l .clock) (l .looping .active), only-one (leftWritten l (atEnd permille) (l .clock - run .start) (run .task .ms) .reported) RemainingTime))
+  -- with the full time in front, 14 where the second change is of no enhanced hue
+  few : (full : Bool) (p : Passed) → p .second .enhanced ≡ false → length (leftEffect l (leftBy full p Running.Idle) .reported) ≤ 14
+  few full p e =
+      rw length-append
+      (omega (arith, only-one full RemainingTime, pass-few p (l .looping .active), ap (λ b. length (only b EnhancedCurrentHue)) e))
 
-  -- so does one in mireds
-  temperature-to-few : (run : ColorTemperatureToRun) (permille : ℕ) → length (temperatureToPass l run permille .reported) ≤ 13
-  unfolding temperatureToPass
-  temperature-to-few run permille =
-      simp length-append
-      (omega
-      (arith, mireds-few (l .color) (miredsNow (l .bounds) (run .mireds) (run .task .target) permille) (atEnd permille) (l .clock) (l .looping .active), only-one (leftWritten l (atEnd permille) (l .clock - run .start) (run .task .ms) .reported) RemainingTime))
-
-  -- of a hue move
-  hue-pass-few : (run : HueRun) → length (huePass l run .reported) ≤ 13
-  unfolding huePass
-  hue-pass-few run = rw length-append (le-trans (add-le-add (hue-few _ _ _ _ _ _) (le-refl 1)) (omega arith))
-
-  -- of a saturation move
-  saturation-pass-few : (run : SaturationRun) → length (saturationPass l run .reported) ≤ 13
-  unfolding saturationPass
-  saturation-pass-few run = rw length-append (le-trans (add-le-add (saturation-few _ _ _ _ _) (le-refl 1)) (omega arith))
-
-  -- of a temperature move
-  temperature-pass-few : (run : ColorTemperatureRun) → length (temperaturePass l run .reported) ≤ 13
-  unfolding temperaturePass
-  temperature-pass-few run = rw length-append (le-trans (add-le-add (mireds-few _ _ _ _ _) (le-refl 1)) (omega arith))
-
-  -- of the colour loop
-  loop-pass-few : (run : ColorLoopRun) → length (loopPass l run .reported) ≤ 13
-  unfolding loopPass
-  loop-pass-few run = rw length-append (le-trans (add-le-add (hue-few _ _ _ _ _ _) (le-refl 1)) (omega arith))
-
--- a notice of the remaining time comes before a move-to's first pass
-with-time : (l : Lamp) (ms : ℕ) (reported : List ℕ) → length reported ≤ 13 → length (only (fullWritten l ms .reported) RemainingTime ++ reported) ≤ 14
-with-time l ms reported h = simp length-append (omega (arith, only-one (fullWritten l ms .reported) RemainingTime))
-
-module _ (l : Lamp) where
   -- a start reports at most 14
   pub started-few : (task : Task) → length (started l task .reported) ≤ 14
-  unfolding started hueSaturationStart temperatureToStart temperatureStart
-  started-few (Task.HueSaturationMoveTo task) = with-time l (task .ms) _ (hue-saturation-few _ _ _)
-  started-few (Task.HueMove task) = le-trans (hue-pass-few l _) (omega arith)
-  started-few (Task.SaturationMove task) = le-trans (saturation-pass-few l _) (omega arith)
-  started-few (Task.ColorTemperatureMoveTo task) = with-time l (task .ms) _ (temperature-to-few _ _ _)
+  unfolding started hueSaturationStart hueSaturationMoved timed temperatureToStart temperatureToMoved temperatureStart temperaturePassed huePassed saturationPassed loopPassed
+  started-few (Task.HueSaturationMoveTo task) = few (fullWritten l (task .ms) .reported) (hueSaturationStart l task .passed) (saturation-plain _ (task .saturation) _ _ _)
+  started-few (Task.HueMove task) = few false (huePassed (foundIn l) (record { start = l .clock; hue = l .color .hue; task = task })) refl
+  started-few (Task.SaturationMove task) = few false (saturationPassed (foundIn l) (record { start = l .clock; saturation = l .color .saturation; task = task })) refl
+  started-few (Task.ColorTemperatureMoveTo task) = few (fullWritten l (task .ms) .reported) (temperatureToStart l task .passed) refl
   started-few (Task.ColorTemperatureMove task) =
-      cond-both (λ (e : Effect). length (e .reported) ≤ 14) (leb (upper (l .bounds) (task .max)) (lower (l .bounds) (task .min))) _ _ (λ t. zero-le) (λ t. le-trans (temperature-pass-few l _) (omega arith))
-  started-few (Task.ColorLoop task) = le-trans (loop-pass-few l _) (omega arith)
+      let lo : ℕ = lower (l .bounds) (task .min) in
+      let hi : ℕ = upper (l .bounds) (task .max) in
+      cond-both (λ (e : Effect). length (e .reported) ≤ 14) (leb hi lo) _ _ (λ t. zero-le)
+      (λ t. few false (temperaturePassed (foundIn l) (record { start = l .clock; mireds = l .color .mireds; rate = task .rate; lo = lo; hi = hi })) refl)
+  started-few (Task.ColorLoop task) = few false (loopPassed (foundIn l) (record { start = l .clock; hue = l .color .hue; task = task })) refl
   started-few Task.Stop = omega arith
 
   -- and so does a step
   pub stepped-few : (r : Running) → length (stepped l r .reported) ≤ 14
-  unfolding stepped
+  unfolding stepped hueSaturationMoved timed temperatureToMoved temperaturePassed huePassed saturationPassed loopPassed
   stepped-few Running.Idle = omega arith
-  stepped-few (Running.HueSaturationMoveTo run) = le-trans (hue-saturation-few l run _) (omega arith)
-  stepped-few (Running.HueMove run) = le-trans (hue-pass-few l run) (omega arith)
-  stepped-few (Running.SaturationMove run) = le-trans (saturation-pass-few l run) (omega arith)
-  stepped-few (Running.ColorTemperatureMoveTo run) = le-trans (temperature-to-few l run _) (omega arith)
-  stepped-few (Running.ColorTemperatureMove run) = le-trans (temperature-pass-few l run) (omega arith)
-  stepped-few (Running.ColorLoop direction hue seconds start) = le-trans (loop-pass-few l (loopRun direction hue seconds start)) (omega arith)
+  stepped-few (Running.HueSaturationMoveTo run) = few false (hueSaturationPassed (foundIn l) run _) (saturation-plain _ (run .task .saturation) _ _ _)
+  stepped-few (Running.HueMove run) = few false (huePassed (foundIn l) run) refl
+  stepped-few (Running.SaturationMove run) = few false (saturationPassed (foundIn l) run) refl
+  stepped-few (Running.ColorTemperatureMoveTo run) = few false (temperatureToPassed (foundIn l) run (permilleOf (l .clock - run .start) (run .task .ms))) refl
+  stepped-few (Running.ColorTemperatureMove run) = few false (temperaturePassed (foundIn l) run) refl
+  stepped-few (Running.ColorLoop direction hue seconds start) = few false (loopPassed (foundIn l) (loopRun direction hue seconds start)) refl

@@ -1,15 +1,13 @@
 -- Starts, steps and halts: document 01, leaf 6, halt of "Added by design", and their rows of the table of causes.
 use Prim.Native.Nat.{ℕ, _-_, min, max}
 use mathlib.Core.Bool.{Bool, true, not, cond, _&&_, _||_}
-use mathlib.Core.List.{List, [], _++_}
 use lib.Dec.{leb, eqb}
 use lib.IntN.{pos, natAbs}
 use lib.Signed.{leZ}
 use Rattle.matter.specs.declared.limits.Bounds.{Bounds}
 use Rattle.matter.specs.Causes.{accepted, clockRefused, invalidTask, stepWhileIdle, invalidLamp}
 use Rattle.matter.specs.Bounds.{lower, upper}
-use Rattle.notices.specs.Notices.{only, noted}
-use Rattle.notices.specs.Names.{RemainingTime}
+use Rattle.notices.specs.Notices.{noted}
 use Rattle.progress.specs.Progress.{permilleOf, clamp}
 use Rattle.remaining_time.specs.declared.Written.{Written}
 use Rattle.remaining_time.specs.RemainingTime.{writtenQuietly}
@@ -19,25 +17,24 @@ use Rattle.tasks.specs.declared.TargetSaturation.{TargetSaturation}
 use Rattle.tasks.specs.declared.HueSaturationMoveTo.{HueSaturationMoveTo}
 use Rattle.tasks.specs.declared.ColorTemperatureMoveTo.{ColorTemperatureMoveTo}
 use Rattle.tasks.specs.declared.ColorTemperatureMove.{ColorTemperatureMove}
+use Rattle.tasks.specs.declared.HueSaturationRun.{HueSaturationRun}
+use Rattle.tasks.specs.declared.ColorTemperatureToRun.{ColorTemperatureToRun}
 use Rattle.tasks.specs.declared.Task.{Task}
 use Rattle.tasks.specs.declared.Running.{Running}
 use Rattle.tasks.specs.Valid.{taskValid}
 use Rattle.tasks.specs.Runs.{runs, loopRun}
 use Rattle.lamp.specs.declared.Lamp.{Lamp}
 use Rattle.lamp.specs.declared.Answer.{Answer}
+use Rattle.lamp.specs.declared.passes.Left.{Left}
 use Rattle.lamp.specs.Answers.{atClock, badClock, firstCause, refusal}
 use Rattle.lamp.specs.Valid.{lampValid}
-use Rattle.lamp.specs.Passes.{Effect, moved, remainingSet, hueSaturationPass, temperatureToPass, huePass, saturationPass, temperaturePass, loopPass}
+use Rattle.lamp.specs.Passes.{Effect, foundWith, leftBy, leftEffect, idled, hueSaturationPassed, hueSaturationPass, temperatureToPassed, temperatureToPass, huePass, saturationPass, temperaturePass, loopPass}
 
 -- ---- starts: the lamp is at the call's clock already
 
 -- "The full time is written to the remaining time first", which is a transition's start
 abbrev pub fullWritten : Lamp → ℕ → Written
 fullWritten l ms = writtenQuietly (l .remaining) ms true
-
--- what stands before a pass comes first
-abbrev pub after : List ℕ → Effect → Effect
-after reported e = record { lamp = e .lamp; reported = reported ++ e .reported; wait = e .wait }
 
 -- no way at all: that of the hue is 0 or none is moved, and the saturation is there or none is moved
 abbrev pub noHueDelta : HueDelta → Bool
@@ -52,46 +49,50 @@ noSaturationDelta (TargetSaturation.To target) start = eqb target start
 abbrev pub startPermille : ℕ → Bool → ℕ
 startPermille ms noDelta = cond (eqb ms 0 || noDelta) 1000 0
 
-unfoldable pub hueSaturationStart : Lamp → HueSaturationMoveTo → Effect
+unfoldable pub hueSaturationStart : Lamp → HueSaturationMoveTo → Left
 hueSaturationStart l task =
     let w : Written = fullWritten l (task .ms) in
-    after (only (w .reported) RemainingTime)
-    (hueSaturationPass (remainingSet l w)
-    (record { start = l .clock; hue = l .color .hue; saturation = l .color .saturation; task = task })
-    (startPermille (task .ms) (noHueDelta (task .delta) && noSaturationDelta (task .saturation) (l .color .saturation))))
+    let run : HueSaturationRun =
+    record { start = l .clock; hue = l .color .hue; saturation = l .color .saturation; task = task }
+    in
+    let noDelta : Bool = noHueDelta (task .delta) && noSaturationDelta (task .saturation) (l .color .saturation) in
+    leftBy (w .reported) (hueSaturationPassed (foundWith l (w .remaining)) run (startPermille (task .ms) noDelta))
+    (Running.HueSaturationMoveTo run)
 
 -- the target is clamped to the bounds
-unfoldable pub temperatureToStart : Lamp → ColorTemperatureMoveTo → Effect
+unfoldable pub temperatureToStart : Lamp → ColorTemperatureMoveTo → Left
 temperatureToStart l task =
     let w : Written = fullWritten l (task .ms) in
     let target : ℕ = clamp (l .bounds .min) (l .bounds .max) (pos (task .target)) in
-    after (only (w .reported) RemainingTime)
-    (temperatureToPass (remainingSet l w)
-    (record { start = l .clock; mireds = l .color .mireds; task = record { target = target; ms = task .ms } })
-    (startPermille (task .ms) (eqb target (l .color .mireds))))
+    let run : ColorTemperatureToRun =
+    record { start = l .clock; mireds = l .color .mireds; task = record { target = target; ms = task .ms } }
+    in
+    leftBy (w .reported)
+    (temperatureToPassed (foundWith l (w .remaining)) run (startPermille (task .ms) (eqb target (l .color .mireds))))
+    (Running.ColorTemperatureMoveTo run)
 
 -- "A temperature move with lo ≥ hi is done at once: the lamp is idle, and nothing else but the clock changes"
 unfoldable pub temperatureStart : Lamp → ColorTemperatureMove → Effect
 temperatureStart l task =
     let lo : ℕ = lower (l .bounds) (task .min) in
     let hi : ℕ = upper (l .bounds) (task .max) in
-    cond (leb hi lo) (record { lamp = moved l (l .color) Running.Idle; reported = []; wait = 0 })
+    cond (leb hi lo) (idled l)
     (temperaturePass l (record { start = l .clock; mireds = l .color .mireds; rate = task .rate; lo = lo; hi = hi }))
 
 -- "A start includes its first pass, at elapsed 0"
 unfoldable pub started : Lamp → Task → Effect
-started l (Task.HueSaturationMoveTo task) = hueSaturationStart l task
+started l (Task.HueSaturationMoveTo task) = leftEffect l (hueSaturationStart l task)
 started l (Task.HueMove task) = huePass l (record { start = l .clock; hue = l .color .hue; task = task })
 started l (Task.SaturationMove task) = saturationPass l (record { start = l .clock; saturation = l .color .saturation; task = task })
-started l (Task.ColorTemperatureMoveTo task) = temperatureToStart l task
+started l (Task.ColorTemperatureMoveTo task) = leftEffect l (temperatureToStart l task)
 started l (Task.ColorTemperatureMove task) = temperatureStart l task
 started l (Task.ColorLoop task) = loopPass l (record { start = l .clock; hue = l .color .hue; task = task })
-started l Task.Stop = record { lamp = l; reported = []; wait = 0 }
+started l Task.Stop = idled l
 
 -- ---- steps: a pass of what runs
 
 unfoldable pub stepped : Lamp → Running → Effect
-stepped l Running.Idle = record { lamp = l; reported = []; wait = 0 }
+stepped l Running.Idle = idled l
 stepped l (Running.HueSaturationMoveTo run) = hueSaturationPass l run (permilleOf (l .clock - run .start) (run .task .ms))
 stepped l (Running.HueMove run) = huePass l run
 stepped l (Running.SaturationMove run) = saturationPass l run
@@ -128,6 +129,4 @@ stepAnswer l clock = choose (stepCause l clock) l (done (stepped (atClock l cloc
 
 -- "halt, which only makes the lamp idle"; "halt 8, 4"
 unfoldable pub haltAnswer : Lamp → ℕ → Answer
-haltAnswer l clock =
-    choose (firstCause l clock) l
-    (done (record { lamp = moved (atClock l clock) (l .color) Running.Idle; reported = []; wait = 0 }))
+haltAnswer l clock = choose (firstCause l clock) l (done (idled (atClock l clock)))

@@ -4,4 +4,3 @@ pub mod Answers
 pub mod InRange
 pub mod Passes
 pub mod Calls
-pub mod Passed

@@ -37,12 +37,15 @@ use tasks::TargetSaturation;
 use tasks::Task;
 ghost use mathlib.Core.Path.{_≡_};
 ghost use mathlib.Core.Bool.{true};
+ghost use Rattle.notices.specs.Numerals.{empty, inFront};
+ghost use Rattle.notices.proofs.Numerals.{Bytes};
+ghost use Rattle.color.specs.Setters.{changeReported};
 ghost use Rattle.tasks.specs.Valid.{moveToValid, rateValid, taskValid, runningValid};
 ghost use Rattle.matter.specs.Bounds.{lower, upper};
-ghost use Rattle.lamp.specs.Calls.{noHueDelta, noSaturationDelta, startPermille, hueSaturationStart, temperatureToStart, temperatureStart, started, stepped, startAnswer, stepAnswer, haltAnswer};
-ghost use Rattle.tasks.specs.Runs.{runs, loopRunning};
+ghost use Rattle.lamp.specs.Calls.{noHueDelta, noSaturationDelta, startPermille, hueSaturationStart, temperatureToStart, temperatureStart, started, stepped, done, startAnswer, stepAnswer, haltAnswer};
+ghost use Rattle.tasks.specs.Runs.{loopRunning};
 ghost use Rattle.lamp.specs.Answers.{atClock};
-ghost use Rattle.lamp.specs.Passed.{leftEffect, acceptedWith};
+ghost use Rattle.lamp.specs.Passes.{foundWith, reportedBehind, passReported, leftEffect};
 
 fn no_hue_delta(delta: HueDelta) -> bool
     ensures { λ r. ⌜ r ≡ noHueDelta delta ⌝ }
@@ -86,7 +89,7 @@ fn loop_running(run: ColorLoopRun) -> Running
 impl Lamp {
     // What a pass at this clock is given of the lamp, with this remaining time.
     fn found(self, remaining: RemainingTime, clock: u64) -> Found
-        ensures { λ r. ⌜ r ≡ record { clock = clock; bounds = self .bounds; remaining = remaining; color = self .color } ⌝ }
+        ensures { λ r. ⌜ r ≡ foundWith (atClock self clock) remaining ⌝ }
     {
         let bounds = self.bounds;
         let color = self.color;
@@ -101,7 +104,7 @@ impl Lamp {
     // The two move-to starts write the full time first; then comes the first pass.
     fn start_hue_saturation(self, task: HueSaturationMoveTo, clock: u64) -> Left
         requires { ⌜ moveToValid task ≡ true ⌝ }
-        ensures { λ r. ⌜ leftEffect (atClock self clock) r ≡ hueSaturationStart (atClock self clock) task ⌝ }
+        ensures { λ r. ⌜ r ≡ hueSaturationStart (atClock self clock) task ⌝ }
     {
         let remaining = self.remaining;
         let w = remaining.write_remaining_time_quietly(task.ms as u64, true);
@@ -123,7 +126,7 @@ impl Lamp {
     }
 
     fn start_color_temperature_to(self, task: ColorTemperatureMoveTo, clock: u64) -> Left
-        ensures { λ r. ⌜ leftEffect (atClock self clock) r ≡ temperatureToStart (atClock self clock) task ⌝ }
+        ensures { λ r. ⌜ r ≡ temperatureToStart (atClock self clock) task ⌝ }
     {
         let remaining = self.remaining;
         let w = remaining.write_remaining_time_quietly(task.ms as u64, true);
@@ -210,7 +213,6 @@ impl Lamp {
     // A pass of what runs.
     fn pass(self, running: Running, clock: u64) -> Left
         requires { ⌜ runningValid running (self .bounds) clock ≡ true ⌝ }
-        requires { ⌜ runs running ≡ true ⌝ }
         ensures { λ r. ⌜ leftEffect (atClock self clock) r ≡ stepped (atClock self clock) running ⌝ }
     {
         let remaining = self.remaining;
@@ -263,7 +265,9 @@ impl Lamp {
 
     // The answer of an accepted start or step: the lamp as it is left, and what is reported.
     fn accepted(self, left: Left, list: Numeral, clock: u64) -> Answer
-        ensures { λ r. ⌜ r ≡ acceptedWith self clock left list ⌝ }
+        requires { ⌜ list ≡ inFront (changeReported (left .passed .first) (self .looping .active)) (inFront (reportedBehind (left .passed) (self .looping .active)) empty) ⌝ }
+        requires { ⌜ Bytes (passReported (left .passed) (self .looping .active)) ⌝ }
+        ensures { λ r. ⌜ r ≡ done (leftEffect (atClock self clock) left) ⌝ }
     {
         let passed = left.passed;
         let running = left.running;

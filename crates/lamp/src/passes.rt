@@ -38,8 +38,7 @@ ghost use lib.IntN.{pos, _-ℤ_};
 ghost use Rattle.notices.specs.Numerals.{empty, inFront};
 ghost use Rattle.notices.proofs.Numerals.{Bytes};
 ghost use Rattle.tasks.specs.Valid.{deltaValid, moveToValid, hueMoveValid, saturationMoveValid, rateValid};
-ghost use Rattle.lamp.specs.Passes.{hueMoved, saturationNow, saturationMoved, miredsNow, saturationDone, miredsDone, unless, waiting};
-ghost use Rattle.lamp.specs.Passed.{hueMovedChange, saturationMovedChange, hueSaturationMoved, temperatureToMoved, timed, huePassed, saturationPassed, temperaturePassed, loopPassed, passed, nothingPassed, leftBy, reportedBehind, passReported};
+ghost use Rattle.lamp.specs.Passes.{hueMoved, saturationNow, saturationMoved, miredsNow, saturationDone, miredsDone, unless, waiting, hueSaturationMoved, temperatureToMoved, timed, huePassed, saturationPassed, temperaturePassed, loopPassed, passed, nothingPassed, leftBy, reportedBehind, passReported};
 
 // What a pass is given of the lamp.
 pub struct Found {
@@ -125,7 +124,7 @@ fn move_hue(
     clock: u64,
 ) -> ColorSet
     requires { ⌜ deltaValid delta ≡ true ⌝ }
-    ensures { λ r. ⌜ r ≡ record { color = hueMoved color delta start permille «is_enhanced» clock; change = hueMovedChange color delta start permille «is_enhanced» clock } ⌝ }
+    ensures { λ r. ⌜ r ≡ hueMoved color delta start permille «is_enhanced» clock ⌝ }
 {
     match delta {
         HueDelta::Keep => ColorSet {
@@ -159,7 +158,7 @@ fn move_saturation(
     permille: u16,
     clock: u64,
 ) -> ColorSet
-    ensures { λ r. ⌜ r ≡ record { color = saturationMoved color target start permille clock; change = saturationMovedChange color target start permille clock } ⌝ }
+    ensures { λ r. ⌜ r ≡ saturationMoved color target start permille clock ⌝ }
 {
     match target {
         TargetSaturation::Keep => ColorSet {
@@ -291,7 +290,7 @@ impl Found {
 
     // A pass that moves one attribute and leaves the remaining time.
     fn passed(self, set: ColorSet, device: u8, wait: u64, ends: bool) -> Passed
-        ensures { λ r. ⌜ r ≡ passed self (set .color) (set .change) device wait ends ⌝ }
+        ensures { λ r. ⌜ r ≡ passed self set device wait ends ⌝ }
     {
         let color = set.color;
         let first = set.change;

@@ -1,11 +1,7 @@
 -- The definition's case is the one matched, the task's validity is what its pass asks for, and what the pass leaves is that
--- case's effect. The Stop task is not valid.
-use mathlib.Core.Bool.{true≢false}
-use mathlib.Core.Path.{sym}
+-- case's effect.
 use Rattle.tasks.specs.Valid.{taskValid}
-use Rattle.lamp.specs.Answers.{atClock}
 use Rattle.lamp.specs.Calls.{started}
-use Rattle.lamp.proofs.Passed.{hue-left, saturation-left, loop-left}
 use borrow.Author.Needs.{needs}
 use Rattle.lamp.proofs.Lamp.begin.Statement.{statement}
 use Rattle.lamp.proofs.Lamp.begin.Tie as tie
@@ -76,25 +72,23 @@ left-by-requires-4 c κs = search needs
 
 returns : tie.Need-returns
 unfolding started
-returns c = rw (c .before .before .task .given .1) (c .start-hue-saturation .ensures)
+returns c = rw (c .before .before .task .given .1, c .start-hue-saturation .ensures)
 
 returns-2 : tie.Need-returns-2
 unfolding started
 returns-2 c =
     let k = c .before .before in
-    let args = k .before .before .before .before .before .args in
-    rw (c .left-by .ensures, c .before .hue-move-transition .ensures, k .before .task2 .given .1, k .before .before .before .found .ensures) (hue-left (atClock (args .self) (args .clock)) _)
+    rw (c .left-by .ensures, c .before .hue-move-transition .ensures, k .before .task2 .given .1, k .before .before .before .found .ensures)
 
 returns-3 : tie.Need-returns-3
 unfolding started
 returns-3 c =
     let k = c .before .before in
-    let args = k .before .before .before .before .before .args in
-    rw (c .left-by2 .ensures, c .before .saturation-move-transition .ensures, k .before .task3 .given .1, k .before .before .before .found .ensures) (saturation-left (atClock (args .self) (args .clock)) _)
+    rw (c .left-by2 .ensures, c .before .saturation-move-transition .ensures, k .before .task3 .given .1, k .before .before .before .found .ensures)
 
 returns-4 : tie.Need-returns-4
 unfolding started
-returns-4 c = rw (c .before .before .task4 .given .1) (c .start-color-temperature-to .ensures)
+returns-4 c = rw (c .before .before .task4 .given .1, c .start-color-temperature-to .ensures)
 
 returns-5 : tie.Need-returns-5
 unfolding started
@@ -104,14 +98,13 @@ returns-6 : tie.Need-returns-6
 unfolding started
 returns-6 c =
     let k = c .before .before .before in
-    let args = k .before .before .before .before .before .args in
-    rw (c .left-by3 .ensures, c .before .loop-running .ensures, c .before .before .color-loop-transition .ensures, k .before .task6 .given .1, k .before .before .before .found .ensures) (loop-left (atClock (args .self) (args .clock)) _)
+    rw (c .left-by3 .ensures, c .before .loop-running .ensures, c .before .before .color-loop-transition .ensures, k .before .task6 .given .1, k .before .before .before .found .ensures)
 
 returns-7 : tie.Need-returns-7
-unfolding taskValid
+unfolding started
 returns-7 c =
-    let told = c .before .before in
-    absurd (true≢false (sym (rw (told .enum-told .given .1) at (told .before .before .before .before .pre))))
+    let k = c .before .before in
+    rw (c .left-by4 .ensures, c .before .no-transition .ensures, k .enum-told .given .1, k .before .before .found .ensures)
 
 pub begin-spec : {M : Type 1} → statement M
 begin-spec =

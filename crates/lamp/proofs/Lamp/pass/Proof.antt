@@ -1,12 +1,8 @@
 -- The definition's case is the one matched, the record's validity is what its pass asks for, and what the pass leaves is that
 -- case's effect.
-use mathlib.Core.Bool.{true≢false}
-use mathlib.Core.Path.{sym}
 use Rattle.matter.proofs.Laws.{each}
 use Rattle.tasks.specs.Valid.{runningValid}
-use Rattle.lamp.specs.Answers.{atClock}
 use Rattle.lamp.specs.Calls.{stepped}
-use Rattle.lamp.proofs.Passed.{hue-saturation-left, temperature-to-left, hue-left, saturation-left, temperature-left, loop-left}
 use borrow.Author.Needs.{needs}
 use Rattle.lamp.proofs.Lamp.pass.Statement.{statement}
 use Rattle.lamp.proofs.Lamp.pass.Tie as tie
@@ -34,7 +30,7 @@ permille-requires c κs = search needs
 
 move-to-hue-saturation-transition-requires : tie.Need-move-to-hue-saturation-transition-requires
 unfolding runningValid
-move-to-hue-saturation-transition-requires c κs = each _ (rw (c .before .before .before .before .running .given .1) at (c .before .before .before .before .before .before .before .before .pre .0)) .0
+move-to-hue-saturation-transition-requires c κs = each _ (rw (c .before .before .before .before .running .given .1) at (c .before .before .before .before .before .before .before .before .pre)) .0
 
 timed-requires : tie.Need-timed-requires
 timed-requires c κs = search needs
@@ -47,7 +43,7 @@ enum-known-running-2 c = search needs
 
 hue-move-transition-requires : tie.Need-hue-move-transition-requires
 unfolding runningValid
-hue-move-transition-requires c κs = each _ (rw (c .before .running2 .given .1) at (c .before .before .before .before .before .pre .0)) .0
+hue-move-transition-requires c κs = each _ (rw (c .before .running2 .given .1) at (c .before .before .before .before .before .pre)) .0
 
 left-by-requires-3 : tie.Need-left-by-requires-3
 left-by-requires-3 c κs = search needs
@@ -57,7 +53,7 @@ enum-known-running-3 c = search needs
 
 saturation-move-transition-requires : tie.Need-saturation-move-transition-requires
 unfolding runningValid
-saturation-move-transition-requires c κs = each _ (rw (c .before .running3 .given .1) at (c .before .before .before .before .before .pre .0)) .0
+saturation-move-transition-requires c κs = each _ (rw (c .before .running3 .given .1) at (c .before .before .before .before .before .pre)) .0
 
 left-by-requires-4 : tie.Need-left-by-requires-4
 left-by-requires-4 c κs = search needs
@@ -86,7 +82,7 @@ enum-known-running-5 c = search needs
 
 color-temperature-move-transition-requires : tie.Need-color-temperature-move-transition-requires
 unfolding runningValid
-color-temperature-move-transition-requires c κs = each _ (rw (c .before .running5 .given .1) at (c .before .before .before .before .before .pre .0)) .0
+color-temperature-move-transition-requires c κs = each _ (rw (c .before .running5 .given .1) at (c .before .before .before .before .before .pre)) .0
 
 left-by-requires-6 : tie.Need-left-by-requires-6
 left-by-requires-6 c κs = search needs
@@ -104,51 +100,46 @@ left-by-requires-7 : tie.Need-left-by-requires-7
 left-by-requires-7 c κs = search needs
 
 returns : tie.Need-returns
+unfolding stepped
 returns c =
-    let told = c .before .before in
-    absurd (true≢false (sym (rw (told .enum-told .given .1) at (told .before .before .before .before .pre .1))))
+    let k = c .before .before in
+    rw (c .left-by .ensures, c .before .no-transition .ensures, k .enum-told .given .1, k .before .before .found .ensures)
 
 returns-2 : tie.Need-returns-2
 unfolding stepped
 returns-2 c =
     let k = c .before .before .before .before .before .before in
-    let args = k .before .before .before .before .before .args in
-    rw (c .left-by2 .ensures, c .before .timed .ensures, c .before .before .move-to-hue-saturation-transition .ensures, c .before .before .before .permille .ensures, c .before .before .before .before .elapsed .ensures, k .before .running .given .1, k .before .before .before .found .ensures) (hue-saturation-left (atClock (args .self) (args .clock)) (k .before .running .given .0 .0) _)
+    rw (c .left-by2 .ensures, c .before .timed .ensures, c .before .before .move-to-hue-saturation-transition .ensures, c .before .before .before .permille .ensures, c .before .before .before .before .elapsed .ensures, k .before .running .given .1, k .before .before .before .found .ensures)
 
 returns-3 : tie.Need-returns-3
 unfolding stepped
 returns-3 c =
     let k = c .before .before in
-    let args = k .before .before .before .before .before .args in
-    rw (c .left-by3 .ensures, c .before .hue-move-transition .ensures, k .before .running2 .given .1, k .before .before .before .found .ensures) (hue-left (atClock (args .self) (args .clock)) (k .before .running2 .given .0 .0))
+    rw (c .left-by3 .ensures, c .before .hue-move-transition .ensures, k .before .running2 .given .1, k .before .before .before .found .ensures)
 
 returns-4 : tie.Need-returns-4
 unfolding stepped
 returns-4 c =
     let k = c .before .before in
-    let args = k .before .before .before .before .before .args in
-    rw (c .left-by4 .ensures, c .before .saturation-move-transition .ensures, k .before .running3 .given .1, k .before .before .before .found .ensures) (saturation-left (atClock (args .self) (args .clock)) (k .before .running3 .given .0 .0))
+    rw (c .left-by4 .ensures, c .before .saturation-move-transition .ensures, k .before .running3 .given .1, k .before .before .before .found .ensures)
 
 returns-5 : tie.Need-returns-5
 unfolding stepped
 returns-5 c =
     let k = c .before .before .before .before .before .before in
-    let args = k .before .before .before .before .before .args in
-    rw (c .left-by5 .ensures, c .before .timed2 .ensures, c .before .before .move-to-color-temperature-transition .ensures, c .before .before .before .permille2 .ensures, c .before .before .before .before .elapsed2 .ensures, k .before .running4 .given .1, k .before .before .before .found .ensures) (temperature-to-left (atClock (args .self) (args .clock)) (k .before .running4 .given .0 .0) _)
+    rw (c .left-by5 .ensures, c .before .timed2 .ensures, c .before .before .move-to-color-temperature-transition .ensures, c .before .before .before .permille2 .ensures, c .before .before .before .before .elapsed2 .ensures, k .before .running4 .given .1, k .before .before .before .found .ensures)
 
 returns-6 : tie.Need-returns-6
 unfolding stepped
 returns-6 c =
     let k = c .before .before in
-    let args = k .before .before .before .before .before .args in
-    rw (c .left-by6 .ensures, c .before .color-temperature-move-transition .ensures, k .before .running5 .given .1, k .before .before .before .found .ensures) (temperature-left (atClock (args .self) (args .clock)) (k .before .running5 .given .0 .0))
+    rw (c .left-by6 .ensures, c .before .color-temperature-move-transition .ensures, k .before .running5 .given .1, k .before .before .before .found .ensures)
 
 returns-7 : tie.Need-returns-7
 unfolding stepped
 returns-7 c =
     let k = c .before .before .before in
-    let args = k .before .before .before .before .before .args in
-    rw (c .left-by7 .ensures, c .before .loop-running .ensures, c .before .before .color-loop-transition .ensures, k .before .running6 .given .1, k .before .before .before .found .ensures) (loop-left (atClock (args .self) (args .clock)) _)
+    rw (c .left-by7 .ensures, c .before .loop-running .ensures, c .before .before .color-loop-transition .ensures, k .before .running6 .given .1, k .before .before .before .found .ensures)
 
 pub pass-spec : {M : Type 1} → statement M
 pass-spec =

@@ -2,7 +2,6 @@
 use native.Mathlib.Omega.{arith}
 use borrow.Author.Tests.{eq-eqb, ne-eqb, not-true, not-false}
 use Rattle.lamp.specs.Calls.{startAnswer}
-use Rattle.lamp.proofs.Passed.{left-placed}
 use borrow.Author.Needs.{needs}
 use Rattle.lamp.proofs.Lamp.start.Statement.{statement}
 use Rattle.lamp.proofs.Lamp.start.Tie as tie
@@ -41,7 +40,7 @@ cons-requires : tie.Need-cons-requires
 cons-requires c κs = search needs
 
 accepted-requires : tie.Need-accepted-requires
-accepted-requires c κs = search needs
+accepted-requires c κs = (rw (c .cons .ensures, c .before .behind .ensures .0), c .before .behind .ensures .1)
 
 returns-3 : tie.Need-returns-3
 unfolding startAnswer
@@ -52,9 +51,7 @@ returns-3 c =
     let k3 = k2 .before in
     let k4 = k3 .before in
     let k5 = k4 .before .before in
-    let left = k2 .begin .result in
-    let active = k5 .before .args .self .looping .active in
-    rw (c .accepted .ensures, k0 .cons .ensures, k1 .behind .ensures .0, ← k5 .first-cause .ensures, eq-eqb (k5 .first-cause .result) 0 (omega arith), ← k4 .is-valid .ensures, not-false (k4 .is-valid .result) (k3 .if2 .left), ← k2 .begin .ensures, left-placed (left .full) (left .passed) active (k1 .behind .ensures .1))
+    rw (c .accepted .ensures, ← k5 .first-cause .ensures, eq-eqb (k5 .first-cause .result) 0 (omega arith), ← k4 .is-valid .ensures, not-false (k4 .is-valid .result) (k3 .if2 .left), ← k2 .begin .ensures)
 
 pub start-spec : {M : Type 1} → statement M
 start-spec =

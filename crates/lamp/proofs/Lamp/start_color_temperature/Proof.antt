@@ -4,9 +4,7 @@ use native.Mathlib.Omega.{arith}
 use mir.Syntax.{w64}
 use mir.Val.{toZ, ofZ}
 use borrow.Author.Tests.{le-leb, lt-leb}
-use Rattle.lamp.specs.Answers.{atClock}
 use Rattle.lamp.specs.Calls.{temperatureStart}
-use Rattle.lamp.proofs.Passed.{temperature-left}
 use borrow.Author.Needs.{needs}
 use Rattle.lamp.proofs.Lamp.start_color_temperature.Statement.{statement}
 use Rattle.lamp.proofs.Lamp.start_color_temperature.Tie as tie
@@ -52,7 +50,6 @@ returns-2 c =
     let args = k5 .before .before .before .args in
     let e : toZ w64 (ofZ w64 (args .task .rate)) ≡ args .task .rate = search needs in
     rw (c .left-by2 .ensures, k1 .color-temperature-move-transition .ensures, e, k5 .found .ensures, ← k3 .upper-limit .ensures, ← k4 .lower-limit .ensures, lt-leb (k3 .upper-limit .result) (k4 .lower-limit .result) (omega arith))
-    (temperature-left (atClock (args .self) (args .clock)) _)
 
 pub start-color-temperature-spec : {M : Type 1} → statement M
 start-color-temperature-spec =

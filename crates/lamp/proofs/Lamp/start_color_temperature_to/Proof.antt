@@ -2,9 +2,7 @@
 use Prim.Native.Nat.{_+_}
 use mathlib.Core.Path.{_≡_}
 use native.Mathlib.Omega.{arith}
-use Rattle.lamp.specs.Answers.{atClock}
-use Rattle.lamp.specs.Calls.{fullWritten, temperatureToStart}
-use Rattle.lamp.proofs.Passed.{temperature-to-begun}
+use Rattle.lamp.specs.Calls.{temperatureToStart}
 use borrow.Author.Needs.{needs}
 use Rattle.lamp.proofs.Lamp.start_color_temperature_to.Statement.{statement}
 use Rattle.lamp.proofs.Lamp.start_color_temperature_to.Tie as tie
@@ -43,11 +41,9 @@ returns c =
     let k4 = k3 .before in
     let k5 = k4 .before .before in
     let k6 = k5 .before .before in
-    let args = k6 .before .before .before .args in
-    let t = args .task .target in
+    let t = k6 .before .before .before .args .task .target in
     let e : t + 0 ≡ t = omega arith in
     rw (c .left-by .ensures, k1 .timed .ensures, k2 .move-to-color-temperature-transition .ensures, k3 .found .ensures, k4 .start-permille .ensures, k5 .clamped-sum .ensures, k6 .write-remaining-time-quietly .ensures, e)
-    (temperature-to-begun (atClock (args .self) (args .clock)) (fullWritten (args .self) (args .task .ms)) _ _)
 
 pub start-color-temperature-to-spec : {M : Type 1} → statement M
 start-color-temperature-to-spec =

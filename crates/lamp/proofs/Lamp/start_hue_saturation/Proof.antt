@@ -1,7 +1,5 @@
 -- Each call's contract is its part of the definition.
-use Rattle.lamp.specs.Answers.{atClock}
-use Rattle.lamp.specs.Calls.{fullWritten, hueSaturationStart}
-use Rattle.lamp.proofs.Passed.{hue-saturation-begun}
+use Rattle.lamp.specs.Calls.{hueSaturationStart}
 use borrow.Author.Needs.{needs}
 use Rattle.lamp.proofs.Lamp.start_hue_saturation.Statement.{statement}
 use Rattle.lamp.proofs.Lamp.start_hue_saturation.Tie as tie
@@ -43,9 +41,7 @@ returns c =
     let k5 = k4 .before in
     let k6 = k5 .before in
     let k7 = k6 .before .before in
-    let args = k7 .before .before .before .args in
     rw (c .left-by .ensures, k1 .timed .ensures, k2 .move-to-hue-saturation-transition .ensures, k3 .found .ensures, k4 .start-permille .ensures, k5 .no-saturation-delta .ensures, k6 .no-hue-delta .ensures, k7 .write-remaining-time-quietly .ensures)
-    (hue-saturation-begun (atClock (args .self) (args .clock)) (fullWritten (args .self) (args .task .ms)) _ _)
 
 pub start-hue-saturation-spec : {M : Type 1} → statement M
 start-hue-saturation-spec =

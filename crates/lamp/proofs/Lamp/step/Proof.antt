@@ -5,7 +5,6 @@ use borrow.Author.Tests.{ltb-false, not-true, not-false}
 use Rattle.lamp.specs.Valid.{lampValid}
 use Rattle.lamp.specs.Calls.{stepAnswer}
 use Rattle.lamp.proofs.Kept.{running-later}
-use Rattle.lamp.proofs.Passed.{left-placed}
 use Rattle.matter.proofs.Laws.{each, or-left}
 use borrow.Author.Needs.{needs}
 use Rattle.lamp.proofs.Lamp.step.Statement.{statement}
@@ -57,10 +56,8 @@ pass-requires c κs =
     let k3 = k2 .before in
     let k4 = k3 .before in
     let self = k4 .before .args .self in
-    let valid = rw (k4 .is-valid .ensures) at (not-false (k4 .is-valid .result) (k3 .if1 .left)) in (
-      running-later (self .running) (self .bounds) (self .clock) (k4 .before .args .clock) (each _ valid .1 .1 .0) (ltb-false _ _ (or-left _ _ (c .if3 .left))),
-      rw (← k2 .is-running .ensures) (not-false _ (k1 .if2 .left)),
-    )
+    let valid = rw (k4 .is-valid .ensures) at (not-false (k4 .is-valid .result) (k3 .if1 .left)) in
+    running-later (self .running) (self .bounds) (self .clock) (k4 .before .args .clock) (each _ valid .1 .1 .0) (ltb-false _ _ (or-left _ _ (c .if3 .left)))
 
 behind-requires : tie.Need-behind-requires
 behind-requires c κs = search needs
@@ -69,7 +66,7 @@ cons-requires : tie.Need-cons-requires
 cons-requires c κs = search needs
 
 accepted-requires : tie.Need-accepted-requires
-accepted-requires c κs = search needs
+accepted-requires c κs = (rw (c .cons .ensures, c .before .behind .ensures .0), c .before .behind .ensures .1)
 
 returns-4 : tie.Need-returns-4
 unfolding stepAnswer
@@ -82,9 +79,7 @@ returns-4 c =
     let k5 = k4 .before in
     let k6 = k5 .before in
     let k7 = k6 .before in
-    let left = k2 .pass .result in
-    let active = k7 .before .args .self .looping .active in
-    rw (c .accepted .ensures, k0 .cons .ensures, k1 .behind .ensures .0, ← k7 .is-valid .ensures, not-false (k7 .is-valid .result) (k6 .if1 .left), ← k5 .is-running .ensures, not-false (k5 .is-running .result) (k4 .if2 .left), k3 .if3 .left, ← k2 .pass .ensures, left-placed (left .full) (left .passed) active (k1 .behind .ensures .1))
+    rw (c .accepted .ensures, ← k7 .is-valid .ensures, not-false (k7 .is-valid .result) (k6 .if1 .left), ← k5 .is-running .ensures, not-false (k5 .is-running .result) (k4 .if2 .left), k3 .if3 .left, ← k2 .pass .ensures)
 
 pub step-spec : {M : Type 1} → statement M
 step-spec =

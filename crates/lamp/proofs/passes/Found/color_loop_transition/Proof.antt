@@ -2,7 +2,7 @@
 use mir.Syntax.{w64}
 use mir.ValLaws.{toZ-ofZ}
 use borrow.Author.Needs.{sfits-of}
-use Rattle.lamp.specs.Passed.{loopPassed}
+use Rattle.lamp.specs.Passes.{loopPassed}
 use borrow.Author.Needs.{needs}
 use Rattle.lamp.proofs.passes.Found.color_loop_transition.Statement.{statement}
 use Rattle.lamp.proofs.passes.Found.color_loop_transition.Tie as tie

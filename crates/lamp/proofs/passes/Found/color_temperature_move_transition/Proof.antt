@@ -6,7 +6,7 @@ use Rattle.lamp.proofs.Shared.{rate-same}
 use mir.Syntax.{w64}
 use mir.ValLaws.{toZ-ofZ}
 use borrow.Author.Needs.{sfits-of}
-use Rattle.lamp.specs.Passed.{temperaturePassed}
+use Rattle.lamp.specs.Passes.{temperaturePassed}
 use borrow.Author.Needs.{needs}
 use Rattle.lamp.proofs.passes.Found.color_temperature_move_transition.Statement.{statement}
 use Rattle.lamp.proofs.passes.Found.color_temperature_move_transition.Tie as tie

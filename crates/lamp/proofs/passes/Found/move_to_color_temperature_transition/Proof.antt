@@ -1,4 +1,4 @@
-use Rattle.lamp.specs.Passed.{temperatureToMoved}
+use Rattle.lamp.specs.Passes.{temperatureToMoved}
 use borrow.Author.Needs.{needs}
 use Rattle.lamp.proofs.passes.Found.move_to_color_temperature_transition.Statement.{
   statement,

@@ -1,7 +1,7 @@
 -- Each call's contract is its part of the definition; a valid task has a valid way.
 use Rattle.matter.proofs.Laws.{each}
 use Rattle.tasks.specs.Valid.{moveToValid}
-use Rattle.lamp.specs.Passed.{hueSaturationMoved}
+use Rattle.lamp.specs.Passes.{hueSaturationMoved}
 use borrow.Author.Needs.{needs}
 use Rattle.lamp.proofs.passes.Found.move_to_hue_saturation_transition.Statement.{statement}
 use Rattle.lamp.proofs.passes.Found.move_to_hue_saturation_transition.Tie as tie

@@ -1,4 +1,4 @@
-use Rattle.lamp.specs.Passed.{timed}
+use Rattle.lamp.specs.Passes.{timed}
 use borrow.Author.Needs.{needs}
 use Rattle.lamp.proofs.passes.Found.timed.Statement.{statement}
 use Rattle.lamp.proofs.passes.Found.timed.Tie as tie
