@@ -1,7 +1,7 @@
 -- The setters change and tell what document 01 says: one argument for the three of them.
 use Prim.Native.Nat.{ℕ, _+_, _≤_, _<_}
 use mathlib.Core.Bool.{Bool, true, false, not, cond, _&&_, _||_, true≢false, and-false}
-use mathlib.Core.List.{List, [], _∷_, _++_, append-assoc}
+use mathlib.Core.List.{[], _∷_, _++_, append-assoc}
 use mathlib.Core.Logic.{⊎-elim}
 use mathlib.Core.Path.{_≡_, refl, sym, _∙_}
 use lib.Dec.{eqb, leb}
@@ -9,7 +9,7 @@ use borrow.Author.Tests.{eqb-true, eqb-false, le-leb, lt-leb}
 use Rattle.matter.specs.declared.enums.EnhancedColorModeEnum.{EnhancedColorModeEnum}
 use Rattle.notices.specs.Notices.{only}
 use Rattle.color.specs.declared.Color.{Color}
-use Rattle.color.specs.Setters.{due, same, changeNotices, hueMode, keptHueMode, hueSet, hueReported, saturationSet, saturationReported, miredsSet, miredsReported}
+use Rattle.color.specs.Setters.{due, same, changeNotices, hueMode, keptHueMode, hueSet, hueReported, saturationSet, miredsSet}
 use Rattle.color.specs.Changes.{Attribute, Changes, hueAttribute, saturationAttribute, miredsAttribute, SettersChange}
 
 -- a colour that is set: the number and the modes, with a stamp, and the rest as it was

@@ -1,12 +1,11 @@
 -- A command's answer is built from the lamp and its outcome: no command changes the rest, and its list fits.
 use Prim.Native.Nat.{ℕ}
 use mathlib.Core.Bool.{Bool, true, false, cond}
-use mathlib.Core.List.{List, [], _∷_, _++_}
-use mathlib.Core.Path.{_≡_, refl, ap, _∙_}
+use mathlib.Core.List.{List, [], _∷_}
+use mathlib.Core.Path.{_≡_, refl}
 use native.Mathlib.Nat.{le-trans}
 use native.Mathlib.Omega.{arith}
 use lib.Dec.{eqb}
-use lib.ListN.{length}
 use Rattle.matter.specs.declared.commands.Request.{Request}
 use Rattle.matter.specs.declared.enums.ColorLoopActionEnum.{ColorLoopActionEnum}
 use Rattle.matter.specs.declared.enums.OnOff.{OnOff}
@@ -17,7 +16,7 @@ use Rattle.notices.specs.Numerals.{empty, inFront, placed}
 use Rattle.notices.proofs.Numerals.{Bytes, none, more, bytes-append, bytes-only, placed-noted}
 use Rattle.color.specs.declared.Color.{Color}
 use Rattle.color.specs.Setters.{hueChange, hueReported}
-use Rattle.color.proofs.Laws.{change-bytes, hue-change-reported}
+use Rattle.color.proofs.Laws.{change-bytes}
 use Rattle.lamp.specs.declared.Answer.{Answer}
 use Rattle.lamp.specs.declared.Lamp.{Lamp}
 use Rattle.lamp.specs.Answers.{atClock}
@@ -30,8 +29,7 @@ use Rattle.commands.proofs.Kept.{done-by, done-any, commands-few}
 -- ---- a command reports bytes
 
 hue-bytes : (c : Color) (new : ℕ) (clock : ℕ) (active : Bool) → Bytes (hueReported c new true true clock active)
-hue-bytes c new clock active =
-    rw (← hue-change-reported c new true clock active true) (change-bytes (hueChange c new true true clock) active (omega arith))
+hue-bytes c new clock active = change-bytes (hueChange c new true true clock) active (omega arith)
 
 updated-bytes : (flags : ℕ) → Bytes (updatedReported flags)
 updated-bytes flags =

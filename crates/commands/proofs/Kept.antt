@@ -18,7 +18,8 @@ use Rattle.matter.specs.InRange.{Short, InRangeCommand}
 use Rattle.notices.proofs.Laws.{only-one}
 use Rattle.notices.specs.Names.{ColorLoopActive, ColorLoopDirection, ColorLoopTime, ColorLoopStartEnhancedHue, ColorLoopStoredEnhancedHue}
 use Rattle.color.specs.declared.Color.{Color}
-use Rattle.color.proofs.Kept.{hue-kept, hue-word, hue-few}
+use Rattle.color.proofs.Kept.{hue-kept, hue-word, change-few}
+use Rattle.color.specs.Setters.{hueChange}
 use Rattle.color.specs.Setters.{hueSet}
 use Rattle.tasks.specs.declared.GivenTask.{GivenTask}
 use Rattle.tasks.specs.declared.Running.{Running}
@@ -30,10 +31,10 @@ use Rattle.lamp.specs.Answers.{atClock, firstCause, refusal}
 use Rattle.lamp.specs.Calls.{startCause, stepCause, startAnswer, stepAnswer, haltAnswer}
 use Rattle.lamp.specs.Valid.{lampValid}
 use Rattle.lamp.proofs.Kept.{valid-clock, valid-color, valid-running, valid-of, no-cause, ready, start-ready, step-ready, choose-both, start-valid, step-valid, halt-valid}
-use Rattle.lamp.specs.Passes.{moved}
+use Rattle.lamp.specs.Passes.{changed}
 use Rattle.lamp.specs.declared.Call.{Call}
 use Rattle.lamp.specs.InRange.{InRangeLamp, InRangeCall}
-use Rattle.lamp.proofs.InRangeKept.{changed, started-any, stepped-any, in-range-of, clock-in-range, changed-in-range, started-in-range, stepped-in-range}
+use Rattle.lamp.proofs.InRangeKept.{started-any, stepped-any, in-range-of, clock-in-range, changed-in-range, started-in-range, stepped-in-range}
 use Rattle.commands.specs.Answers.{afterClock, allowed, commandCause, commandDone, commandAnswer, cause, answer, granted, clockOf, isLoopSet}
 use Rattle.commands.specs.Commands.{CommandEffect, skip, giving, checks, withLoop, updated, updatedReported, acted, deactivated, activated, loopSet, commandEffect}
 
@@ -162,7 +163,7 @@ granted-any : (l : Lamp) (x : Call) (P : Lamp → Type 0) → ((m : Lamp) → P 
 granted-any l (Call.Command r onOff clock) P any = done-any (atClock l clock) P (λ d s. any (withLoop l d s)) r onOff
 granted-any l (Call.Start task clock) P any = started-any (atClock l clock) P (λ c r t. any (changed l c r t)) task
 granted-any l (Call.Step clock) P any = stepped-any (atClock l clock) P (λ c r t. any (changed l c r t)) (l .running)
-granted-any l (Call.Halt clock) P any = any (moved l (l .color) Running.Idle)
+granted-any l (Call.Halt clock) P any = any (changed l (l .color) Running.Idle (l .remaining))
 
 module _ (l : Lamp) (x : Call) where
   -- an accepted call sets the clock
@@ -215,7 +216,7 @@ deactivated-few : (l : Lamp) (reported : List ℕ) → length reported ≤ 4 →
 unfolding deactivated
 deactivated-few l reported h =
     cond-both (λ (e : CommandEffect). length (e .reported) ≤ 14) (l .looping .active) _ (record { lamp = l; reported = reported; task = GivenTask.Nothing })
-    (λ e. simp length-append (omega (arith, hue-few (l .color) (l .looping .stored) true (l .clock) false true)))
+    (λ e. simp length-append (omega (arith, change-few (hueChange (l .color) (l .looping .stored) true true (l .clock)) false)))
     (λ e. omega arith)
 
 -- and with those of going on from a hue
@@ -224,7 +225,7 @@ unfolding activated
 activated-few l reported seed h =
     let both : List ℕ = ColorLoopStoredEnhancedHue ∷ ColorLoopActive ∷ [] in
     let some : length (cond (l .looping .active) [] both) ≤ 2 = cond-both (λ xs. length xs ≤ 2) (l .looping .active) [] both (λ e. omega arith) (λ e. omega arith) in
-    simp length-append (omega (arith, hue-few (l .color) seed true (l .clock) true true))
+    simp length-append (omega (arith, change-few (hueChange (l .color) seed true true (l .clock)) true))
 
 -- the colour loop's command reports at most 14
 loop-few : (l : Lamp) (flags : ℕ) (action : ColorLoopActionEnum) (direction : ColorLoopDirectionEnum) (time hue : ℕ) → length (loopSet l flags action direction time hue .reported) ≤ 14

@@ -10,7 +10,6 @@ use Rattle.notices.specs.Numerals.{empty, consed, inFront}
 use Rattle.notices.proofs.Numerals.{in-front-append}
 use Rattle.color.specs.declared.Color.{Color}
 use Rattle.color.specs.Setters.{hueChange, hueReported, changeReported}
-use Rattle.color.proofs.Laws.{hue-change-reported}
 use Rattle.tasks.specs.declared.GivenTask.{GivenTask}
 use Rattle.lamp.specs.declared.Lamp.{Lamp}
 use Rattle.commands.specs.declared.outcomes.Outcome.{Outcome}
@@ -47,12 +46,12 @@ module _ (c : Color) (new clock : ℕ) where
   pub off-change :
       consed (consed (inFront (changeReported (hueChange c new true true clock) false) (consed empty 15)) 8) 17
       ≡ inFront (17 ∷ 8 ∷ (hueReported c new true true clock false ++ (15 ∷ []))) empty
-  off-change = rw (hue-change-reported c new true clock false true) (off-in-front _)
+  off-change = off-in-front _
 
   pub on-change : (active : Bool) →
       inFront (only (not active) 12) (inFront (only (not active) 8) (inFront (changeReported (hueChange c new true true clock) true) (consed (consed empty 17) 15)))
       ≡ inFront (cond active [] (12 ∷ 8 ∷ []) ++ hueReported c new true true clock true ++ (15 ∷ 17 ∷ [])) empty
-  on-change active = rw (hue-change-reported c new true clock true true) (on-in-front active _)
+  on-change active = on-in-front active _
 
 -- ---- what was reported so far stands before what the action reports
 

@@ -1,7 +1,6 @@
 -- What a call leaves as it was.
-use Prim.Native.Nat.{ℕ}
 use mathlib.Core.Bool.{true, false, true≢false}
-use mathlib.Core.Path.{_≡_, refl, sym}
+use mathlib.Core.Path.{_≡_, refl}
 use lib.Dec.{leb}
 use Rattle.matter.specs.Bounds.{lower, upper}
 use Rattle.matter.proofs.Laws.{cond-both}
@@ -9,20 +8,19 @@ use Rattle.notices.specs.Notices.{filled}
 use Rattle.tasks.specs.declared.GivenTask.{GivenTask}
 use Rattle.tasks.specs.declared.Running.{Running}
 use Rattle.tasks.specs.declared.Task.{Task}
-use Rattle.lamp.specs.declared.Answer.{Answer}
 use Rattle.lamp.specs.declared.Lamp.{Lamp}
 use Rattle.lamp.specs.Answers.{atClock}
 use Rattle.lamp.specs.Calls.{temperatureStart, started, stepped}
-use Rattle.lamp.specs.Passes.{Effect, huePass, saturationPass, temperaturePass, loopPass}
+use Rattle.lamp.specs.Passes.{Effect, huePassed, loopPassed, saturationPassed, temperaturePassed}
 use Rattle.lamp.specs.declared.Call.{Call}
 use Rattle.lamp.proofs.InRangeKept.{started-any, stepped-any}
-use Rattle.commands.specs.Answers.{cause, answer, granted}
-use Rattle.commands.specs.Unchanged.{bare, isMoveTo, movesTo, Unchanged}
+use Rattle.commands.specs.Answers.{answer, granted}
+use Rattle.commands.specs.Unchanged.{isMoveTo, movesTo, Unchanged}
 use Rattle.commands.proofs.Kept.{answer-both, refused-same, done-any, bounds-kept, options-kept}
 
 -- a start but a move-to's leaves the remaining time
 started-remaining : (l : Lamp) (task : Task) → isMoveTo task ≡ false → started l task .lamp .remaining ≡ l .remaining
-unfolding started huePass saturationPass temperatureStart temperaturePass loopPass
+unfolding started huePassed saturationPassed temperatureStart temperaturePassed loopPassed
 started-remaining l (Task.HueSaturationMoveTo task) e = absurd (true≢false e)
 started-remaining l (Task.HueMove task) e = refl
 started-remaining l (Task.SaturationMove task) e = refl
@@ -35,7 +33,7 @@ started-remaining l Task.Stop e = refl
 
 -- and so does a step
 stepped-remaining : (l : Lamp) (run : Running) → movesTo run ≡ false → stepped l run .lamp .remaining ≡ l .remaining
-unfolding stepped huePass saturationPass temperaturePass loopPass
+unfolding stepped huePassed saturationPassed temperaturePassed loopPassed
 stepped-remaining l Running.Idle e = refl
 stepped-remaining l (Running.HueSaturationMoveTo run) e = absurd (true≢false e)
 stepped-remaining l (Running.HueMove run) e = refl

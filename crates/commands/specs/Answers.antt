@@ -2,7 +2,6 @@
 -- between the two. Document 01, "Commands in their order" and "Why a call is turned away".
 use Prim.Native.Nat.{ℕ}
 use mathlib.Core.Bool.{Bool, true, false, cond, _&&_}
-use mathlib.Core.List.{[]}
 use lib.Dec.{eqb}
 use Rattle.matter.specs.declared.commands.Command.{Command}
 use Rattle.matter.specs.declared.commands.Request.{Request}
@@ -10,13 +9,12 @@ use Rattle.matter.specs.declared.enums.OnOff.{OnOff}
 use Rattle.matter.specs.Causes.{accepted, crossedLimits}
 use Rattle.matter.specs.Rules.{mayExecute}
 use Rattle.notices.specs.Notices.{noted}
-use Rattle.tasks.specs.declared.Running.{Running}
 use Rattle.tasks.specs.declared.Task.{Task}
 use Rattle.lamp.specs.declared.Lamp.{Lamp}
 use Rattle.lamp.specs.declared.Answer.{Answer}
 use Rattle.lamp.specs.Answers.{atClock, firstCause}
 use Rattle.lamp.specs.Calls.{choose, done, started, stepped, startCause, stepCause, startAnswer, stepAnswer, haltAnswer}
-use Rattle.lamp.specs.Passes.{moved}
+use Rattle.lamp.specs.Passes.{idled}
 use Rattle.lamp.specs.declared.Call.{Call}
 use Rattle.commands.specs.Commands.{CommandEffect, skip, giving, causeIf, checks, crossed, commandEffect}
 
@@ -73,8 +71,7 @@ abbrev pub granted : Lamp → Call → Answer
 granted l (Call.Command r onOff clock) = commandAccepted (commandDone (atClock l clock) r onOff)
 granted l (Call.Start task clock) = done (started (atClock l clock) task)
 granted l (Call.Step clock) = done (stepped (atClock l clock) (l .running))
-granted l (Call.Halt clock) =
-    done (record { lamp = moved (atClock l clock) (l .color) Running.Idle; reported = []; wait = 0 })
+granted l (Call.Halt clock) = done (idled (atClock l clock))
 
 -- its clock
 abbrev pub clockOf : Call → ℕ

@@ -1,10 +1,8 @@
 -- Starts, steps and halts: document 01, leaf 6, halt of "Added by design", and their rows of the table of causes.
-use Prim.Native.Nat.{ℕ, _-_, min, max}
+use Prim.Native.Nat.{ℕ, _-_}
 use mathlib.Core.Bool.{Bool, true, not, cond, _&&_, _||_}
 use lib.Dec.{leb, eqb}
 use lib.IntN.{pos, natAbs}
-use lib.Signed.{leZ}
-use Rattle.matter.specs.declared.limits.Bounds.{Bounds}
 use Rattle.matter.specs.Causes.{accepted, clockRefused, invalidTask, stepWhileIdle, invalidLamp}
 use Rattle.matter.specs.Bounds.{lower, upper}
 use Rattle.notices.specs.Notices.{noted}

@@ -1,8 +1,6 @@
 -- The widths of the numbers of a lamp and of a call: facts that every lamp and call of a program has, and the premise of
 -- theorems over every list of calls. They are no part of validity.
-use Prim.Native.Nat.{ℕ}
 use Rattle.matter.specs.InRange.{Byte, Short, Clock, InRangeBounds, InRangeRequest}
-use Rattle.tasks.specs.declared.Task.{Task}
 use Rattle.tasks.specs.InRange.{InRangeTask, InRangeRunning}
 use Rattle.lamp.specs.declared.Call.{Call}
 use Rattle.lamp.specs.declared.Lamp.{Lamp}
