@@ -2,7 +2,6 @@
 -- the closest mireds.
 use Prim.Native.Nat.{ℕ, zero, suc, _≤_, _<_, min, max}
 use mathlib.Core.Bool.{Bool, true, false, cond, true≢false}
-use mathlib.Core.List.{[]}
 use mathlib.Core.Path.{_≡_, refl, sym, ap, _∙_}
 use native.Mathlib.Omega.{arith}
 use lib.Dec.{ltb, leb}
@@ -21,7 +20,6 @@ use Rattle.progress.specs.Progress.{clamp}
 use Rattle.tasks.specs.declared.ColorTemperatureMove.{ColorTemperatureMove}
 use Rattle.tasks.specs.declared.ColorTemperatureRun.{ColorTemperatureRun}
 use Rattle.tasks.specs.declared.GivenTask.{GivenTask}
-use Rattle.tasks.specs.declared.Running.{Running}
 use Rattle.tasks.specs.declared.Task.{Task}
 use Rattle.tasks.specs.Valid.{taskValid}
 use Rattle.lamp.specs.declared.Answer.{Answer}
@@ -31,7 +29,7 @@ use Rattle.matter.specs.Bounds.{lower, upper}
 use Rattle.lamp.specs.Calls.{done, started, temperatureStart}
 use Rattle.lamp.proofs.Kept.{start-ready}
 use Rattle.matter.specs.Rules.{signed}
-use Rattle.lamp.specs.Passes.{moved, temperaturePass}
+use Rattle.lamp.specs.Passes.{idled, temperaturePass}
 use Rattle.lamp.specs.declared.Call.{Call}
 use Rattle.commands.specs.Answers.{cause, answer, allowed, commandDone}
 use Rattle.commands.specs.Commands.{CommandEffect, asked, lo, hi, checks, crossed, commandEffect}
@@ -159,8 +157,7 @@ module _ (l : Lamp) (mode : MoveModeEnum) (rate minimum maximum : ℕ) (options 
 
   -- where no two mireds are allowed, it is done at once: the lamp is idle, nothing else but the clock changes, nothing is reported
   pub move-at-once : NoTwo (l .bounds) minimum maximum →
-      answer m (Call.Start task clock)
-      ≡ done (record { lamp = moved (atClock m clock) (m .color) Running.Idle; reported = []; wait = 0 })
+      answer m (Call.Start task clock) ≡ done (idled (atClock m clock))
   unfolding temperatureStart
   move-at-once h = start-is ∙ rw (high-is, low-is, crossed-by _ refl h)
 

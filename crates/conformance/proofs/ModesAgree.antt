@@ -26,7 +26,7 @@ use Rattle.tasks.specs.declared.Task.{Task}
 use Rattle.tasks.specs.Valid.{deltaGiven, saturationGiven}
 use Rattle.lamp.specs.declared.Lamp.{Lamp}
 use Rattle.lamp.specs.Making.{freshLamp}
-use Rattle.lamp.specs.Passes.{atEnd, hueNow, hueMoved, saturationNow, saturationMoved, hueSaturationPass, miredsNow, temperatureToPass}
+use Rattle.lamp.specs.Passes.{atEnd, hueNow, hueMoved, saturationNow, saturationMoved, hueSaturationPass, miredsNow, temperatureToPass, hueSaturationMoved, temperatureToMoved, timed}
 use Rattle.lamp.specs.declared.Call.{Call}
 use Rattle.commands.specs.Answers.{cause, answer, isLoopSet, commandDone}
 use Rattle.commands.specs.Commands.{commandEffect}
@@ -130,7 +130,7 @@ hue-kept true = refl
 hue-kept false = refl
 
 module _ (c : Color) (start first p clock : ℕ) (enhanced : Bool) (over : atEnd p ≡ true) (agree : modesAgree (c .mode) (c .emode) ≡ true) where
-  end-by : (delta : HueDelta) (saturation : TargetSaturation) → (deltaGiven delta || saturationGiven saturation) ≡ true → modesOf (saturationMoved (hueMoved c delta start p enhanced clock) saturation first p clock) ≡ moveToModes delta enhanced (modesOf c)
+  end-by : (delta : HueDelta) (saturation : TargetSaturation) → (deltaGiven delta || saturationGiven saturation) ≡ true → modesOf (saturationMoved (hueMoved c delta start p enhanced clock .color) saturation first p clock .color) ≡ moveToModes delta enhanced (modesOf c)
   end-by HueDelta.Keep TargetSaturation.Keep g = absurd (true≢false (sym g))
   end-by HueDelta.Keep (TargetSaturation.To target) g =
       saturation-modes c (saturationNow first target p) (atEnd p) clock agree (at-end (c .saturation) (saturationNow first target p) p over)
@@ -144,13 +144,13 @@ module _ (c : Color) (start first p clock : ℕ) (enhanced : Bool) (over : atEnd
       ∙ hue-kept enhanced
 
 pub end-modes : (l : Lamp) (run : HueSaturationRun) (p : ℕ) → atEnd p ≡ true → modesAgree (l .color .mode) (l .color .emode) ≡ true → (deltaGiven (run .task .delta) || saturationGiven (run .task .saturation)) ≡ true → modesOf (hueSaturationPass l run p .lamp .color) ≡ taskModes (Task.HueSaturationMoveTo (run .task)) (modesOf (l .color))
-unfolding hueSaturationPass
+unfolding hueSaturationMoved timed
 end-modes l run p over agree g =
     end-by (l .color) (run .hue) (run .saturation) p (l .clock) (run .task .enhanced) over agree (run .task .delta) (run .task .saturation) g
 
 -- and of a move to mireds
 pub end-temperature-modes : (l : Lamp) (run : ColorTemperatureToRun) (p : ℕ) → atEnd p ≡ true → modesOf (temperatureToPass l run p .lamp .color) ≡ temperatureModes
-unfolding temperatureToPass
+unfolding temperatureToMoved timed
 end-temperature-modes l run p over =
     mireds-modes (l .color) (miredsNow (l .bounds) (run .mireds) (run .task .target) p) (atEnd p) (l .clock) (at-end (l .color .mireds) (miredsNow (l .bounds) (run .mireds) (run .task .target) p) p over)
 

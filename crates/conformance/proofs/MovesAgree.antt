@@ -34,7 +34,7 @@ use Rattle.matter.specs.Bounds.{lower, upper}
 use Rattle.lamp.specs.Calls.{temperatureStart, started, stepped}
 use Rattle.lamp.proofs.Kept.{valid-clock}
 use Rattle.matter.specs.Rules.{signed}
-use Rattle.lamp.specs.Passes.{Effect, saturationDone, miredsDone, huePass, saturationPass, temperaturePass, loopPass}
+use Rattle.lamp.specs.Passes.{Effect, saturationDone, miredsDone, huePass, saturationPass, temperaturePass, loopPass, huePassed, loopPassed, saturationPassed, temperaturePassed}
 use Rattle.lamp.specs.declared.Call.{Call}
 use Rattle.commands.specs.Answers.{cause, answer}
 use Rattle.conformance.specs.Started.{Ran, Lasts, saved}
@@ -64,7 +64,7 @@ module _ (x : Lamp) where
       huePass x run .lamp .color .hue
       ≡ hueMoveTo (run .task .direction) enhancedHueMaximum (stepsMade (run .task .rate) (x .clock - run .start))
       (run .hue)
-  unfolding huePass
+  unfolding huePassed
   hue-pass run t h =
       hue-is-set (x .color)
       (movedHue (run .hue) (deltaAtRate (signed (run .task .direction) (run .task .rate)) (x .clock - run .start))) false
@@ -75,7 +75,7 @@ module _ (x : Lamp) where
       saturationPass x run .lamp .color .saturation
       ≡ moveTo (run .task .direction) 0 saturationMaximum (stepsMade (run .task .rate) (x .clock - run .start))
       (run .saturation)
-  unfolding saturationPass
+  unfolding saturationPassed
   saturation-pass run t h =
       let now : ℕ = saturationAt run (x .clock) in
       saturation-is-set (x .color) now (saturationDone (run .task .direction) now) (x .clock)
@@ -86,7 +86,7 @@ module _ (x : Lamp) where
       x .clock ≤ clockLimit → run .lo ≤ run .mireds → run .mireds ≤ run .hi →
       temperaturePass x run .lamp .color .mireds
       ≡ moveTo mode (run .lo) (run .hi) (stepsMade rate (x .clock - run .start)) (run .mireds)
-  unfolding temperaturePass
+  unfolding temperaturePassed
   mireds-pass run mode rate e t low high =
       let now : ℕ = miredsAt run (x .clock) in
       mireds-is-set (x .color) now (miredsDone (run .rate) (run .lo) (run .hi) now) (x .clock)
@@ -97,7 +97,7 @@ module _ (x : Lamp) where
       loopPass x run .lamp .color .hue
       ≡ hueMoveTo (turnMode (run .task .direction)) enhancedHueMaximum
       (loopTurn (x .clock - run .start) (run .task .seconds)) (run .hue)
-  unfolding loopPass
+  unfolding loopPassed
   loop-pass run h =
       hue-is-set (x .color)
       (movedHue (run .hue) (loopDelta (run .task .direction) (x .clock - run .start) (run .task .seconds))) false true
@@ -121,7 +121,7 @@ module _ (l : Lamp) (clock : ℕ) (accepted : cause l (Call.Step clock) ≡ 0) w
 
   pub hue-move-goes-on : (run : HueRun) → l .running ≡ Running.HueMove run →
       answer l (Call.Step clock) .lamp .running ≡ Running.HueMove run
-  unfolding stepped huePass
+  unfolding stepped huePassed
   hue-move-goes-on run e =
       step-by l (Running.HueMove run) clock (λ y. y .running ≡ Running.HueMove run) e accepted (λ f g. refl)
 
@@ -225,7 +225,7 @@ module _ (m : Lamp) (begun : ℕ) where
       (clock : ℕ) → Lasts n clock →
       HueAlone (m .color) (n .color)
       (λ a b. b ≡ hueMoveTo (task .direction) enhancedHueMaximum (stepsMade (task .rate) (clock - begun)) a)
-  unfolding started stepped huePass
+  unfolding started stepped huePassed
   hue-move-follows task small =
       hue-goes-on (Task.HueMove task)
       (λ e. hueMoveTo (task .direction) enhancedHueMaximum (stepsMade (task .rate) e) (m .color .hue)) refl
@@ -249,7 +249,7 @@ module _ (m : Lamp) (begun : ℕ) where
         Lasts (saturationPass x saturationRun .lamp) clock →
         moveTo (task .direction) 0 254 (stepsMade (task .rate) (clock - begun)) (m .color .saturation)
         ≡ moveTo (task .direction) 0 254 (stepsMade (task .rate) (x .clock - begun)) (m .color .saturation)
-    unfolding saturationPass
+    unfolding saturationPassed
     saturation-later x t clock lasts =
         let now : ℕ = saturationAt saturationRun (x .clock) in
         let e : now ≡ moveTo (task .direction) 0 254 (stepsMade (task .rate) (x .clock - begun))
@@ -270,7 +270,7 @@ module _ (m : Lamp) (begun : ℕ) where
     saturation-follows : (x : Lamp) → x .clock ≤ clockLimit → x .color .hue ≡ m .color .hue →
         x .color .mireds ≡ m .color .mireds →
         SaturationFollows (saturationPass x saturationRun .lamp)
-    unfolding saturationPass
+    unfolding saturationPassed
     saturation-follows x t h r clock lasts =
         let now : ℕ = saturationAt saturationRun (x .clock) in
         let end : Bool = saturationDone (task .direction) now in
@@ -316,7 +316,7 @@ module _ (m : Lamp) (begun : ℕ) where
 
     mireds-later : (x : Lamp) → x .clock ≤ clockLimit → (clock : ℕ) → Lasts (temperaturePass x miredsRun .lamp) clock →
         miredsBy (clock - begun) ≡ miredsBy (x .clock - begun)
-    unfolding temperaturePass
+    unfolding temperaturePassed
     mireds-later x t clock lasts =
         let now : ℕ = miredsAt miredsRun (x .clock) in
         let e : now ≡ miredsBy (x .clock - begun) =
@@ -337,7 +337,7 @@ module _ (m : Lamp) (begun : ℕ) where
     mireds-follow : (x : Lamp) → x .clock ≤ clockLimit → x .color .hue ≡ m .color .hue →
         x .color .saturation ≡ m .color .saturation →
         MiredsFollow (temperaturePass x miredsRun .lamp)
-    unfolding temperaturePass
+    unfolding temperaturePassed
     mireds-follow x t h s clock lasts =
         let now : ℕ = miredsAt miredsRun (x .clock) in
         let end : Bool = miredsDone (signed mode rate) (lower (m .bounds) min) (upper (m .bounds) max) now in
@@ -378,7 +378,7 @@ module _ (m : Lamp) (begun : ℕ) where
       (clock : ℕ) → Lasts n clock →
       HueAlone (m .color) (n .color)
       (λ a b. b ≡ hueMoveTo (turnMode (task .direction)) enhancedHueMaximum (loopTurn (clock - begun) (task .seconds)) a)
-  unfolding started stepped loopPass
+  unfolding started stepped loopPassed
   loop-follows task small =
       hue-goes-on (Task.ColorLoop task)
       (λ e. hueMoveTo (turnMode (task .direction)) enhancedHueMaximum (loopTurn e (task .seconds)) (m .color .hue)) refl

@@ -1,15 +1,14 @@
 -- The lamps that an accepted start and accepted steps after it leave; what the start saves, and that the steps run it
 -- till nothing runs.
-use Prim.Native.Nat.{ℕ, _-_, _≤_}
+use Prim.Native.Nat.{ℕ, _-_}
 use mathlib.Core.Bool.{Bool, true, false, true≢false}
 use mathlib.Core.Logic.{_⊎_, inl, inr}
 use mathlib.Core.Path.{_≡_, refl, sym, ap, subst, _∙_}
 use native.Mathlib.Omega.{arith}
 use lib.Dec.{leb}
-use lib.IntN.{pos}
 use Rattle.matter.proofs.Laws.{cond-both}
 use Rattle.matter.specs.Limits.{saturationLimit}
-use Rattle.progress.specs.Progress.{deltaAtRate, clamp, clampedSum}
+use Rattle.progress.specs.Progress.{deltaAtRate, clampedSum}
 use Rattle.tasks.specs.declared.ColorTemperatureRun.{ColorTemperatureRun}
 use Rattle.tasks.specs.declared.ColorTemperatureToRun.{ColorTemperatureToRun}
 use Rattle.tasks.specs.declared.HueSaturationRun.{HueSaturationRun}
@@ -25,11 +24,12 @@ use Rattle.lamp.specs.Calls.{hueSaturationStart, temperatureToStart, temperatur
 use Rattle.lamp.specs.Valid.{lampValid}
 use Rattle.lamp.proofs.Kept.{valid-running, start-ready}
 use Rattle.matter.specs.Rules.{signed}
-use Rattle.lamp.specs.Passes.{Effect, unless, atEnd, saturationDone, miredsDone, hueSaturationPass, temperatureToPass, huePass, saturationPass, temperaturePass, loopPass}
+use Rattle.lamp.specs.declared.passes.Found.{Found}
+use Rattle.lamp.specs.Passes.{Effect, foundIn, unless, hueSaturationPassed, temperatureToPassed, huePassed, saturationPassed, temperaturePassed, loopPassed}
 use Rattle.lamp.specs.declared.Call.{Call}
 use Rattle.commands.specs.Answers.{cause, answer, granted}
 use Rattle.commands.proofs.Kept.{answer-both, granted-ready}
-use Rattle.conformance.specs.Started.{Ran, began, went, Lasts, saved}
+use Rattle.conformance.specs.Started.{Ran, began, went, saved}
 use Rattle.commands.proofs.Table.{step-7, step-8}
 
 -- it runs on, or nothing does
@@ -48,39 +48,36 @@ saturationAt run clock =
 abbrev pub miredsAt : ColorTemperatureRun → ℕ → ℕ
 miredsAt run clock = clampedSum (run .lo) (run .hi) (run .mireds) (deltaAtRate (run .rate) (clock - run .start))
 
-module _ (x : Lamp) where
+module _ (f : Found) where
   move-to-so : (run : HueSaturationRun) (p : ℕ) →
-      OnOrIdle (Running.HueSaturationMoveTo run) (hueSaturationPass x run p .lamp .running)
-  unfolding hueSaturationPass
-  move-to-so run p = unless-so (atEnd p) _
+      OnOrIdle (Running.HueSaturationMoveTo run) (unless (hueSaturationPassed f run p .ends) (Running.HueSaturationMoveTo run))
+  move-to-so run p = unless-so (hueSaturationPassed f run p .ends) _
 
-  saturation-so : (run : SaturationRun) → OnOrIdle (Running.SaturationMove run) (saturationPass x run .lamp .running)
-  unfolding saturationPass
-  saturation-so run = unless-so (saturationDone (run .task .direction) (saturationAt run (x .clock))) _
+  saturation-so : (run : SaturationRun) →
+      OnOrIdle (Running.SaturationMove run) (unless (saturationPassed f run .ends) (Running.SaturationMove run))
+  saturation-so run = unless-so (saturationPassed f run .ends) _
 
   mireds-to-so : (run : ColorTemperatureToRun) (p : ℕ) →
-      OnOrIdle (Running.ColorTemperatureMoveTo run) (temperatureToPass x run p .lamp .running)
-  unfolding temperatureToPass
-  mireds-to-so run p = unless-so (atEnd p) _
+      OnOrIdle (Running.ColorTemperatureMoveTo run) (unless (temperatureToPassed f run p .ends) (Running.ColorTemperatureMoveTo run))
+  mireds-to-so run p = unless-so (temperatureToPassed f run p .ends) _
 
   mireds-so : (run : ColorTemperatureRun) →
-      OnOrIdle (Running.ColorTemperatureMove run) (temperaturePass x run .lamp .running)
-  unfolding temperaturePass
-  mireds-so run = unless-so (miredsDone (run .rate) (run .lo) (run .hi) (miredsAt run (x .clock))) _
+      OnOrIdle (Running.ColorTemperatureMove run) (unless (temperaturePassed f run .ends) (Running.ColorTemperatureMove run))
+  mireds-so run = unless-so (temperaturePassed f run .ends) _
 
-  stepped-so : (run : Running) → x .running ≡ run → OnOrIdle run (stepped x run .lamp .running)
-  unfolding stepped huePass loopPass
-  stepped-so Running.Idle e = inl e
-  stepped-so (Running.HueSaturationMoveTo run) e = move-to-so run _
-  stepped-so (Running.HueMove run) e = inl refl
-  stepped-so (Running.SaturationMove run) e = saturation-so run
-  stepped-so (Running.ColorTemperatureMoveTo run) e = mireds-to-so run _
-  stepped-so (Running.ColorTemperatureMove run) e = mireds-so run
-  stepped-so (Running.ColorLoop direction hue seconds start) e = inl refl
+stepped-so : (x : Lamp) (run : Running) → OnOrIdle run (stepped x run .lamp .running)
+unfolding stepped huePassed loopPassed
+stepped-so x Running.Idle = inl refl
+stepped-so x (Running.HueSaturationMoveTo run) = move-to-so (foundIn x) run _
+stepped-so x (Running.HueMove run) = inl refl
+stepped-so x (Running.SaturationMove run) = saturation-so (foundIn x) run
+stepped-so x (Running.ColorTemperatureMoveTo run) = mireds-to-so (foundIn x) run _
+stepped-so x (Running.ColorTemperatureMove run) = mireds-so (foundIn x) run
+stepped-so x (Running.ColorLoop direction hue seconds start) = inl refl
 
 started-so : (m : Lamp) (clock : ℕ) (task : Task) → taskValid task ≡ true →
     OnOrIdle (saved m task clock) (started (atClock m clock) task .lamp .running)
-unfolding started hueSaturationStart temperatureToStart temperatureStart huePass loopPass taskValid
+unfolding started hueSaturationStart temperatureToStart temperatureStart huePassed loopPassed taskValid
 started-so m clock (Task.HueSaturationMoveTo task) t = move-to-so _ _ _
 started-so m clock (Task.HueMove task) t = inl refl
 started-so m clock (Task.SaturationMove task) t = saturation-so _ _
@@ -143,7 +140,7 @@ module _ (m : Lamp) (task : Task) (begun : ℕ) where
   ran-saves n (went {x} clock r z) =
       let on : x .running ≡ saved m task begun = step-runs x (saved m task begun) clock (ran-saves x r) z in
       step-by x (saved m task begun) clock (λ y. OnOrIdle (saved m task begun) (y .running)) on z
-      (λ f g. stepped-so (atClock x clock) (saved m task begun) on)
+      (λ f g. stepped-so (atClock x clock) (saved m task begun))
 
   -- and what was saved, where it takes another step
   pub ran-runs : (n : Lamp) (clock : ℕ) → Ran m task begun n → cause n (Call.Step clock) ≡ 0 →

@@ -2,7 +2,7 @@
 -- exactly where the text allows it, by its setter and in every accepted step. Where the port reports more, or less.
 use Prim.Native.Nat.{ℕ, zero, suc, _+_, _-_, _<_}
 use mathlib.Core.Bool.{Bool, true, false, not, cond, _&&_, true≢false, _||_, or-true, or-false, or-assoc, and-true, and-false}
-use mathlib.Core.List.{List, [], _∷_, _++_, append-assoc}
+use mathlib.Core.List.{List, [], _∷_, _++_}
 use mathlib.Core.Path.{_≡_, refl, sym, ap, subst, _∙_}
 use native.Mathlib.Omega.{arith}
 use lib.Dec.{ltb, eqb}
@@ -15,7 +15,7 @@ use Rattle.matter.proofs.Laws.{and-left, and-right, or-left, or-right, cond-bot
 use Rattle.notices.specs.Notices.{only, filled}
 use Rattle.notices.specs.Names.{CurrentHue, EnhancedCurrentHue, CurrentSaturation, ColorTemperatureMireds, ColorMode, EnhancedColorMode, RemainingTime, markedDirty, scenesNotified, deviceHueSaturation, deviceMireds}
 use Rattle.color.specs.declared.Color.{Color}
-use Rattle.color.specs.Setters.{due, same, changeNotices, hueSet, hueReported, saturationSet, saturationReported, miredsSet, miredsReported}
+use Rattle.color.specs.Setters.{due, same, changeReported, changeOf, hueSet, hueReported, saturationSet, saturationReported, miredsSet, miredsReported}
 use Rattle.progress.specs.Progress.{permilleOf, tenthsOf, deltaAtRate, clampedSum, loopDelta}
 use Rattle.hue.specs.Hue.{movedHue}
 use Rattle.remaining_time.specs.RemainingTime.{apart, reported}
@@ -34,7 +34,8 @@ use Rattle.lamp.specs.declared.Lamp.{Lamp}
 use Rattle.lamp.specs.Answers.{atClock}
 use Rattle.lamp.specs.Calls.{done, stepped}
 use Rattle.matter.specs.Rules.{signed}
-use Rattle.lamp.specs.Passes.{Effect, unless, atEnd, hueNow, hueMoved, hueMovedReported, saturationNow, saturationMoved, saturationMovedReported, leftWritten, miredsNow, saturationDone, miredsDone, hueSaturationPass, temperatureToPass, huePass, saturationPass, temperaturePass, loopPass}
+use Rattle.lamp.specs.declared.passes.Passed.{Passed}
+use Rattle.lamp.specs.Passes.{Effect, foundIn, reportedBehind, unless, atEnd, hueNow, hueMoved, saturationNow, saturationMoved, miredsNow, saturationDone, miredsDone, hueSaturationPassed, temperatureToPassed, hueSaturationMoved, temperatureToMoved, timed, huePassed, saturationPassed, temperaturePassed, loopPassed}
 use Rattle.lamp.specs.declared.Call.{Call}
 use Rattle.commands.specs.Answers.{cause, answer}
 use Rattle.conformance.proofs.SettersSet.{hue-is-set, saturation-is-set, mireds-is-set}
@@ -126,24 +127,24 @@ but-for : (n : ℕ) (reported rest : List ℕ) → reports n rest ≡ false → 
 but-for n reported rest none = reports-both n reported rest ∙ rw none (or-false (reports n reported))
 
 -- of a change, its attributes and the modes are reported exactly where the change is due
-module _ (n : ℕ) (attributes : List ℕ) (other : reports n (markedDirty ∷ scenesNotified ∷ []) ≡ false) where
+module _ (n attribute : ℕ) (enhanced : Bool) (other : reports n (markedDirty ∷ scenesNotified ∷ []) ≡ false) where
   abbrev noticed : List ℕ
-  noticed = attributes ++ (ColorMode ∷ EnhancedColorMode ∷ [])
+  noticed = (attribute ∷ only enhanced EnhancedCurrentHue) ++ (ColorMode ∷ EnhancedColorMode ∷ [])
 
   last-by : (d : Bool) → reports n (cond d noticed [] ++ (scenesNotified ∷ [])) ≡ d && reports n noticed
   last-by true = but-for n noticed (scenesNotified ∷ []) (or-right (eqb n markedDirty) (reports n (scenesNotified ∷ [])) other)
   last-by false = or-right (eqb n markedDirty) (reports n (scenesNotified ∷ [])) other
 
-  notices-by : (s a d : Bool) → reports n (cond s [] (changeNotices a d attributes)) ≡ not s && (d && reports n noticed)
+  notices-by : (s a d : Bool) → reports n (changeReported (changeOf s d attribute enhanced) a) ≡ not s && (d && reports n noticed)
   notices-by true a d = refl
   notices-by false true d = last-by d
   notices-by false false d = rw (or-left (eqb n markedDirty) (reports n (scenesNotified ∷ [])) other) (last-by d)
 
-  change-by : reports n noticed ≡ true → (s a d : Bool) → reports n (cond s [] (changeNotices a d attributes)) ≡ not s && d
+  change-by : reports n noticed ≡ true → (s a d : Bool) → reports n (changeReported (changeOf s d attribute enhanced) a) ≡ not s && d
   change-by has s a d = notices-by s a d ∙ rw (has, and-true d)
 
   -- and no other
-  no-change-by : reports n noticed ≡ false → (s a d : Bool) → reports n (cond s [] (changeNotices a d attributes)) ≡ false
+  no-change-by : reports n noticed ≡ false → (s a d : Bool) → reports n (changeReported (changeOf s d attribute enhanced) a) ≡ false
   no-change-by none s a d = notices-by s a d ∙ rw (none, and-false d, and-false (not s))
 
 -- of a hue, CurrentHue is reported, and with it EnhancedCurrentHue where the move is an enhanced one
@@ -152,17 +153,9 @@ pub data HueNotice : ℕ → Bool → Type 0 where
   ofEnhancedCurrentHue : HueNotice EnhancedCurrentHue true
 
 hue-by : {n : ℕ} {enhanced : Bool} → HueNotice n enhanced → (s a d : Bool) →
-    reports n (cond s [] (changeNotices a d (CurrentHue ∷ only enhanced EnhancedCurrentHue))) ≡ not s && d
-hue-by (ofCurrentHue enhanced) = change-by CurrentHue (CurrentHue ∷ only enhanced EnhancedCurrentHue) refl refl
-hue-by ofEnhancedCurrentHue = change-by EnhancedCurrentHue (CurrentHue ∷ EnhancedCurrentHue ∷ []) refl refl
-
-saturation-by : (s a d : Bool) →
-    reports CurrentSaturation (cond s [] (changeNotices a d (CurrentSaturation ∷ []))) ≡ not s && d
-saturation-by = change-by CurrentSaturation (CurrentSaturation ∷ []) refl refl
-
-mireds-by : (s a d : Bool) →
-    reports ColorTemperatureMireds (cond s [] (changeNotices a d (ColorTemperatureMireds ∷ []))) ≡ not s && d
-mireds-by = change-by ColorTemperatureMireds (ColorTemperatureMireds ∷ []) refl refl
+    reports n (changeReported (changeOf s d CurrentHue enhanced) a) ≡ not s && d
+hue-by (ofCurrentHue enhanced) = change-by CurrentHue CurrentHue enhanced refl refl
+hue-by ofEnhancedCurrentHue = change-by EnhancedCurrentHue CurrentHue true refl refl
 
 -- a notice of a number that becomes another is one that may be reported, and of a change each that may be is reported
 pub record ReportedAs (notice : ℕ) (reported : List ℕ) (old new stamp clock : ℕ) (end : Bool) : Type 0 where
@@ -184,18 +177,15 @@ reported-as n reported old new stamp clock end e =
 module _ (c : Color) (new : ℕ) (end : Bool) (clock : ℕ) (active : Bool) where
   hue-change-reported : {n : ℕ} {enhanced : Bool} → HueNotice n enhanced →
       ReportedWhere n (hueReported c new end enhanced clock active) (c .hue) new (c .stamps .hue) clock end
-  unfolding hueReported
   hue-change-reported h = hue-by h (same (c .hue) new end) active (due end (c .stamps .hue) clock)
 
   saturation-change-reported : ReportedWhere CurrentSaturation (saturationReported c new end clock active) (c .saturation) new
       (c .stamps .saturation) clock end
-  unfolding saturationReported
-  saturation-change-reported = saturation-by (same (c .saturation) new end) active (due end (c .stamps .saturation) clock)
+  saturation-change-reported = change-by CurrentSaturation CurrentSaturation false refl refl (same (c .saturation) new end) active (due end (c .stamps .saturation) clock)
 
   mireds-change-reported : ReportedWhere ColorTemperatureMireds (miredsReported c new end clock active) (c .mireds) new
       (c .stamps .mireds) clock end
-  unfolding miredsReported
-  mireds-change-reported = mireds-by (same (c .mireds) new end) active (due end (c .stamps .mireds) clock)
+  mireds-change-reported = change-by ColorTemperatureMireds ColorTemperatureMireds false refl refl (same (c .mireds) new end) active (due end (c .stamps .mireds) clock)
 
   pub hue-reported : {n : ℕ} {enhanced : Bool} → HueNotice n enhanced →
       ReportedAs n (hueReported c new end enhanced clock active) (c .hue) new (c .stamps .hue) clock end
@@ -252,17 +242,13 @@ module _ (c : Color) (clock later : ℕ) (soon : later < clock + 1000) (end : Bo
 
 -- ---- where the port reports more, or less
 
-mode-by : (s a d e : Bool) → reports ColorMode (cond s [] (changeNotices a d (CurrentHue ∷ only e EnhancedCurrentHue))) ≡ not s && d
-mode-by s a d true = change-by ColorMode (CurrentHue ∷ EnhancedCurrentHue ∷ []) refl refl s a d
-mode-by s a d false = change-by ColorMode (CurrentHue ∷ []) refl refl s a d
-
-plain-by : (s a d : Bool) → reports EnhancedCurrentHue (cond s [] (changeNotices a d (CurrentHue ∷ []))) ≡ false
-plain-by = no-change-by EnhancedCurrentHue (CurrentHue ∷ []) refl refl
+mode-by : (s a d e : Bool) → reports ColorMode (changeReported (changeOf s d CurrentHue e) a) ≡ not s && d
+mode-by s a d true = change-by ColorMode CurrentHue true refl refl s a d
+mode-by s a d false = change-by ColorMode CurrentHue false refl refl s a d
 
 module _ (c : Color) (clock : ℕ) (active : Bool) where
   -- more: at an end the number is reported though it is the old one, where the text speaks of changes. Smallest: hue 0 to 0
   pub unchanged-is-reported : (enhanced : Bool) → reports CurrentHue (hueReported c (c .hue) true enhanced clock active) ≡ true
-  unfolding hueReported
   unchanged-is-reported enhanced =
       hue-by (ofCurrentHue enhanced) (same (c .hue) (c .hue) true) active true ∙ rw (and-false (eqb (c .hue) (c .hue)))
 
@@ -270,14 +256,14 @@ module _ (c : Color) (clock : ℕ) (active : Bool) where
     -- less: the modes change with the number and are withheld with it, where the text limits no report of ColorMode or
     -- EnhancedColorMode. Smallest: in XY mode, from hue 0 to 1 at clock 999, the last notice being at 0
     pub mode-unreported : (enhanced : Bool) → clock < c .stamps .hue + 1000 → (hueSet c new false enhanced clock .mode ≡ ColorModeEnum.CurrentHueAndCurrentSaturation) × (reports ColorMode (hueReported c new false enhanced clock active) ≡ false)
-    unfolding hueSet hueReported
+    unfolding hueSet
     mode-unreported enhanced h =
         (rw (ne-eqb (c .hue) new moved), mode-by (same (c .hue) new false) active (due false (c .stamps .hue) clock) enhanced ∙ rw (ne-eqb (c .hue) new moved, lt-leb (c .stamps .hue + 1000) clock h))
 
   -- less: a plain move reports no EnhancedCurrentHue, which it changes
   pub enhanced-unreported : (new : ℕ) (end : Bool) → reports EnhancedCurrentHue (hueReported c new end false clock active) ≡ false
-  unfolding hueReported
-  enhanced-unreported new end = plain-by (same (c .hue) new end) active (due end (c .stamps .hue) clock)
+  enhanced-unreported new end =
+      no-change-by EnhancedCurrentHue CurrentHue false refl refl (same (c .hue) new end) active (due end (c .stamps .hue) clock)
 
 -- ---- over calls: an accepted step reports an attribute exactly where it may be reported, whatever moves it
 
@@ -318,11 +304,10 @@ apart-from ofEnhancedCurrentHue = (refl, refl, refl, refl, refl)
 no-saturation : (n : ℕ) → reports n (CurrentSaturation ∷ ColorMode ∷ EnhancedColorMode ∷ []) ≡ false →
     reports n (markedDirty ∷ scenesNotified ∷ []) ≡ false →
     (c : Color) (t : TargetSaturation) (first p clock : ℕ) (active : Bool) →
-    reports n (saturationMovedReported c t first p clock active) ≡ false
-unfolding saturationReported
+    reports n (changeReported (saturationMoved c t first p clock .change) active) ≡ false
 no-saturation n none other c TargetSaturation.Keep first p clock active = refl
 no-saturation n none other c (TargetSaturation.To target) first p clock active =
-    no-change-by n (CurrentSaturation ∷ []) other none
+    no-change-by n CurrentSaturation false other none
     (same (c .saturation) (saturationNow first target p) (atEnd p)) active (due (atEnd p) (c .stamps .saturation) clock)
 
 -- nor is CurrentSaturation of a hue, which leaves its number and stamp
@@ -333,16 +318,15 @@ no-hue-by true = refl
 no-hue-by false = refl
 
 no-hue : (c : Color) (d : HueDelta) (first p : ℕ) (enhanced : Bool) (clock : ℕ) (active : Bool) →
-    reports CurrentSaturation (hueMovedReported c d first p enhanced clock active) ≡ false
-unfolding hueReported
+    reports CurrentSaturation (changeReported (hueMoved c d first p enhanced clock .change) active) ≡ false
 no-hue c HueDelta.Keep first p enhanced clock active = refl
 no-hue c (HueDelta.By way) first p enhanced clock active =
-    no-change-by CurrentSaturation (CurrentHue ∷ only enhanced EnhancedCurrentHue) refl (no-hue-by enhanced)
+    no-change-by CurrentSaturation CurrentHue enhanced refl (no-hue-by enhanced)
     (same (c .hue) (hueNow first way p) (atEnd p)) active (due (atEnd p) (c .stamps .hue) clock)
 
 hue-leaves-stamp : (c : Color) (d : HueDelta) (first p : ℕ) (enhanced : Bool) (clock : ℕ) →
-    (hueMoved c d first p enhanced clock .saturation ≡ c .saturation)
-    × (hueMoved c d first p enhanced clock .stamps .saturation ≡ c .stamps .saturation)
+    (hueMoved c d first p enhanced clock .color .saturation ≡ c .saturation)
+    × (hueMoved c d first p enhanced clock .color .stamps .saturation ≡ c .stamps .saturation)
 unfolding hueSet
 hue-leaves-stamp c HueDelta.Keep first p enhanced clock = (refl, refl)
 hue-leaves-stamp c (HueDelta.By way) first p enhanced clock =
@@ -359,16 +343,14 @@ module _ (l : Lamp) (clock : ℕ) (accepted : cause l (Call.Step clock) ≡ 0) w
   answer-is : (r : Running) → l .running ≡ r → answer l (Call.Step clock) ≡ done (stepped on r)
   answer-is r e = granted-is l (Call.Step clock) accepted ∙ ap (λ (x : Running). done (stepped on x)) e
 
-  -- a pass that reports these of the number, and besides nothing of the notice
-  reported-by : (n : ℕ) (number stamp : Color → ℕ) (new : ℕ) (end : Bool) (e : Effect) (its rest : List ℕ) →
+  -- a pass whose notices report the number so
+  reported-by : (n : ℕ) (number stamp : Color → ℕ) (new : ℕ) (end : Bool) (e : Effect) →
       answer l (Call.Step clock) ≡ done e → number (e .lamp .color) ≡ new → not (runs (e .lamp .running)) ≡ end →
-      e .reported ≡ its ++ rest → eqb n 0 ≡ false → reports n rest ≡ false →
-      ReportedWhere n its (number (l .color)) new (stamp (l .color)) clock end →
+      eqb n 0 ≡ false → ReportedWhere n (e .reported) (number (l .color)) new (stamp (l .color)) clock end →
       Reported n number stamp l clock (answer l (Call.Step clock))
-  reported-by n number stamp new end e its rest is set over list z none reported =
+  reported-by n number stamp new end e is set over z reported =
       subst (Reported n number stamp l clock) (sym is)
-      (rw (set, over) (reported-as n (filled (e .reported)) _ new _ clock end
-      (ap (λ (x : List ℕ). reports n (filled x)) list ∙ in-places n z (its ++ rest) ∙ but-for n its rest none ∙ reported)))
+      (rw (set, over) (reported-as n (filled (e .reported)) _ new _ clock end (in-places n z (e .reported) ∙ reported)))
 
   -- a pass of the hue alone, which does not end
   hue-alone : (enhanced : Bool) (new : ℕ) (e : Effect) → answer l (Call.Step clock) ≡ done e → e .lamp .color .hue ≡ new →
@@ -377,42 +359,40 @@ module _ (l : Lamp) (clock : ℕ) (accepted : cause l (Call.Step clock) ≡ 0) w
       (n : ℕ) → HueNotice n enhanced → Reported n (λ c. c .hue) (λ c. c .stamps .hue) l clock (answer l (Call.Step clock))
   hue-alone enhanced new e is set over list n h =
       let (z, device, time, others, dirty) = apart-from h in
-      reported-by n (λ c. c .hue) (λ c. c .stamps .hue) new false e
-      (hueReported (l .color) new false enhanced clock (l .looping .active)) (deviceHueSaturation ∷ []) is set over
-      list z device
-      (hue-change-reported (l .color) new false clock (l .looping .active) h)
+      reported-by n (λ c. c .hue) (λ c. c .stamps .hue) new false e is set over z
+      (ap (reports n) list
+      ∙ but-for n (hueReported (l .color) new false enhanced clock (l .looping .active)) (deviceHueSaturation ∷ []) device
+      ∙ hue-change-reported (l .color) new false clock (l .looping .active) h)
 
   -- CurrentHue, and in an enhanced move EnhancedCurrentHue: of a move to a hue, of a move at a rate and of the loop
   pub hue-to-reported : (run : HueSaturationRun) (way : ℤ) → l .running ≡ Running.HueSaturationMoveTo run →
       run .task .delta ≡ HueDelta.By way →
       (n : ℕ) → HueNotice n (run .task .enhanced) →
       Reported n (λ c. c .hue) (λ c. c .stamps .hue) l clock (answer l (Call.Step clock))
-  unfolding stepped hueSaturationPass hueReported
+  unfolding stepped hueSaturationMoved timed
   hue-to-reported run way e d n h =
       let p : ℕ = permilleOf (clock - run .start) (run .task .ms) in
       let is = answer-is (Running.HueSaturationMoveTo run) e in
       let active : Bool = l .looping .active in
-      let hued : Color = hueMoved (l .color) (run .task .delta) (run .hue) p (run .task .enhanced) clock in
-      let its = hueMovedReported (l .color) (run .task .delta) (run .hue) p (run .task .enhanced) clock active in
-      let saturations = saturationMovedReported hued (run .task .saturation) (run .saturation) p clock active in
-      let left : Bool = leftWritten on (atEnd p) (clock - run .start) (run .task .ms) .reported in
+      let hued : Color = hueMoved (l .color) (run .task .delta) (run .hue) p (run .task .enhanced) clock .color in
+      let passed : Passed = hueSaturationPassed (foundIn on) run p in
+      let saturations : List ℕ = changeReported (passed .second) active in
       let (z, device, time, others, dirty) = apart-from h in
       reported-by n (λ c. c .hue) (λ c. c .stamps .hue) (hueNow (run .hue) way p) (atEnd p)
-      (stepped on (Running.HueSaturationMoveTo run)) (its ++ saturations)
-      ((deviceHueSaturation ∷ []) ++ only left RemainingTime) is
+      (stepped on (Running.HueSaturationMoveTo run)) is
       (sym (ap (λ (a : Answer). a .lamp .color .hue) is) ∙ (rw d at (step-shows l clock accepted run e .hue)))
-      (ended-by (atEnd p) (Running.HueSaturationMoveTo run) refl)
-      (append-assoc (its ++ saturations) (deviceHueSaturation ∷ []) (only left RemainingTime)) z
-      (but-for n (deviceHueSaturation ∷ []) (only left RemainingTime) (no-time n time left) ∙ device)
-      (but-for n its saturations
-      (no-saturation n others dirty hued (run .task .saturation) (run .saturation) p clock active)
-      ∙ ap (λ (x : HueDelta). reports n (hueMovedReported (l .color) x (run .hue) p (run .task .enhanced) clock active)) d
+      (ended-by (atEnd p) (Running.HueSaturationMoveTo run) refl) z
+      (but-for n (changeReported (passed .first) active) (reportedBehind passed active)
+      (but-for n (saturations ++ (deviceHueSaturation ∷ [])) (only (passed .time) RemainingTime) (no-time n time (passed .time))
+      ∙ but-for n saturations (deviceHueSaturation ∷ []) device
+      ∙ no-saturation n others dirty hued (run .task .saturation) (run .saturation) p clock active)
+      ∙ ap (λ (x : HueDelta). reports n (changeReported (hueMoved (l .color) x (run .hue) p (run .task .enhanced) clock .change) active)) d
       ∙ hue-change-reported (l .color) (hueNow (run .hue) way p) (atEnd p) clock active h)
 
   pub hue-move-reported : (run : HueRun) → l .running ≡ Running.HueMove run →
       (n : ℕ) → HueNotice n (run .task .enhanced) →
       Reported n (λ c. c .hue) (λ c. c .stamps .hue) l clock (answer l (Call.Step clock))
-  unfolding stepped huePass hueReported
+  unfolding stepped huePassed
   hue-move-reported run e n h =
       let now : ℕ = movedHue (run .hue) (deltaAtRate (signed (run .task .direction) (run .task .rate)) (clock - run .start)) in
       hue-alone (run .task .enhanced) now (stepped on (Running.HueMove run)) (answer-is (Running.HueMove run) e)
@@ -420,7 +400,7 @@ module _ (l : Lamp) (clock : ℕ) (accepted : cause l (Call.Step clock) ≡ 0) w
 
   pub loop-reported : (run : ColorLoopRun) → l .running ≡ loopRunning run →
       (n : ℕ) → HueNotice n true → Reported n (λ c. c .hue) (λ c. c .stamps .hue) l clock (answer l (Call.Step clock))
-  unfolding stepped loopPass hueReported
+  unfolding stepped loopPassed
   loop-reported run e n h =
       let now : ℕ = movedHue (run .hue) (loopDelta (run .task .direction) (clock - run .start) (run .task .seconds)) in
       hue-alone true now (stepped on (loopRunning run)) (answer-is (loopRunning run) e)
@@ -430,69 +410,69 @@ module _ (l : Lamp) (clock : ℕ) (accepted : cause l (Call.Step clock) ≡ 0) w
   pub saturation-to-reported : (run : HueSaturationRun) (target : ℕ) → l .running ≡ Running.HueSaturationMoveTo run →
       run .task .saturation ≡ TargetSaturation.To target →
       Reported CurrentSaturation (λ c. c .saturation) (λ c. c .stamps .saturation) l clock (answer l (Call.Step clock))
-  unfolding stepped hueSaturationPass saturationReported
+  unfolding stepped hueSaturationMoved timed
   saturation-to-reported run target e t =
       let p : ℕ = permilleOf (clock - run .start) (run .task .ms) in
       let n : ℕ = CurrentSaturation in
-      let is = answer-is (Running.HueSaturationMoveTo run) e in
       let active : Bool = l .looping .active in
       let now : ℕ = saturationNow (run .saturation) target p in
-      let hued : Color = hueMoved (l .color) (run .task .delta) (run .hue) p (run .task .enhanced) clock in
-      let its = hueMovedReported (l .color) (run .task .delta) (run .hue) p (run .task .enhanced) clock active in
-      let saturations = saturationMovedReported hued (run .task .saturation) (run .saturation) p clock active in
-      let left : Bool = leftWritten on (atEnd p) (clock - run .start) (run .task .ms) .reported in
+      let hued : Color = hueMoved (l .color) (run .task .delta) (run .hue) p (run .task .enhanced) clock .color in
+      let passed : Passed = hueSaturationPassed (foundIn on) run p in
+      let saturations : List ℕ = changeReported (passed .second) active in
       let (kept, stamp) = hue-leaves-stamp (l .color) (run .task .delta) (run .hue) p (run .task .enhanced) clock in
       reported-by n (λ c. c .saturation) (λ c. c .stamps .saturation) now (atEnd p)
-      (stepped on (Running.HueSaturationMoveTo run)) (its ++ saturations)
-      ((deviceHueSaturation ∷ []) ++ only left RemainingTime) is
-      (ap (λ (x : TargetSaturation). saturationMoved hued x (run .saturation) p clock .saturation) t
+      (stepped on (Running.HueSaturationMoveTo run)) (answer-is (Running.HueSaturationMoveTo run) e)
+      (ap (λ (x : TargetSaturation). saturationMoved hued x (run .saturation) p clock .color .saturation) t
       ∙ saturation-is-set hued now (atEnd p) clock)
-      (ended-by (atEnd p) (Running.HueSaturationMoveTo run) refl)
-      (append-assoc (its ++ saturations) (deviceHueSaturation ∷ []) (only left RemainingTime)) refl
-      (no-time n refl left)
-      (reports-both n its saturations
-      ∙ rw (no-hue (l .color) (run .task .delta) (run .hue) p (run .task .enhanced) clock active)
-      (ap (λ (x : TargetSaturation). reports n (saturationMovedReported hued x (run .saturation) p clock active)) t
+      (ended-by (atEnd p) (Running.HueSaturationMoveTo run) refl) refl
+      (reports-both n (changeReported (passed .first) active) (reportedBehind passed active)
+      ∙ ap (λ (b : Bool). b || reports n (reportedBehind passed active))
+      (no-hue (l .color) (run .task .delta) (run .hue) p (run .task .enhanced) clock active)
+      ∙ but-for n (saturations ++ (deviceHueSaturation ∷ [])) (only (passed .time) RemainingTime) (no-time n refl (passed .time))
+      ∙ but-for n saturations (deviceHueSaturation ∷ []) refl
+      ∙ ap (λ (x : TargetSaturation). reports n (changeReported (saturationMoved hued x (run .saturation) p clock .change) active)) t
       ∙ saturation-change-reported hued now (atEnd p) clock active
       ∙ ap (λ (x : ℕ). not (same x now (atEnd p)) && due (atEnd p) (hued .stamps .saturation) clock) kept
-      ∙ ap (λ (x : ℕ). not (same (l .color .saturation) now (atEnd p)) && due (atEnd p) x clock) stamp))
+      ∙ ap (λ (x : ℕ). not (same (l .color .saturation) now (atEnd p)) && due (atEnd p) x clock) stamp)
 
   pub saturation-move-reported : (run : SaturationRun) → l .running ≡ Running.SaturationMove run →
       Reported CurrentSaturation (λ c. c .saturation) (λ c. c .stamps .saturation) l clock (answer l (Call.Step clock))
-  unfolding stepped saturationPass saturationReported
+  unfolding stepped saturationPassed
   saturation-move-reported run e =
       let now : ℕ = clampedSum 0 saturationLimit (run .saturation) (deltaAtRate (signed (run .task .direction) (run .task .rate)) (clock - run .start)) in
       let end : Bool = saturationDone (run .task .direction) now in
+      let active : Bool = l .looping .active in
       reported-by CurrentSaturation (λ c. c .saturation) (λ c. c .stamps .saturation) now end
-      (stepped on (Running.SaturationMove run)) (saturationReported (l .color) now end clock (l .looping .active))
-      (deviceHueSaturation ∷ []) (answer-is (Running.SaturationMove run) e)
-      (saturation-is-set (l .color) now end clock) (ended-by end (Running.SaturationMove run) refl) refl refl refl
-      (saturation-change-reported (l .color) now end clock (l .looping .active))
+      (stepped on (Running.SaturationMove run)) (answer-is (Running.SaturationMove run) e)
+      (saturation-is-set (l .color) now end clock) (ended-by end (Running.SaturationMove run) refl) refl
+      (but-for CurrentSaturation (saturationReported (l .color) now end clock active) (deviceHueSaturation ∷ []) refl
+      ∙ saturation-change-reported (l .color) now end clock active)
 
   -- ColorTemperatureMireds: of a move to mireds, and of a move at a rate
   pub mireds-to-reported : (run : ColorTemperatureToRun) → l .running ≡ Running.ColorTemperatureMoveTo run →
       Reported ColorTemperatureMireds (λ c. c .mireds) (λ c. c .stamps .mireds) l clock (answer l (Call.Step clock))
-  unfolding stepped temperatureToPass miredsReported
+  unfolding stepped temperatureToMoved timed
   mireds-to-reported run e =
       let p : ℕ = permilleOf (clock - run .start) (run .task .ms) in
       let now : ℕ = miredsNow (l .bounds) (run .mireds) (run .task .target) p in
-      let its = miredsReported (l .color) now (atEnd p) clock (l .looping .active) in
-      let left : Bool = leftWritten on (atEnd p) (clock - run .start) (run .task .ms) .reported in
+      let active : Bool = l .looping .active in
+      let left : Bool = temperatureToPassed (foundIn on) run p .time in
       reported-by ColorTemperatureMireds (λ c. c .mireds) (λ c. c .stamps .mireds) now (atEnd p)
-      (stepped on (Running.ColorTemperatureMoveTo run)) its ((deviceMireds ∷ []) ++ only left RemainingTime)
-      (answer-is (Running.ColorTemperatureMoveTo run) e) (mireds-is-set (l .color) now (atEnd p) clock)
-      (ended-by (atEnd p) (Running.ColorTemperatureMoveTo run) refl)
-      (append-assoc its (deviceMireds ∷ []) (only left RemainingTime)) refl
-      (no-time ColorTemperatureMireds refl left) (mireds-change-reported (l .color) now (atEnd p) clock (l .looping .active))
+      (stepped on (Running.ColorTemperatureMoveTo run)) (answer-is (Running.ColorTemperatureMoveTo run) e)
+      (mireds-is-set (l .color) now (atEnd p) clock) (ended-by (atEnd p) (Running.ColorTemperatureMoveTo run) refl) refl
+      (but-for ColorTemperatureMireds (miredsReported (l .color) now (atEnd p) clock active)
+      ((deviceMireds ∷ []) ++ only left RemainingTime) (no-time ColorTemperatureMireds refl left)
+      ∙ mireds-change-reported (l .color) now (atEnd p) clock active)
 
   pub mireds-move-reported : (run : ColorTemperatureRun) → l .running ≡ Running.ColorTemperatureMove run →
       Reported ColorTemperatureMireds (λ c. c .mireds) (λ c. c .stamps .mireds) l clock (answer l (Call.Step clock))
-  unfolding stepped temperaturePass miredsReported
+  unfolding stepped temperaturePassed
   mireds-move-reported run e =
       let now : ℕ = clampedSum (run .lo) (run .hi) (run .mireds) (deltaAtRate (run .rate) (clock - run .start)) in
       let end : Bool = miredsDone (run .rate) (run .lo) (run .hi) now in
+      let active : Bool = l .looping .active in
       reported-by ColorTemperatureMireds (λ c. c .mireds) (λ c. c .stamps .mireds) now end
-      (stepped on (Running.ColorTemperatureMove run)) (miredsReported (l .color) now end clock (l .looping .active))
-      (deviceMireds ∷ []) (answer-is (Running.ColorTemperatureMove run) e)
-      (mireds-is-set (l .color) now end clock) (ended-by end (Running.ColorTemperatureMove run) refl) refl refl refl
-      (mireds-change-reported (l .color) now end clock (l .looping .active))
+      (stepped on (Running.ColorTemperatureMove run)) (answer-is (Running.ColorTemperatureMove run) e)
+      (mireds-is-set (l .color) now end clock) (ended-by end (Running.ColorTemperatureMove run) refl) refl
+      (but-for ColorTemperatureMireds (miredsReported (l .color) now end clock active) (deviceMireds ∷ []) refl
+      ∙ mireds-change-reported (l .color) now end clock active)

@@ -31,10 +31,11 @@ use Rattle.tasks.specs.Runs.{runs}
 use Rattle.tasks.specs.Valid.{moveToValid, runningValid, saturationValid, taskValid, timeValid, withinBounds}
 use Rattle.lamp.specs.declared.Lamp.{Lamp}
 use Rattle.lamp.specs.Answers.{atClock}
-use Rattle.lamp.specs.Calls.{started, stepped, hueSaturationStart, temperatureToStart, startPermille, noHueDelta, noSaturationDelta, fullWritten}
+use Rattle.lamp.specs.Calls.{started, stepped, hueSaturationStart, temperatureToStart, startPermille, noHueDelta, noSaturationDelta}
 use Rattle.lamp.specs.Valid.{lampValid}
 use Rattle.lamp.proofs.Kept.{valid-color}
-use Rattle.lamp.specs.Passes.{atEnd, unless, hueMoved, saturationMoved, saturationNow, miredsNow, hueNow, remainingSet, hueSaturationPass, temperatureToPass}
+use Rattle.lamp.proofs.Passed.{withFullTime}
+use Rattle.lamp.specs.Passes.{atEnd, unless, hueMoved, saturationMoved, saturationNow, miredsNow, hueNow, hueSaturationPass, temperatureToPass, hueSaturationMoved, temperatureToMoved, timed}
 use Rattle.lamp.specs.declared.Call.{Call}
 use Rattle.commands.specs.Answers.{cause, answer}
 use Rattle.conformance.specs.Limits.{Closest}
@@ -109,9 +110,9 @@ module _ (first p elapsed time : ℕ) where
   module _ (c : Color) (clock : ℕ) where
     -- the hue's part of a pass, which leaves saturation and mireds
     hue-part : (d : HueDelta) (enhanced : Bool) → Or (NoHueDelta d) →
-        HueShows d first elapsed time (c .hue) (hueMoved c d first p enhanced clock .hue)
-        × (hueMoved c d first p enhanced clock .saturation ≡ c .saturation)
-        × (hueMoved c d first p enhanced clock .mireds ≡ c .mireds)
+        HueShows d first elapsed time (c .hue) (hueMoved c d first p enhanced clock .color .hue)
+        × (hueMoved c d first p enhanced clock .color .saturation ≡ c .saturation)
+        × (hueMoved c d first p enhanced clock .color .mireds ≡ c .mireds)
     hue-part HueDelta.Keep enhanced at = (refl, refl, refl)
     hue-part (HueDelta.By way) enhanced at =
         let left = hue-leaves c (hueNow first way p) (atEnd p) enhanced clock in (
@@ -123,9 +124,9 @@ module _ (first p elapsed time : ℕ) where
     -- and the saturation's, which leaves hue and mireds
     saturation-part : (t : TargetSaturation) → p ≤ 1000 → first ≤ 254 → saturationValid t ≡ true →
         Or (NoSaturationDelta t first) →
-        SaturationShows t first elapsed time (c .saturation) (saturationMoved c t first p clock .saturation)
-        × (saturationMoved c t first p clock .hue ≡ c .hue)
-        × (saturationMoved c t first p clock .mireds ≡ c .mireds)
+        SaturationShows t first elapsed time (c .saturation) (saturationMoved c t first p clock .color .saturation)
+        × (saturationMoved c t first p clock .color .hue ≡ c .hue)
+        × (saturationMoved c t first p clock .color .mireds ≡ c .mireds)
     saturation-part TargetSaturation.Keep few high validity at = (refl, refl, refl)
     saturation-part (TargetSaturation.To target) few high validity at =
         let left = saturation-leaves c (saturationNow first target p) (atEnd p) clock in (
@@ -139,12 +140,12 @@ module _ (x : Lamp) (p elapsed : ℕ) (few : p ≤ 1000) where
   pass-shows : (run : HueSaturationRun) → run .saturation ≤ 254 → saturationValid (run .task .saturation) ≡ true →
       (p ≡ permilleOf elapsed (run .task .ms)) ⊎ Nowhere (run .task) (run .saturation) →
       ShowsMoveTo (run .task) (run .hue) (run .saturation) elapsed (x .color) (hueSaturationPass x run p .lamp .color)
-  unfolding hueSaturationPass
+  unfolding hueSaturationMoved timed
   pass-shows run high validity at =
       let d : HueDelta = run .task .delta in
       let t : TargetSaturation = run .task .saturation in
       let time : ℕ = run .task .ms in
-      let hued : Color = hueMoved (x .color) d (run .hue) p (run .task .enhanced) (x .clock) in
+      let hued : Color = hueMoved (x .color) d (run .hue) p (run .task .enhanced) (x .clock) .color in
       let h =
       hue-part (run .hue) p elapsed time (x .color) (x .clock) d (run .task .enhanced) (⊎-elim inl (λ n. inr (n .0)) at)
       in
@@ -156,7 +157,7 @@ module _ (x : Lamp) (p elapsed : ℕ) (few : p ≤ 1000) where
         hue = subst (HueShows d (run .hue) elapsed time (x .color .hue)) (sym (s .1)) (h .0);
         saturation =
             subst (λ (n : ℕ). SaturationShows t (run .saturation) elapsed time n
-            (saturationMoved hued t (run .saturation) p (x .clock) .saturation)) (h .1) (s .0);
+            (saturationMoved hued t (run .saturation) p (x .clock) .color .saturation)) (h .1) (s .0);
         mireds = s .2 ∙ h .2;
       }
 
@@ -166,7 +167,7 @@ module _ (x : Lamp) (p elapsed : ℕ) (few : p ≤ 1000) where
       (p ≡ permilleOf elapsed (run .task .ms)) ⊎ (run .task .target ≡ run .mireds) →
       ShowsMiredsTo (run .mireds) (run .task .target) elapsed (run .task .ms) (x .color)
       (temperatureToPass x run p .lamp .color)
-  unfolding temperatureToPass
+  unfolding temperatureToMoved timed
   pass-shows-mireds run first last at =
       let now : ℕ = miredsNow (x .bounds) (run .mireds) (run .task .target) p in
       let left = mireds-leaves (x .color) now (atEnd p) (x .clock) in
@@ -252,7 +253,7 @@ module _ (l : Lamp) (clock : ℕ) (accepted : cause l (Call.Step clock) ≡ 0) w
 
     pub step-runs-on : RunsOn (run .task .ms) (clock - run .start) (Running.HueSaturationMoveTo run)
         (answer l (Call.Step clock) .lamp)
-    unfolding stepped hueSaturationPass runningValid moveToValid
+    unfolding stepped hueSaturationMoved timed runningValid moveToValid
     step-runs-on =
         step-by l _ clock (RunsOn (run .task .ms) (clock - run .start) (Running.HueSaturationMoveTo run)) running
         accepted (λ f g. runs-on _ _ _ _ (each _ (each _ g .0) .0) refl refl)
@@ -268,7 +269,7 @@ module _ (l : Lamp) (clock : ℕ) (accepted : cause l (Call.Step clock) ≡ 0) w
 
     pub mireds-step-runs-on : RunsOn (run .task .ms) (clock - run .start) (Running.ColorTemperatureMoveTo run)
         (answer l (Call.Step clock) .lamp)
-    unfolding stepped temperatureToPass runningValid
+    unfolding stepped temperatureToMoved timed runningValid
     mireds-step-runs-on =
         step-by l _ clock (RunsOn (run .task .ms) (clock - run .start) (Running.ColorTemperatureMoveTo run)) running
         accepted (λ f g. runs-on _ _ _ _ (each _ g .0) refl refl)
@@ -380,7 +381,7 @@ module _ (l : Lamp) (clock : ℕ) where
   pub start-begins : (task : HueSaturationMoveTo) → cause l (Call.Start (Task.HueSaturationMoveTo task) clock) ≡ 0 →
       Begins (task .ms) (saved l (Task.HueSaturationMoveTo task) clock) (Nowhere task (l .color .saturation))
       (answer l (Call.Start (Task.HueSaturationMoveTo task) clock) .lamp)
-  unfolding started hueSaturationStart hueSaturationPass taskValid moveToValid
+  unfolding started hueSaturationStart hueSaturationMoved timed taskValid moveToValid
   start-begins task accepted =
       let first : ℕ = l .color .saturation in
       start-by l (Task.HueSaturationMoveTo task) clock
@@ -394,7 +395,7 @@ module _ (l : Lamp) (clock : ℕ) where
       (to : ℕ) → Closest (l .bounds .min) (l .bounds .max) (task .target) to →
       Begins (task .ms) (saved l (Task.ColorTemperatureMoveTo task) clock) (to ≡ l .color .mireds)
       (answer l (Call.Start (Task.ColorTemperatureMoveTo task) clock) .lamp)
-  unfolding started temperatureToStart temperatureToPass taskValid
+  unfolding started temperatureToStart temperatureToMoved timed taskValid
   mireds-start-begins task accepted to closest =
       start-by l (Task.ColorTemperatureMoveTo task) clock
       (Begins (task .ms) (saved l (Task.ColorTemperatureMoveTo task) clock) (to ≡ l .color .mireds)) accepted
@@ -444,14 +445,14 @@ module _ (m : Lamp) (begun : ℕ) where
   module _ (task : HueSaturationMoveTo) where
     pub move-to-shows : (n : Lamp) → Ran m (Task.HueSaturationMoveTo task) begun n → (clock : ℕ) → Lasts n clock →
         ShowsMoveTo task (m .color .hue) (m .color .saturation) (clock - begun) (m .color) (n .color)
-    unfolding started stepped hueSaturationStart hueSaturationPass taskValid moveToValid
+    unfolding started stepped hueSaturationStart hueSaturationMoved timed taskValid moveToValid
     move-to-shows n r =
         let first : ℕ = m .color .saturation in
         ran-by m (Task.HueSaturationMoveTo task) begun
         (λ n. (clock : ℕ) → Lasts n clock →
         ShowsMoveTo task (m .color .hue) first (clock - begun) (m .color) (n .color))
         (λ f t clock lasts.
-        pass-shows (remainingSet (atClock m begun) (fullWritten m (task .ms)))
+        pass-shows (withFullTime (atClock m begun) (task .ms))
         (startPermille (task .ms) (still task first)) (clock - begun) (start-few (task .ms) (still task first))
         (record { start = begun; hue = m .color .hue; saturation = first; task = task })
         (valid-saturation (m .color) (m .bounds) begun (valid-color (atClock m begun) f)) (each _ t .1 .1 .0)
@@ -481,7 +482,7 @@ module _ (m : Lamp) (begun : ℕ) where
   module _ (task : ColorTemperatureMoveTo) where
     pub clamped-shows : (n : Lamp) → Ran m (Task.ColorTemperatureMoveTo task) begun n → (clock : ℕ) → Lasts n clock →
         ShowsMiredsTo (m .color .mireds) (clamped m (task .target)) (clock - begun) (task .ms) (m .color) (n .color)
-    unfolding started stepped temperatureToStart temperatureToPass
+    unfolding started stepped temperatureToStart temperatureToMoved timed
     clamped-shows n r =
         let first : ℕ = m .color .mireds in
         let target : ℕ = clamped m (task .target) in
@@ -491,7 +492,7 @@ module _ (m : Lamp) (begun : ℕ) where
         (λ f t clock lasts.
         let still : Bool = eqb target first in
         let b = bounded m begun f in
-        pass-shows-mireds (remainingSet (atClock m begun) (fullWritten m (task .ms))) (startPermille (task .ms) still)
+        pass-shows-mireds (withFullTime (atClock m begun) (task .ms)) (startPermille (task .ms) still)
         (clock - begun) (start-few (task .ms) still)
         (record { start = begun; mireds = first; task = record { target = target; ms = task .ms } }) b
         (clamp-within (m .bounds .min) (m .bounds .max) (pos (task .target)) (omega (arith, b)))

@@ -18,7 +18,7 @@ use Rattle.lamp.specs.declared.Answer.{Answer}
 use Rattle.lamp.specs.declared.Lamp.{Lamp}
 use Rattle.lamp.specs.Answers.{atClock}
 use Rattle.lamp.specs.Calls.{haltAnswer, started, hueSaturationStart, startPermille, noHueDelta, noSaturationDelta}
-use Rattle.lamp.specs.Passes.{unless, atEnd, hueSaturationPass}
+use Rattle.lamp.specs.Passes.{unless, atEnd, hueSaturationMoved, timed}
 use Rattle.lamp.specs.declared.Call.{Call}
 use Rattle.commands.specs.Answers.{allowed, cause, answer}
 use Rattle.commands.specs.Commands.{commandEffect}
@@ -112,7 +112,7 @@ idle-or true running e = refl
 idle-or false running e = e
 
 pub loop-replaced : (l : Lamp) (task : HueSaturationMoveTo) (run : ColorLoopRun) → l .running ≡ loopRunning run → (loopTurns (l .running) ≡ true) × (loopTurns (started l (Task.HueSaturationMoveTo task) .lamp .running) ≡ false) × (started l (Task.HueSaturationMoveTo task) .lamp .looping ≡ l .looping)
-unfolding started hueSaturationStart hueSaturationPass
+unfolding started hueSaturationStart hueSaturationMoved timed
 loop-replaced l task run e = (
   rw e,
   idle-or

@@ -18,8 +18,9 @@ use Rattle.progress.proofs.Laws.{permille-most, part-whole}
 use Rattle.tasks.specs.declared.Running.{Running}
 use Rattle.lamp.specs.declared.Lamp.{Lamp}
 use Rattle.lamp.specs.Answers.{atClock}
-use Rattle.lamp.specs.Calls.{startPermille, fullWritten, started, stepped, hueSaturationStart}
-use Rattle.lamp.specs.Passes.{remainingSet, hueSaturationPass}
+use Rattle.lamp.specs.Calls.{startPermille, started, stepped, hueSaturationStart}
+use Rattle.lamp.proofs.Passed.{withFullTime}
+use Rattle.lamp.specs.Passes.{hueSaturationPass, hueSaturationMoved, timed}
 use Rattle.lamp.specs.declared.Call.{Call}
 use Rattle.commands.specs.Answers.{isLoopSet}
 use Rattle.commands.proofs.Kept.{quiet-command}
@@ -58,7 +59,7 @@ module _ (f : Fed) (hue saturation : ℕ) where
 
   -- one pass
   passes : (l : Lamp) (p : ℕ) → p ≤ 1000 → Underway (hueSaturationPass l (runFrom f hue saturation) p .lamp)
-  unfolding hueSaturationPass
+  unfolding hueSaturationMoved timed
   passes l p h =
       elim (either (leb 1000 p)) [
         | inl e ↦
@@ -73,7 +74,7 @@ module _ (f : Fed) (hue saturation : ℕ) where
   steps-on l clock (inl r) =
       subst (λ (run : Running). Underway (stepped (atClock l clock) run .lamp)) (sym r)
       (passes (atClock l clock) _ (permille-most (clock - f .start) (time (f .fade))))
-  steps-on l clock (inr r) = subst (λ (run : Running). Underway (stepped (atClock l clock) run .lamp)) (sym (r .0)) (inr r)
+  steps-on l clock (inr r) = subst (λ (run : Running). Underway (stepped (atClock l clock) run .lamp)) (sym (r .0)) (inr (refl, r .1))
 
   accepted-on : (l : Lamp) (x : Call) → Underway l → not (interrupts x && accepts l x) ≡ true → accepts l x ≡ true → Underway (next l x)
   accepted-on l (Call.Command r onOff clock) u q a =
@@ -102,7 +103,7 @@ module _ (f : Fed) (hue saturation : ℕ) where
 begins : (f : Fed) (l : Lamp) → Underway f (l .color .hue) (l .color .saturation) (started (atClock l (f .start)) (taskOf (f .fade) (f .found)) .lamp)
 unfolding started hueSaturationStart
 begins f l =
-    passes f (l .color .hue) (l .color .saturation) (remainingSet (atClock l (f .start)) (fullWritten l (time (f .fade)))) _ (most (time (f .fade)) _)
+    passes f (l .color .hue) (l .color .saturation) (withFullTime (atClock l (f .start)) (time (f .fade))) _ (most (time (f .fade)) _)
   where
     most : (ms : ℕ) (b : Bool) → startPermille ms b ≤ 1000
     most ms b = elim (either (eqb ms 0 || b)) [ inl e ↦ rw e (le-refl 1000) | inr e ↦ rw e (omega arith) ]

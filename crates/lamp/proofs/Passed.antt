@@ -15,7 +15,13 @@ use Rattle.color.specs.Setters.{changeReported}
 use Rattle.color.proofs.Kept.{change-few}
 use Rattle.color.proofs.Laws.{change-bytes}
 use Rattle.lamp.specs.declared.passes.Passed.{Passed}
-use Rattle.lamp.specs.Passes.{reportedBehind, passReported}
+use Rattle.lamp.specs.declared.Lamp.{Lamp}
+use Rattle.lamp.specs.Calls.{fullWritten}
+use Rattle.lamp.specs.Passes.{changed, reportedBehind, passReported}
+
+-- the lamp as the first pass of a move-to finds it: with the full time written
+abbrev pub withFullTime : Lamp → ℕ → Lamp
+withFullTime l ms = changed l (l .color) (l .running) (fullWritten l ms .remaining)
 
 -- its parts, one in front of the other
 pub behind-in-front : (second device time : List ℕ) →

@@ -29,7 +29,7 @@ use Rattle.lamp.specs.declared.Lamp.{Lamp}
 use Rattle.lamp.specs.Answers.{firstCause}
 use Rattle.lamp.specs.Calls.{hueSaturationStart, started, stepped, startAnswer, stepAnswer, haltAnswer}
 use Rattle.lamp.specs.Valid.{lampValid}
-use Rattle.lamp.specs.Passes.{hueSaturationPass}
+use Rattle.lamp.specs.Passes.{hueSaturationMoved, timed}
 use Rattle.lamp.specs.declared.Call.{Call}
 use Rattle.lamp.specs.InRange.{InRangeLamp}
 use Rattle.commands.specs.Commands.{commandEffect}
@@ -176,7 +176,7 @@ meets e inRangeLamp inRangeCalls valid accepted mayExecute started undisturbed =
     }
 
 pub all-meet : Premised paceKept × Premised noDelta × Premised noTime × Premised pastZero × Premised amongOthers
-unfolding after quiet answer commandCause commandAnswer firstCause lampValid allTrue colorValid runningValid moveToValid taskValid commandEffect startAnswer stepAnswer haltAnswer started stepped hueSaturationStart hueSaturationPass hueSet permilleOf pathDelta distance movedHue hasFlag
+unfolding after quiet answer commandCause commandAnswer firstCause lampValid allTrue colorValid runningValid moveToValid taskValid commandEffect startAnswer stepAnswer haltAnswer started stepped hueSaturationStart hueSaturationMoved timed hueSet permilleOf pathDelta distance movedHue hasFlag
 all-meet = (
   record {
     others = meets _ (in-range-lamp 0 (lit< tt))
@@ -212,7 +212,7 @@ all-meet = (
 
 -- and each accepted step comes at or after the wait that was asked
 pub all-wait : map waitsKept examples ≡ true ∷ true ∷ true ∷ true ∷ true ∷ []
-unfolding paced after answer commandCause commandAnswer firstCause lampValid allTrue colorValid runningValid moveToValid taskValid commandEffect startAnswer stepAnswer haltAnswer started stepped hueSaturationStart hueSaturationPass hueSet permilleOf pathDelta distance movedHue hasFlag
+unfolding paced after answer commandCause commandAnswer firstCause lampValid allTrue colorValid runningValid moveToValid taskValid commandEffect startAnswer stepAnswer haltAnswer started stepped hueSaturationStart hueSaturationMoved timed hueSet permilleOf pathDelta distance movedHue hasFlag
 all-wait = refl
 
 -- ---- what their lamps show, from the start on
@@ -225,10 +225,10 @@ pub all-show : map shown examples ≡
     ∷ (seen 60000 10 false ∷ seen 60653 9 false ∷ seen 60653 9 false ∷ seen 60653 9 false ∷ seen 60653 9 false ∷ seen 60653 9 false
     ∷ seen 60653 9 false ∷ seen 60653 9 false ∷ seen 60653 9 false ∷ seen 1000 0 true ∷ seen 1000 0 true ∷ [])
     ∷ []
-unfolding observations after answer commandCause commandAnswer firstCause lampValid allTrue colorValid runningValid moveToValid taskValid commandEffect startAnswer stepAnswer haltAnswer started stepped hueSaturationStart hueSaturationPass hueSet permilleOf pathDelta distance movedHue hasFlag
+unfolding observations after answer commandCause commandAnswer firstCause lampValid allTrue colorValid runningValid moveToValid taskValid commandEffect startAnswer stepAnswer haltAnswer started stepped hueSaturationStart hueSaturationMoved timed hueSet permilleOf pathDelta distance movedHue hasFlag
 all-show = refl
 
 -- as many steps as tenths, where each comes as soon as it may
 pub all-take : map stepsTaken examples ≡ 2 ∷ 0 ∷ 0 ∷ 4 ∷ 2 ∷ []
-unfolding steps after answer commandCause commandAnswer firstCause lampValid allTrue colorValid runningValid moveToValid taskValid commandEffect startAnswer stepAnswer haltAnswer started stepped hueSaturationStart hueSaturationPass hueSet permilleOf pathDelta distance movedHue hasFlag
+unfolding steps after answer commandCause commandAnswer firstCause lampValid allTrue colorValid runningValid moveToValid taskValid commandEffect startAnswer stepAnswer haltAnswer started stepped hueSaturationStart hueSaturationMoved timed hueSet permilleOf pathDelta distance movedHue hasFlag
 all-take = refl

@@ -18,9 +18,10 @@ use Rattle.tasks.specs.declared.Running.{Running}
 use Rattle.lamp.specs.declared.Lamp.{Lamp}
 use Rattle.lamp.specs.declared.Answer.{Answer}
 use Rattle.lamp.specs.Answers.{atClock}
-use Rattle.lamp.specs.Calls.{stepped, started, done, hueSaturationStart, startPermille, noHueDelta, fullWritten}
+use Rattle.lamp.specs.Calls.{stepped, started, done, hueSaturationStart, startPermille, noHueDelta}
 use Rattle.lamp.specs.Valid.{lampValid}
-use Rattle.lamp.specs.Passes.{hueSaturationPass, remainingSet}
+use Rattle.lamp.specs.Passes.{hueSaturationPass}
+use Rattle.lamp.proofs.Passed.{withFullTime}
 use Rattle.lamp.specs.declared.Call.{Call}
 use Rattle.commands.specs.Answers.{answer, isLoopSet}
 use Rattle.commands.proofs.Kept.{valid-kept, bounds-kept, options-kept, quiet-command}
@@ -148,7 +149,7 @@ start-pass f n saturation l c =
 start-meets : (f : Fed) → Sane f → (l : Lamp) → l .color .hue ≡ f .found → Meets f (l .color .saturation) (started (atClock l (f .start)) (taskOf (f .fade) (f .found))) (shownAt f (f .start))
 unfolding started hueSaturationStart
 start-meets f n l h =
-    let at : Lamp = remainingSet (atClock l (f .start)) (fullWritten l (time (f .fade))) in
+    let at : Lamp = withFullTime (atClock l (f .start)) (time (f .fade)) in
     let m : Meets f (l .color .saturation) (hueSaturationPass at (runFrom f (l .color .hue) (l .color .saturation)) (startPermille (time (f .fade)) (noHueDelta (HueDelta.By (deltaFrom (f .fade) (f .found))) && true))) (shownAt f (f .start)) =
     subst
     (λ (hue : ℕ). Meets f (l .color .saturation) (hueSaturationPass at (runFrom f hue (l .color .saturation)) (startPermille (time (f .fade)) (noHueDelta (HueDelta.By (deltaFrom (f .fade) (f .found))) && true))) (shownAt f (f .start)))

@@ -13,7 +13,7 @@ use Rattle.tasks.specs.declared.TargetSaturation.{TargetSaturation}
 use Rattle.tasks.specs.declared.HueSaturationRun.{HueSaturationRun}
 use Rattle.tasks.specs.declared.Running.{Running}
 use Rattle.lamp.specs.declared.Lamp.{Lamp}
-use Rattle.lamp.specs.Passes.{Effect, hueSaturationPass}
+use Rattle.lamp.specs.Passes.{Effect, hueSaturationPass, hueSaturationMoved, timed}
 use Rattle.schedule.specs.Schedule.{target, deltaFrom, time, Fed, Shown, over, shownAt}
 use Rattle.matter.proofs.Laws.{and-left, or-left}
 use Rattle.schedule.proofs.Tests.{either}
@@ -67,7 +67,7 @@ set-is c new end enhanced clock =
 module _ (f : Fed) (n : Sane f) (saturation : ℕ) (l : Lamp) where
   -- the last pass
   pub pass-ends : over f (l .clock - f .start) ≡ true → Meets f saturation (hueSaturationPass l (runOf f saturation) 1000) (shownAt f (l .clock))
-  unfolding hueSaturationPass shownAt
+  unfolding hueSaturationMoved timed shownAt
   pass-ends e =
       rw e
       (record {
@@ -83,7 +83,7 @@ module _ (f : Fed) (n : Sane f) (saturation : ℕ) (l : Lamp) where
 
   -- a pass before it
   pub pass-goes : over f (l .clock - f .start) ≡ false → Meets f saturation (hueSaturationPass l (runOf f saturation) (permilleOf (l .clock - f .start) (time (f .fade)))) (shownAt f (l .clock))
-  unfolding hueSaturationPass shownAt
+  unfolding hueSaturationMoved timed shownAt
   pass-goes e =
       let k : leb 1000 (permilleOf (l .clock - f .start) (time (f .fade))) ≡ false = at-end (l .clock - f .start) (time (f .fade)) ∙ or-left (leb (time (f .fade)) (l .clock - f .start)) _ e in
       rw (e, k)
