@@ -18,7 +18,6 @@ use Rattle.matter.proofs.Laws.{cond-both, and-left, or-left}
 use Rattle.hue.specs.Hue.{pathDelta}
 use Rattle.progress.specs.Progress.{permilleOf, endWait}
 use Rattle.progress.proofs.Laws.{permille-full}
-use Rattle.tasks.specs.declared.GivenTask.{GivenTask}
 use Rattle.tasks.specs.declared.HueDelta.{HueDelta}
 use Rattle.tasks.specs.declared.TargetSaturation.{TargetSaturation}
 use Rattle.tasks.specs.declared.HueSaturationMoveTo.{HueSaturationMoveTo}
@@ -31,11 +30,11 @@ use Rattle.lamp.specs.declared.Made.{Made}
 use Rattle.lamp.specs.declared.Answer.{Answer}
 use Rattle.lamp.specs.Answers.{atClock, refusal}
 use Rattle.lamp.specs.Making.{freshLamp, makingCause, making}
-use Rattle.lamp.specs.Passes.{atEnd, unless, waiting, hueSaturationPass}
-use Rattle.lamp.specs.Calls.{done, started, stepped, startCause, stepCause, startAnswer, stepAnswer, startPermille, noHueDelta, noSaturationDelta, hueSaturationStart}
+use Rattle.lamp.specs.Passes.{atEnd, unless, waiting, hueSaturationPass, hueSaturationMoved, timed}
+use Rattle.lamp.specs.Calls.{done, started, stepped, startCause, stepCause, startAnswer, stepAnswer, noHueDelta, noSaturationDelta, hueSaturationStart}
 use Rattle.lamp.proofs.Kept.{choose-both}
 use Rattle.commands.specs.Commands.{stored, ms, commandEffect}
-use Rattle.commands.specs.Answers.{allowed, commandCause, commandAnswer}
+use Rattle.commands.specs.Answers.{commandCause, commandAnswer}
 use Rattle.fade_line.specs.declared.reader.Wanted.{Wanted}
 use Rattle.fade_run.specs.Run.{oneText, goesOn, stepAfter, further, text, afterCommand, afterMaking, fadeWithin}
 
@@ -72,7 +71,7 @@ module _ (n : ℕ) (a : Answer) (clock : ℕ) (k : Left (suc n) a clock) where
   permille = permilleOf (at - k .run .start) (k .run .task .ms)
 
   pass-within : (l : Lamp) → Within n (done (hueSaturationPass (atClock l at) (k .run) permille)) at
-  unfolding hueSaturationPass
+  unfolding hueSaturationMoved timed
   pass-within l g = by (atEnd permille) refl
     where
       by : (t : Bool) → atEnd permille ≡ t → Left n (done (hueSaturationPass (atClock l at) (k .run) permille)) at
@@ -116,14 +115,14 @@ module _ (l : Lamp) (task : HueSaturationMoveTo) (clock n : ℕ) (time : task .m
   abbrev noDelta : Bool
   noDelta = noHueDelta (task .delta) && noSaturationDelta (task .saturation) (l .color .saturation)
 
-  pass-begins : Within n (done (hueSaturationStart (atClock l clock) task)) clock
-  unfolding hueSaturationStart hueSaturationPass
+  pass-begins : Within n (done (started (atClock l clock) (Task.HueSaturationMoveTo task))) clock
+  unfolding started hueSaturationStart hueSaturationMoved timed
   pass-begins g = by (eqb (task .ms) 0 || noDelta) refl
     where
       run : HueSaturationRun
       run = record { start = clock; hue = l .color .hue; saturation = l .color .saturation; task = task }
 
-      by : (t : Bool) → (eqb (task .ms) 0 || noDelta) ≡ t → Left n (done (hueSaturationStart (atClock l clock) task)) clock
+      by : (t : Bool) → (eqb (task .ms) 0 || noDelta) ≡ t → Left n (done (started (atClock l clock) (Task.HueSaturationMoveTo task))) clock
       by true e = absurd (false≢true (sym (ap (λ (t : Bool). runs (unless (atEnd (cond t 1000 0)) (Running.HueSaturationMoveTo run))) e) ∙ g))
       by false e =
           record {
@@ -136,7 +135,7 @@ module _ (l : Lamp) (task : HueSaturationMoveTo) (clock n : ℕ) (time : task .m
           }
 
   start-within : Within n (startAnswer l (Task.HueSaturationMoveTo task) clock) clock
-  unfolding startAnswer started
+  unfolding startAnswer
   start-within =
       choose-both (λ b. Within n b clock) (startCause l (Task.HueSaturationMoveTo task) clock) l _ (λ e. pass-begins)
       (λ e. refused-within n l (startCause l (Task.HueSaturationMoveTo task) clock) clock e)

@@ -1,6 +1,5 @@
 -- `fade` on document 01's line, and on lines at the edges, by computation. Bytes are written as their numbers.
-use Prim.Native.Nat.{ℕ}
-use mathlib.Core.List.{List, [], _∷_, _++_}
+use mathlib.Core.List.{[], _∷_, _++_}
 use mathlib.Core.Path.{_≡_, refl}
 use Rattle.matter.specs.All.{allTrue}
 use Rattle.matter.specs.Flags.{hasFlag}
@@ -9,13 +8,13 @@ use Rattle.notices.specs.Notices.{filled}
 use Rattle.hue.specs.Hue.{distance, pathDelta, movedHue}
 use Rattle.progress.specs.Progress.{permilleOf, clamp}
 use Rattle.remaining_time.specs.RemainingTime.{reported}
-use Rattle.color.specs.Setters.{hueSet, hueReported}
+use Rattle.color.specs.Setters.{hueSet}
 use Rattle.color.specs.Valid.{colorValid}
 use Rattle.tasks.specs.Valid.{moveToValid, taskValid, runningValid}
 use Rattle.lamp.specs.Answers.{firstCause}
 use Rattle.lamp.specs.Valid.{lampValid}
 use Rattle.lamp.specs.Making.{making}
-use Rattle.lamp.specs.Passes.{hueSaturationPass}
+use Rattle.lamp.specs.Passes.{hueSaturationMoved, timed}
 use Rattle.lamp.specs.Calls.{hueSaturationStart, started, stepped, startAnswer, stepAnswer}
 use Rattle.commands.specs.Commands.{commandEffect}
 use Rattle.commands.specs.Answers.{commandCause, commandAnswer}
@@ -29,7 +28,7 @@ three-lines :
     (53 ∷ 48 ∷ 48 ∷ 48 ∷ 32 ∷ 48 ∷ 32 ∷ 50 ∷ 32 ∷ 49 ∷ 48 ∷ 48 ∷ 58 ∷ 32 ∷ 49 ∷ 53 ∷ 10 ∷ [])
     ++ (53 ∷ 49 ∷ 48 ∷ 48 ∷ 32 ∷ 49 ∷ 54 ∷ 51 ∷ 56 ∷ 52 ∷ 32 ∷ 49 ∷ 32 ∷ 49 ∷ 48 ∷ 48 ∷ 58 ∷ 32 ∷ 49 ∷ 51 ∷ 32 ∷ 50 ∷ 32 ∷ 54 ∷ 32 ∷ 55 ∷ 32 ∷ 49 ∷ 52 ∷ 32 ∷ 49 ∷ 53 ∷ 10 ∷ [])
     ++ (53 ∷ 50 ∷ 48 ∷ 48 ∷ 32 ∷ 51 ∷ 50 ∷ 55 ∷ 54 ∷ 56 ∷ 32 ∷ 48 ∷ 32 ∷ 48 ∷ 58 ∷ 32 ∷ 49 ∷ 51 ∷ 32 ∷ 50 ∷ 32 ∷ 54 ∷ 32 ∷ 55 ∷ 32 ∷ 49 ∷ 52 ∷ 32 ∷ 49 ∷ 53 ∷ 32 ∷ 49 ∷ 10 ∷ [])
-unfolding hasFlag defaultColorMode allTrue colorValid moveToValid taskValid runningValid lampValid firstCause clamp distance pathDelta movedHue permilleOf reported filled hueSet hueReported making commandEffect commandCause commandAnswer hueSaturationPass hueSaturationStart started stepped startAnswer stepAnswer line words isNumber wanted askedByWords decimal decimalIn spaced spacedAll stateText lineText refusedText lineOf further fadeOf
+unfolding hasFlag defaultColorMode allTrue colorValid moveToValid taskValid runningValid lampValid firstCause clamp distance pathDelta movedHue permilleOf reported filled hueSet making commandEffect commandCause commandAnswer hueSaturationMoved timed hueSaturationStart started stepped startAnswer stepAnswer line words isNumber wanted askedByWords decimal decimalIn spaced spacedAll stateText lineText refusedText lineOf further fadeOf
 three-lines = refl
 
 -- hue 255: `refused 1`

@@ -2,7 +2,7 @@
 -- the clock of the next step, which fits in 64 bits.
 use Prim.Native.Nat.{ℕ, zero, suc, _+_, _-_, _^_, _≤_, _<_, min}
 use mathlib.Core.Bool.{Bool, true, false, cond, _&&_, _||_, true≢false, or-true}
-use mathlib.Core.List.{List, [], _∷_, _++_, append-nil, append-assoc}
+use mathlib.Core.List.{List, [], _++_, append-nil, append-assoc}
 use mathlib.Core.Path.{_≡_, refl, sym, ap, _∙_}
 use native.Mathlib.Omega.{arith}
 use lib.Dec.{ltb, leb, eqb}
@@ -10,13 +10,11 @@ use lib.ListN.{length, take, length-append, length-take}
 use borrow.Author.Tests.{lt-ltb, le-ltb, ltb-true}
 use Rattle.matter.specs.Causes.{accepted}
 use Rattle.matter.proofs.Laws.{cond-both}
-use Rattle.matter.specs.Limits.{clockLimit, saturationLimit}
+use Rattle.matter.specs.Limits.{saturationLimit}
 use Rattle.progress.specs.Progress.{clampedSum, deltaAtRate}
 use Rattle.tasks.specs.declared.Task.{Task}
 use Rattle.tasks.specs.declared.Running.{Running}
-use Rattle.tasks.specs.declared.HueSaturationRun.{HueSaturationRun}
 use Rattle.tasks.specs.declared.SaturationRun.{SaturationRun}
-use Rattle.tasks.specs.declared.ColorTemperatureToRun.{ColorTemperatureToRun}
 use Rattle.tasks.specs.declared.ColorTemperatureRun.{ColorTemperatureRun}
 use Rattle.tasks.specs.declared.ColorLoopRun.{ColorLoopRun}
 use Rattle.tasks.specs.Runs.{loopRun}
@@ -24,7 +22,9 @@ use Rattle.lamp.specs.declared.Lamp.{Lamp}
 use Rattle.lamp.specs.declared.Answer.{Answer}
 use Rattle.lamp.specs.Answers.{atClock, refusal}
 use Rattle.matter.specs.Rules.{signed}
-use Rattle.lamp.specs.Passes.{Effect, waiting, atEnd, saturationDone, miredsDone, hueSaturationPass, huePass, saturationPass, temperatureToPass, temperaturePass, loopPass}
+use Rattle.lamp.specs.declared.passes.Found.{Found}
+use Rattle.lamp.specs.declared.passes.Moved.{Moved}
+use Rattle.lamp.specs.Passes.{Effect, waiting, atEnd, saturationDone, miredsDone, timed, huePassed, saturationPassed, temperaturePassed, loopPassed}
 use Rattle.matter.specs.Bounds.{lower, upper}
 use Rattle.lamp.specs.Calls.{done, started, stepped, startCause, stepCause, startAnswer, stepAnswer, hueSaturationStart, temperatureToStart, temperatureStart}
 use Rattle.lamp.proofs.Kept.{valid-clock, start-ready, step-ready, choose-both, started-few, stepped-few}
@@ -70,50 +70,47 @@ waits-least : (t : Bool) (n : ℕ) → waiting t (min 100 n) ≤ 100
 waits-least true n = omega arith
 waits-least false n = omega arith
 
-hue-saturation-wait : (l : Lamp) (run : HueSaturationRun) (permille : ℕ) → hueSaturationPass l run permille .wait ≤ 100
-unfolding hueSaturationPass
-hue-saturation-wait l run permille = waits-least (atEnd permille) (run .task .ms - (l .clock - run .start))
+module _ (f : Found) where
+  timed-wait : (moved : Moved) (start ms permille : ℕ) → timed f moved start ms permille .wait ≤ 100
+  unfolding timed
+  timed-wait moved start ms permille = waits-least (atEnd permille) (ms - (f .clock - start))
 
-temperature-to-wait : (l : Lamp) (run : ColorTemperatureToRun) (permille : ℕ) → temperatureToPass l run permille .wait ≤ 100
-unfolding temperatureToPass
-temperature-to-wait l run permille = waits-least (atEnd permille) (run .task .ms - (l .clock - run .start))
+  saturation-wait : (run : SaturationRun) → saturationPassed f run .wait ≤ 100
+  unfolding saturationPassed
+  saturation-wait run =
+      waits-tick
+      (saturationDone (run .task .direction)
+      (clampedSum 0 saturationLimit (run .saturation) (deltaAtRate (signed (run .task .direction) (run .task .rate)) (f .clock - run .start))))
 
-saturation-wait : (l : Lamp) (run : SaturationRun) → saturationPass l run .wait ≤ 100
-unfolding saturationPass
-saturation-wait l run =
-    waits-tick
-    (saturationDone (run .task .direction)
-    (clampedSum 0 saturationLimit (run .saturation) (deltaAtRate (signed (run .task .direction) (run .task .rate)) (l .clock - run .start))))
+  temperature-wait : (run : ColorTemperatureRun) → temperaturePassed f run .wait ≤ 100
+  unfolding temperaturePassed
+  temperature-wait run =
+      waits-tick
+      (miredsDone (run .rate) (run .lo) (run .hi) (clampedSum (run .lo) (run .hi) (run .mireds) (deltaAtRate (run .rate) (f .clock - run .start))))
 
-temperature-wait : (l : Lamp) (run : ColorTemperatureRun) → temperaturePass l run .wait ≤ 100
-unfolding temperaturePass
-temperature-wait l run =
-    waits-tick
-    (miredsDone (run .rate) (run .lo) (run .hi) (clampedSum (run .lo) (run .hi) (run .mireds) (deltaAtRate (run .rate) (l .clock - run .start))))
-
-loop-wait : (l : Lamp) (run : ColorLoopRun) → loopPass l run .wait ≤ 100
-unfolding loopPass
-loop-wait l run = omega arith
+  loop-wait : (run : ColorLoopRun) → loopPassed f run .wait ≤ 100
+  unfolding loopPassed
+  loop-wait run = omega arith
 
 stepped-wait : (l : Lamp) (r : Running) → stepped l r .wait ≤ 100
-unfolding stepped huePass
+unfolding stepped huePassed
 stepped-wait l Running.Idle = omega arith
-stepped-wait l (Running.HueSaturationMoveTo run) = hue-saturation-wait l run _
+stepped-wait l (Running.HueSaturationMoveTo run) = timed-wait _ _ _ _ _
 stepped-wait l (Running.HueMove run) = omega arith
-stepped-wait l (Running.SaturationMove run) = saturation-wait l run
-stepped-wait l (Running.ColorTemperatureMoveTo run) = temperature-to-wait l run _
-stepped-wait l (Running.ColorTemperatureMove run) = temperature-wait l run
-stepped-wait l (Running.ColorLoop direction hue seconds start) = loop-wait l (loopRun direction hue seconds start)
+stepped-wait l (Running.SaturationMove run) = saturation-wait _ run
+stepped-wait l (Running.ColorTemperatureMoveTo run) = timed-wait _ _ _ _ _
+stepped-wait l (Running.ColorTemperatureMove run) = temperature-wait _ run
+stepped-wait l (Running.ColorLoop direction hue seconds start) = loop-wait _ (loopRun direction hue seconds start)
 
 started-wait : (l : Lamp) (task : Task) → started l task .wait ≤ 100
-unfolding started hueSaturationStart temperatureToStart temperatureStart huePass
-started-wait l (Task.HueSaturationMoveTo task) = hue-saturation-wait _ _ _
+unfolding started hueSaturationStart temperatureToStart temperatureStart huePassed
+started-wait l (Task.HueSaturationMoveTo task) = timed-wait _ _ _ _ _
 started-wait l (Task.HueMove task) = omega arith
-started-wait l (Task.SaturationMove task) = saturation-wait l _
-started-wait l (Task.ColorTemperatureMoveTo task) = temperature-to-wait _ _ _
+started-wait l (Task.SaturationMove task) = saturation-wait _ _
+started-wait l (Task.ColorTemperatureMoveTo task) = timed-wait _ _ _ _ _
 started-wait l (Task.ColorTemperatureMove task) =
-    cond-both (λ (e : Effect). e .wait ≤ 100) (leb (upper (l .bounds) (task .max)) (lower (l .bounds) (task .min))) _ _ (λ t. omega arith) (λ t. temperature-wait l _)
-started-wait l (Task.ColorLoop task) = loop-wait l _
+    cond-both (λ (e : Effect). e .wait ≤ 100) (leb (upper (l .bounds) (task .max)) (lower (l .bounds) (task .min))) _ _ (λ t. omega arith) (λ t. temperature-wait _ _)
+started-wait l (Task.ColorLoop task) = loop-wait _ _
 started-wait l Task.Stop = omega arith
 
 -- so the next step's clock fits in 64 bits

@@ -7,12 +7,12 @@ use Rattle.notices.specs.Notices.{filled}
 use Rattle.hue.specs.Hue.{distance, pathDelta, movedHue}
 use Rattle.progress.specs.Progress.{permilleOf, clamp}
 use Rattle.remaining_time.specs.RemainingTime.{reported}
-use Rattle.color.specs.Setters.{hueSet, hueReported, saturationSet, saturationReported}
+use Rattle.color.specs.Setters.{hueSet, saturationSet}
 use Rattle.color.specs.Valid.{colorValid}
 use Rattle.tasks.specs.Valid.{moveToValid, taskValid, runningValid}
 use Rattle.lamp.specs.Answers.{firstCause}
 use Rattle.lamp.specs.Valid.{lampValid}
-use Rattle.lamp.specs.Passes.{hueSaturationPass}
+use Rattle.lamp.specs.Passes.{hueSaturationMoved, timed}
 use Rattle.lamp.specs.Calls.{hueSaturationStart, started, stepped, startAnswer, stepAnswer}
 use Rattle.commands.specs.Commands.{activated, loopSet, commandEffect}
 use Rattle.commands.specs.Answers.{commandCause, commandAnswer}
@@ -20,9 +20,9 @@ use Rattle.worked_examples.specs.Cases.{next}
 use Rattle.worked_examples.specs.Answers.{CommandsReported, FlagReported}
 
 commands-reported : CommandsReported
-unfolding hasFlag defaultColorMode allTrue colorValid moveToValid taskValid runningValid lampValid firstCause clamp distance pathDelta movedHue permilleOf reported filled hueSet hueReported saturationSet saturationReported hueSaturationPass hueSaturationStart started stepped startAnswer stepAnswer activated loopSet commandEffect commandCause commandAnswer next
+unfolding hasFlag defaultColorMode allTrue colorValid moveToValid taskValid runningValid lampValid firstCause clamp distance pathDelta movedHue permilleOf reported filled hueSet saturationSet hueSaturationMoved timed hueSaturationStart started stepped startAnswer stepAnswer activated loopSet commandEffect commandCause commandAnswer next
 commands-reported = (refl, refl)
 
 flag-reported : FlagReported
-unfolding hasFlag defaultColorMode allTrue colorValid runningValid lampValid firstCause clamp filled hueSet hueReported activated loopSet commandEffect commandCause commandAnswer
+unfolding hasFlag defaultColorMode allTrue colorValid runningValid lampValid firstCause clamp filled hueSet activated loopSet commandEffect commandCause commandAnswer
 flag-reported = refl

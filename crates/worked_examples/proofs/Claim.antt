@@ -8,12 +8,12 @@ use Rattle.hue.specs.Hue.{distance, pathDelta, movedHue}
 use Rattle.hue.proofs.Laws.{equal-no-way}
 use Rattle.progress.specs.Progress.{permilleOf, snapped, loopTurn, clamp}
 use Rattle.remaining_time.specs.RemainingTime.{reported}
-use Rattle.color.specs.Setters.{hueSet, hueReported, saturationSet, saturationReported, miredsSet, miredsReported}
+use Rattle.color.specs.Setters.{hueSet, saturationSet, miredsSet}
 use Rattle.color.specs.Valid.{colorValid}
 use Rattle.tasks.specs.Valid.{moveToValid, taskValid, runningValid}
 use Rattle.lamp.specs.Valid.{lampValid}
 use Rattle.lamp.specs.Answers.{firstCause}
-use Rattle.lamp.specs.Passes.{hueSaturationPass, temperatureToPass, temperaturePass, loopPass}
+use Rattle.lamp.specs.Passes.{hueSaturationMoved, loopPassed, temperaturePassed, temperatureToMoved, timed}
 use Rattle.lamp.specs.Calls.{hueSaturationStart, temperatureToStart, temperatureStart, started, stepped, startAnswer, stepAnswer}
 use Rattle.commands.specs.Commands.{activated, loopSet, commandEffect}
 use Rattle.commands.specs.Answers.{commandCause, commandAnswer}
@@ -21,6 +21,6 @@ use Rattle.worked_examples.specs.Cases.{next, stepsAt, fades}
 use Rattle.worked_examples.specs.Claim.{Claim}
 
 worked-examples : Claim
-unfolding allTrue hasFlag defaultColorMode distance pathDelta movedHue permilleOf snapped loopTurn clamp reported filled hueSet hueReported saturationSet saturationReported miredsSet miredsReported colorValid moveToValid taskValid runningValid lampValid firstCause hueSaturationPass temperatureToPass temperaturePass loopPass hueSaturationStart temperatureToStart temperatureStart started stepped startAnswer stepAnswer activated loopSet commandEffect commandCause commandAnswer next stepsAt fades
+unfolding allTrue hasFlag defaultColorMode distance pathDelta movedHue permilleOf snapped loopTurn clamp reported filled hueSet saturationSet miredsSet colorValid moveToValid taskValid runningValid lampValid firstCause hueSaturationMoved timed temperatureToMoved temperaturePassed loopPassed hueSaturationStart temperatureToStart temperatureStart started stepped startAnswer stepAnswer activated loopSet commandEffect commandCause commandAnswer next stepsAt fades
 worked-examples =
     (refl, (refl, (equal-no-way, (refl, (refl, (refl, (refl, (refl, (refl, (refl, (refl, (refl, (refl, (refl, (refl, (refl, (refl, (refl, (refl, (refl, (refl, (refl, (refl, (refl, (refl, (refl, (refl, (refl, tt))))))))))))))))))))))))))))

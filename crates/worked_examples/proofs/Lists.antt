@@ -7,12 +7,12 @@ use Rattle.notices.specs.Notices.{filled}
 use Rattle.hue.specs.Hue.{distance, pathDelta, movedHue}
 use Rattle.progress.specs.Progress.{permilleOf, clamp, snapped}
 use Rattle.remaining_time.specs.RemainingTime.{reported}
-use Rattle.color.specs.Setters.{hueSet, hueReported, saturationSet, saturationReported}
+use Rattle.color.specs.Setters.{hueSet, saturationSet}
 use Rattle.color.specs.Valid.{colorValid}
 use Rattle.tasks.specs.Valid.{moveToValid, taskValid, runningValid}
 use Rattle.lamp.specs.Answers.{firstCause}
 use Rattle.lamp.specs.Valid.{lampValid}
-use Rattle.lamp.specs.Passes.{hueSaturationPass}
+use Rattle.lamp.specs.Passes.{hueSaturationMoved, timed}
 use Rattle.lamp.specs.Calls.{hueSaturationStart, started, stepped, startAnswer, stepAnswer}
 use Rattle.commands.specs.Commands.{deactivated, activated, loopSet, commandEffect}
 use Rattle.commands.specs.Answers.{commandCause, commandAnswer}
@@ -24,23 +24,23 @@ unfolding hasFlag defaultColorMode allTrue colorValid runningValid lampValid fir
 fade-command = refl
 
 fade-reported : FadeReported
-unfolding hasFlag defaultColorMode allTrue colorValid moveToValid taskValid runningValid lampValid firstCause clamp distance pathDelta movedHue permilleOf reported filled hueSet hueReported hueSaturationPass hueSaturationStart started stepped startAnswer stepAnswer commandEffect commandCause commandAnswer next stepsAt
+unfolding hasFlag defaultColorMode allTrue colorValid moveToValid taskValid runningValid lampValid firstCause clamp distance pathDelta movedHue permilleOf reported filled hueSet hueSaturationMoved timed hueSaturationStart started stepped startAnswer stepAnswer commandEffect commandCause commandAnswer next stepsAt
 fade-reported = refl
 
 fade-waits : FadeWaits
-unfolding hasFlag defaultColorMode allTrue colorValid moveToValid taskValid runningValid lampValid firstCause clamp distance pathDelta movedHue permilleOf reported filled hueSet hueReported hueSaturationPass hueSaturationStart started stepped startAnswer stepAnswer commandEffect commandCause commandAnswer next stepsAt
+unfolding hasFlag defaultColorMode allTrue colorValid moveToValid taskValid runningValid lampValid firstCause clamp distance pathDelta movedHue permilleOf reported filled hueSet hueSaturationMoved timed hueSaturationStart started stepped startAnswer stepAnswer commandEffect commandCause commandAnswer next stepsAt
 fade-waits = refl
 
 start-reported : StartReported
-unfolding hasFlag defaultColorMode allTrue colorValid moveToValid taskValid runningValid lampValid firstCause clamp movedHue permilleOf reported filled hueSet hueReported saturationSet saturationReported hueSaturationPass hueSaturationStart started stepped startAnswer stepAnswer
+unfolding hasFlag defaultColorMode allTrue colorValid moveToValid taskValid runningValid lampValid firstCause clamp movedHue permilleOf reported filled hueSet saturationSet hueSaturationMoved timed hueSaturationStart started stepped startAnswer stepAnswer
 start-reported = refl
 
 at-once-reported : AtOnceReported
-unfolding hasFlag defaultColorMode allTrue colorValid moveToValid taskValid runningValid lampValid firstCause clamp movedHue permilleOf reported filled hueSet hueReported hueSaturationPass hueSaturationStart started stepped startAnswer stepAnswer
+unfolding hasFlag defaultColorMode allTrue colorValid moveToValid taskValid runningValid lampValid firstCause clamp movedHue permilleOf reported filled hueSet hueSaturationMoved timed hueSaturationStart started stepped startAnswer stepAnswer
 at-once-reported = (refl, refl)
 
 loop-reported : LoopReported
-unfolding hasFlag defaultColorMode allTrue colorValid runningValid lampValid firstCause clamp filled hueSet hueReported deactivated activated loopSet commandEffect commandCause commandAnswer
+unfolding hasFlag defaultColorMode allTrue colorValid runningValid lampValid firstCause clamp filled hueSet deactivated activated loopSet commandEffect commandCause commandAnswer
 loop-reported = refl
 
 no-flag-reported : NoFlagReported
