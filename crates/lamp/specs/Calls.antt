@@ -47,6 +47,7 @@ noSaturationDelta (TargetSaturation.To target) start = eqb target start
 abbrev pub startPermille : ℕ → Bool → ℕ
 startPermille ms noDelta = cond (eqb ms 0 || noDelta) 1000 0
 
+-- what a start of a move-to leaves: the full time is written, then comes the first pass of the record that it saves
 unfoldable pub hueSaturationStart : Lamp → HueSaturationMoveTo → Left
 hueSaturationStart l task =
     let w : Written = fullWritten l (task .ms) in
@@ -77,11 +78,12 @@ temperatureStart l task =
     cond (leb hi lo) (idled l)
     (temperaturePass l (record { start = l .clock; mireds = l .color .mireds; rate = task .rate; lo = lo; hi = hi }))
 
--- "A start includes its first pass, at elapsed 0"
+-- "A start includes its first pass, at elapsed 0". The Stop task is refused below, and so is a step of an idle lamp.
 unfoldable pub started : Lamp → Task → Effect
 started l (Task.HueSaturationMoveTo task) = leftEffect l (hueSaturationStart l task)
 started l (Task.HueMove task) = huePass l (record { start = l .clock; hue = l .color .hue; task = task })
-started l (Task.SaturationMove task) = saturationPass l (record { start = l .clock; saturation = l .color .saturation; task = task })
+started l (Task.SaturationMove task) =
+    saturationPass l (record { start = l .clock; saturation = l .color .saturation; task = task })
 started l (Task.ColorTemperatureMoveTo task) = leftEffect l (temperatureToStart l task)
 started l (Task.ColorTemperatureMove task) = temperatureStart l task
 started l (Task.ColorLoop task) = loopPass l (record { start = l .clock; hue = l .color .hue; task = task })
@@ -91,10 +93,12 @@ started l Task.Stop = idled l
 
 unfoldable pub stepped : Lamp → Running → Effect
 stepped l Running.Idle = idled l
-stepped l (Running.HueSaturationMoveTo run) = hueSaturationPass l run (permilleOf (l .clock - run .start) (run .task .ms))
+stepped l (Running.HueSaturationMoveTo run) =
+    hueSaturationPass l run (permilleOf (l .clock - run .start) (run .task .ms))
 stepped l (Running.HueMove run) = huePass l run
 stepped l (Running.SaturationMove run) = saturationPass l run
-stepped l (Running.ColorTemperatureMoveTo run) = temperatureToPass l run (permilleOf (l .clock - run .start) (run .task .ms))
+stepped l (Running.ColorTemperatureMoveTo run) =
+    temperatureToPass l run (permilleOf (l .clock - run .start) (run .task .ms))
 stepped l (Running.ColorTemperatureMove run) = temperaturePass l run
 stepped l (Running.ColorLoop direction hue seconds start) = loopPass l (loopRun direction hue seconds start)
 
@@ -102,7 +106,8 @@ stepped l (Running.ColorLoop direction hue seconds start) = loopPass l (loopRun 
 
 -- an accepted start's or step's answer
 abbrev pub done : Effect → Answer
-done e = record { number = accepted; lamp = e .lamp; notices = noted (e .reported); task = GivenTask.Nothing; wait = e .wait }
+done e =
+    record { number = accepted; lamp = e .lamp; notices = noted (e .reported); task = GivenTask.Nothing; wait = e .wait }
 
 -- the choice between a refusal and an effect
 abbrev pub choose : ℕ → Lamp → Answer → Answer
@@ -110,7 +115,8 @@ choose cause l answer = cond (eqb cause accepted) answer (refusal l cause)
 
 -- "starts 8, 4, 6"
 abbrev pub startCause : Lamp → Task → ℕ → ℕ
-startCause l task clock = cond (eqb (firstCause l clock) accepted) (cond (taskValid task) accepted invalidTask) (firstCause l clock)
+startCause l task clock =
+    cond (eqb (firstCause l clock) accepted) (cond (taskValid task) accepted invalidTask) (firstCause l clock)
 
 unfoldable pub startAnswer : Lamp → Task → ℕ → Answer
 startAnswer l task clock = choose (startCause l task clock) l (done (started (atClock l clock) task))
