@@ -25,7 +25,8 @@ pub record OnArc (found : ℕ) (way : ℤ) (hue : ℕ) : Type 0 where
 
 -- the hues from `low` up to `high`, both among them, past 65,535 to 0 where `high` is below `low`
 unfoldable pub inBand : Band → ℕ → Bool
-inBand b hue = cond (leb (b .low) (b .high)) (leb (b .low) hue && leb hue (b .high)) (leb (b .low) hue || leb hue (b .high))
+inBand b hue =
+    cond (leb (b .low) (b .high)) (leb (b .low) hue && leb hue (b .high)) (leb (b .low) hue || leb hue (b .high))
 
 pub record InRangeBand (b : Band) : Type 0 where
   pub low : Short (b .low)

@@ -6,7 +6,8 @@ use lib.Dec.{eqb, leb}
 use Rattle.matter.specs.declared.enums.ColorModeEnum.{ColorModeEnum}
 use Rattle.matter.specs.declared.enums.EnhancedColorModeEnum.{EnhancedColorModeEnum}
 use Rattle.notices.specs.Notices.{only}
-use Rattle.notices.specs.Names.{CurrentHue, EnhancedCurrentHue, CurrentSaturation, ColorTemperatureMireds, ColorMode, EnhancedColorMode, markedDirty, scenesNotified}
+use Rattle.notices.specs.Names.{CurrentHue, EnhancedCurrentHue, CurrentSaturation, ColorTemperatureMireds, ColorMode}
+use Rattle.notices.specs.Names.{EnhancedColorMode, markedDirty, scenesNotified}
 use Rattle.color.specs.declared.Color.{Color}
 use Rattle.color.specs.declared.Change.{Change}
 use Rattle.color.specs.declared.ColorSet.{ColorSet}
@@ -19,7 +20,8 @@ due end stamp clock = end || leb (stamp + 1000) clock
 -- withheld in the setters while the loop is active"
 abbrev pub changeNotices : Bool → Bool → List ℕ → List ℕ
 changeNotices active reported attributes =
-    only (not active) markedDirty ++ (cond reported (attributes ++ (ColorMode ∷ EnhancedColorMode ∷ [])) [] ++ (scenesNotified ∷ []))
+    only (not active) markedDirty
+    ++ (cond reported (attributes ++ (ColorMode ∷ EnhancedColorMode ∷ [])) [] ++ (scenesNotified ∷ []))
 
 -- "An equal number, not at the end of a transition, changes nothing and notifies nothing, modes included. Otherwise
 -- number and modes are set": from the old number, the new one and whether it is an end
@@ -29,7 +31,8 @@ same old new end = eqb old new && not end
 -- the enhanced mode of a hue
 abbrev pub hueMode : Bool → EnhancedColorModeEnum
 hueMode enhanced =
-    cond enhanced EnhancedColorModeEnum.EnhancedCurrentHueAndCurrentSaturation EnhancedColorModeEnum.CurrentHueAndCurrentSaturation
+    cond enhanced EnhancedColorModeEnum.EnhancedCurrentHueAndCurrentSaturation
+    EnhancedColorModeEnum.CurrentHueAndCurrentSaturation
 
 -- "`set_saturation` keeps an enhanced mode that is already a hue one"
 abbrev pub keptHueMode : EnhancedColorModeEnum → EnhancedColorModeEnum

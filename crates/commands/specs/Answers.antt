@@ -24,7 +24,8 @@ allowed l r onOff = mayExecute onOff (l .options) (r .options .mask) (r .options
 
 -- "commands 8, 4, then the order above": Stop mode, the cause of the command's own numbers, off, crossed limits
 abbrev pub inOrder : Bool → ℕ → Bool → Bool → ℕ
-inOrder stop own allowed crossed = cond stop accepted (cond (eqb own accepted) (causeIf (allowed && crossed) crossedLimits) own)
+inOrder stop own allowed crossed =
+    cond stop accepted (cond (eqb own accepted) (causeIf (allowed && crossed) crossedLimits) own)
 
 abbrev pub afterClock : Lamp → Request → OnOff → ℕ
 afterClock l r onOff =

@@ -16,7 +16,8 @@ use Rattle.matter.specs.Causes.{accepted, constraintError, invalidCommand}
 use Rattle.matter.specs.Flags.{hasFlag, updateAction, updateDirection, updateTime, updateStartHue}
 use Rattle.matter.specs.Limits.{hueLimit, saturationLimit}
 use Rattle.notices.specs.Notices.{only}
-use Rattle.notices.specs.Names.{ColorLoopActive, ColorLoopDirection, ColorLoopTime, ColorLoopStartEnhancedHue, ColorLoopStoredEnhancedHue, markedDirty, deviceHueSaturation, taskGiven}
+use Rattle.notices.specs.Names.{ColorLoopActive, ColorLoopDirection, ColorLoopTime, ColorLoopStartEnhancedHue}
+use Rattle.notices.specs.Names.{ColorLoopStoredEnhancedHue, markedDirty, deviceHueSaturation, taskGiven}
 use Rattle.hue.specs.Hue.{pathDelta}
 use Rattle.progress.specs.Progress.{clamp}
 use Rattle.color.specs.declared.Color.{Color}
@@ -243,24 +244,30 @@ loopSet l flags action direction time startHue =
 unfoldable pub commandEffect : Lamp → Command → CommandEffect
 commandEffect l (Command.MoveToHue hue direction time) =
     giving l (hueTask (pathDelta (l .color .hue) (stored hue) direction) TargetSaturation.Keep time false)
-commandEffect l (Command.MoveHue mode rate enhanced) = giving l (hueMoveTask mode (cond enhanced rate (stored rate)) enhanced)
-commandEffect l (Command.StepHue mode size time) = giving l (hueTask (stepDelta mode (stored size)) TargetSaturation.Keep time false)
+commandEffect l (Command.MoveHue mode rate enhanced) =
+    giving l (hueMoveTask mode (cond enhanced rate (stored rate)) enhanced)
+commandEffect l (Command.StepHue mode size time) =
+    giving l (hueTask (stepDelta mode (stored size)) TargetSaturation.Keep time false)
 commandEffect l (Command.MoveToSaturation saturation time) = giving l (saturationTask saturation time)
-commandEffect l (Command.MoveSaturation mode rate) = giving l (Task.SaturationMove (record { direction = mode; rate = rate }))
+commandEffect l (Command.MoveSaturation mode rate) =
+    giving l (Task.SaturationMove (record { direction = mode; rate = rate }))
 commandEffect l (Command.StepSaturation mode size time) =
     giving l (saturationTask (saturationStep mode (l .color .saturation) size) time)
 commandEffect l (Command.MoveToHueAndSaturation hue saturation time enhanced enhancedHue) =
     giving l
-    (hueTask (pathDelta (l .color .hue) (cond enhanced enhancedHue (stored hue)) DirectionEnum.Shortest) (TargetSaturation.To saturation) time enhanced)
+    (hueTask (pathDelta (l .color .hue) (cond enhanced enhancedHue (stored hue)) DirectionEnum.Shortest)
+    (TargetSaturation.To saturation) time enhanced)
 commandEffect l (Command.EnhancedMoveToHue hue direction time) =
     giving l (hueTask (pathDelta (l .color .hue) hue direction) TargetSaturation.Keep time true)
 commandEffect l (Command.EnhancedMoveHue mode rate) = giving l (hueMoveTask mode rate true)
-commandEffect l (Command.EnhancedStepHue mode size time) = giving l (hueTask (stepDelta mode size) TargetSaturation.Keep time true)
+commandEffect l (Command.EnhancedStepHue mode size time) =
+    giving l (hueTask (stepDelta mode size) TargetSaturation.Keep time true)
 commandEffect l (Command.MoveToColorTemperature mireds time) =
     giving l (temperatureTask (clamp (l .bounds .min) (l .bounds .max) (pos mireds)) time)
 commandEffect l (Command.MoveColorTemperature mode rate min max) =
     giving l
-    (Task.ColorTemperatureMove (record { rate = signed mode rate; min = asked (l .bounds .min) min; max = asked (l .bounds .max) max }))
+    (Task.ColorTemperatureMove
+    (record { rate = signed mode rate; min = asked (l .bounds .min) min; max = asked (l .bounds .max) max }))
 commandEffect l (Command.StepColorTemperature mode size time min max) =
     giving l (temperatureTask (clamp (lo (l .bounds) min) (hi (l .bounds) max) (pos (l .color .mireds) +ℤ stepDelta mode size)) time)
 commandEffect l (Command.ColorLoopSet flags action direction time startHue) =

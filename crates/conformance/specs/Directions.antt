@@ -60,4 +60,5 @@ Goes circle DirectionEnum.Down from to way = GoesDown circle from to way
 -- the tie of Shortest and Longest: "In both cases, if both distances are the same, the Up direction SHALL be taken".
 -- This sentence is kept apart from the rest: without it both ways are good
 abbrev pub TieGoesUp : ℕ → ℕ → ℕ → ℤ → Type 0
-TieGoesUp circle from to way = (n : ℕ) → GoesUp circle from to (pos n) → GoesDown circle from to (negℤ (pos n)) → way ≡ pos n
+TieGoesUp circle from to way =
+    (n : ℕ) → GoesUp circle from to (pos n) → GoesDown circle from to (negℤ (pos n)) → way ≡ pos n

@@ -27,7 +27,11 @@ enhancedHueModes =
     }
 
 abbrev pub temperatureModes : Modes
-temperatureModes = record { color = ColorModeEnum.ColorTemperatureMireds; enhanced = EnhancedColorModeEnum.ColorTemperatureMireds }
+temperatureModes =
+    record {
+      color = ColorModeEnum.ColorTemperatureMireds;
+      enhanced = EnhancedColorModeEnum.ColorTemperatureMireds;
+    }
 
 -- a saturation needs the hue's ColorMode; "If the ColorMode attribute is changed, its new value SHALL be copied to the
 -- EnhancedColorMode attribute": where it is the hue's already, EnhancedColorMode stays

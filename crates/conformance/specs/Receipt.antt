@@ -12,7 +12,8 @@ use Rattle.matter.specs.declared.enums.StepModeEnum.{StepModeEnum}
 use Rattle.color.specs.declared.Color.{Color}
 use Rattle.conformance.specs.Directions.{enhancedCircle, Goes}
 use Rattle.conformance.specs.Limits.{Allowed, Closest}
-use Rattle.conformance.specs.Steps.{enhancedHueMaximum, saturationMaximum, stepsMade, stepTo, moveTo, hueStepTo, hueMoveTo}
+use Rattle.conformance.specs.Steps.{enhancedHueMaximum, saturationMaximum, stepsMade, stepTo, moveTo, hueStepTo}
+use Rattle.conformance.specs.Steps.{hueMoveTo}
 use Rattle.conformance.specs.Transition.{milliseconds}
 
 -- a unit of CurrentHue, the upper byte, is 256 of EnhancedCurrentHue's, in a hue, in a size and in a rate

@@ -16,7 +16,8 @@ Avoids e b = (ys zs : List Call) → e .calls ≡ ys ++ zs → inBand b (later e
 
 -- every hue shown is on the arc
 abbrev pub StaysOnArc : Type 0
-StaysOnArc = (e : Fade) → Premised e → (ys zs : List Call) → e .calls ≡ ys ++ zs → OnArc (found e) (deltaFrom (e .move) (found e)) (later e ys .color .hue)
+StaysOnArc = (e : Fade) → Premised e → (ys zs : List Call) → e .calls ≡ ys ++ zs →
+    OnArc (found e) (deltaFrom (e .move) (found e)) (later e ys .color .hue)
 
 -- the band has no hue on the chosen arc
 abbrev pub NeverThrough : Type 0
@@ -26,4 +27,5 @@ NeverThrough =
 
 -- the test says so
 abbrev pub NeverThroughAsked : Type 0
-NeverThroughAsked = (e : Fade) → Premised e → (b : Band) → InRangeBand b → passesThrough (found e) (target (e .move)) (e .move .direction) b ≡ false → Avoids e b
+NeverThroughAsked = (e : Fade) → Premised e → (b : Band) → InRangeBand b →
+    passesThrough (found e) (target (e .move)) (e .move .direction) b ≡ false → Avoids e b

@@ -17,4 +17,5 @@ movedBetween e = pos (ready e .color .hue) -ℤ pos (found e)
 
 -- once done, at the start or after the calls `ys` that follow it, the hue is the target plus that, wrapped
 abbrev pub OffTarget : Type 0
-OffTarget = (e : Fade) → PremisedButHue e → (ys zs : List Call) → e .calls ≡ ys ++ zs → idle (later e ys) ≡ true → later e ys .color .hue ≡ movedHue (target (e .move)) (movedBetween e)
+OffTarget = (e : Fade) → PremisedButHue e → (ys zs : List Call) → e .calls ≡ ys ++ zs → idle (later e ys) ≡ true →
+    later e ys .color .hue ≡ movedHue (target (e .move)) (movedBetween e)

@@ -35,7 +35,10 @@ pub record ShowSame (l m : Lamp) : Type 0 where
 
 -- after the calls `xs` of the one and `ys` of the other, where the steps accepted so far came at the same clocks
 abbrev pub Together : Type 0
-Together = (d e : Fade) → Premised d → Premised e → Alike d e → (xs xs' ys ys' : List Call) → d .calls ≡ xs ++ xs' → e .calls ≡ ys ++ ys' → stepClocks (begun d .lamp) xs ≡ stepClocks (begun e .lamp) ys → ShowSame (later d xs) (later e ys)
+Together =
+    (d e : Fade) → Premised d → Premised e → Alike d e → (xs xs' ys ys' : List Call) → d .calls ≡ xs ++ xs' →
+    e .calls ≡ ys ++ ys' →
+    stepClocks (begun d .lamp) xs ≡ stepClocks (begun e .lamp) ys → ShowSame (later d xs) (later e ys)
 
 -- after each: where all accepted steps came at the same clocks, after as many of the one as of the other
 abbrev pub AfterEach : Type 0

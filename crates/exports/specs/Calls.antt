@@ -17,7 +17,9 @@ use Rattle.exports.specs.declared.moves.TaskNumbers.{TaskNumbers}
 use Rattle.exports.specs.declared.calls.CommandNumbers.{CommandNumbers}
 use Rattle.exports.specs.Kinds as K
 use Rattle.exports.specs.Words.{at, byte, short, flag}
-use Rattle.exports.specs.Enums.{directionRead, moveModeRead, stepModeRead, loopActionRead, loopDirectionRead, onOffRead, directionKnown, moveModeKnown, stepModeKnown, loopActionKnown, loopDirectionKnown, onOffKnown}
+use Rattle.exports.specs.Enums.{directionRead, moveModeRead, stepModeRead, loopActionRead, loopDirectionRead}
+use Rattle.exports.specs.Enums.{onOffRead, directionKnown, moveModeKnown, stepModeKnown, loopActionKnown}
+use Rattle.exports.specs.Enums.{loopDirectionKnown, onOffKnown}
 use Rattle.exports.specs.Moves.{taskOf, taskKnown}
 
 -- the number of an answer to words that are no call

@@ -2,7 +2,8 @@
 -- number that no case has is read as the case that the line of `Reserved` has here.
 use Prim.Native.Nat.{ℕ}
 use mathlib.Core.Bool.{Bool, true, false}
-use Rattle.matter.specs.Numbers.{directionFound, moveModeFound, stepModeFound, loopActionFound, loopDirectionFound, colorModeFound, enhancedColorModeFound, onOffFound}
+use Rattle.matter.specs.Numbers.{directionFound, moveModeFound, stepModeFound, loopActionFound, loopDirectionFound}
+use Rattle.matter.specs.Numbers.{colorModeFound, enhancedColorModeFound, onOffFound}
 use Rattle.matter.specs.declared.enums.DirectionEnum.{DirectionEnum}
 use Rattle.matter.specs.declared.enums.DirectionFound.{DirectionFound}
 use Rattle.matter.specs.declared.enums.MoveModeEnum.{MoveModeEnum}

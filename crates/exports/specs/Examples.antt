@@ -25,7 +25,10 @@ use Rattle.tasks.specs.declared.Task.{Task}
 use Rattle.lamp.specs.declared.Answer.{Answer}
 use Rattle.lamp.specs.declared.Lamp.{Lamp}
 use Rattle.lamp.specs.declared.Call.{Call}
-use Rattle.exports.specs.Enums.{directionRead, moveModeRead, stepModeRead, loopActionRead, loopDirectionRead, colorModeRead, enhancedModeRead, onOffRead, directionKnown, moveModeKnown, stepModeKnown, loopActionKnown, loopDirectionKnown, colorModeKnown, enhancedModeKnown, onOffKnown}
+use Rattle.exports.specs.Enums.{directionRead, moveModeRead, stepModeRead, loopActionRead, loopDirectionRead}
+use Rattle.exports.specs.Enums.{colorModeRead, enhancedModeRead, onOffRead, directionKnown, moveModeKnown}
+use Rattle.exports.specs.Enums.{stepModeKnown, loopActionKnown, loopDirectionKnown, colorModeKnown}
+use Rattle.exports.specs.Enums.{enhancedModeKnown, onOffKnown}
 use Rattle.exports.specs.Moves.{recordNumbers}
 use Rattle.exports.specs.Lamps.{recordWords, lampWords}
 use Rattle.exports.specs.Calls.{callOf, callKnown}
@@ -108,7 +111,8 @@ pub record CommandWords : Type 0 where
   pub color-loop-set :
       Reads (words 68 1 15 2 0 33 1234)
       (sending
-      (Command.ColorLoopSet 15 ColorLoopActionEnum.ActivateFromEnhancedCurrentHue ColorLoopDirectionEnum.Decrement 33 1234) OnOff.On)
+      (Command.ColorLoopSet 15 ColorLoopActionEnum.ActivateFromEnhancedCurrentHue
+      ColorLoopDirectionEnum.Decrement 33 1234) OnOff.On)
   pub stop-move-step : Reads (words 71 1 0 0 0 0 0) (sending Command.StopMoveStep OnOff.On)
   pub move-color-temperature :
       Reads (words 75 1 1 100 160 400 0) (sending (Command.MoveColorTemperature MoveModeEnum.Up 100 160 400) OnOff.On)

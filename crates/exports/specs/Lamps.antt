@@ -11,7 +11,8 @@ use Rattle.lamp.specs.declared.LoopSettings.{LoopSettings}
 use Rattle.exports.specs.declared.moves.TaskNumbers.{TaskNumbers}
 use Rattle.exports.specs.declared.moves.RecordNumbers.{RecordNumbers}
 use Rattle.exports.specs.Words.{at, byte, short, flag, flagNumber}
-use Rattle.exports.specs.Enums.{colorModeRead, enhancedModeRead, loopDirectionRead, colorModeKnown, enhancedModeKnown, loopDirectionKnown}
+use Rattle.exports.specs.Enums.{colorModeRead, enhancedModeRead, loopDirectionRead, colorModeKnown}
+use Rattle.exports.specs.Enums.{enhancedModeKnown, loopDirectionKnown}
 use Rattle.exports.specs.Moves.{runningOf, recordKnown, recordNumbers}
 
 -- ---- reading
@@ -72,7 +73,9 @@ lampFits w =
 
 -- the enums have their numbers, and each number is within its field
 unfoldable pub lampKnown : List ℕ → Bool
-lampKnown w = lampFits w && colorModeKnown (at w 11) && enhancedModeKnown (at w 12) && loopDirectionKnown (at w 14) && recordKnown (recordOf w)
+lampKnown w =
+    lampFits w && colorModeKnown (at w 11) && enhancedModeKnown (at w 12) && loopDirectionKnown (at w 14)
+    && recordKnown (recordOf w)
 
 -- ---- writing
 

@@ -1,6 +1,6 @@
 -- What `fade` writes, as lists of bytes: "A line has clock, hue, remaining tenths and wait, a colon, then the notices";
--- "A refusal prints `refused`, a space and its number"; a line of another form "prints `bad line`". Every line ends with
--- a newline.
+-- "A refusal prints `refused`, a space and its number"; a line of another form "prints `bad line`". Every line ends
+-- with a newline.
 use Prim.Native.Nat.{ℕ, zero, suc, _+_, _/_, _%_}
 use mathlib.Core.Path.{_≡_}
 use mathlib.Core.Bool.{Bool, cond}

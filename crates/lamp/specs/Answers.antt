@@ -14,7 +14,15 @@ use Rattle.lamp.specs.Valid.{lampValid}
 -- the lamp at another clock
 abbrev pub atClock : Lamp → ℕ → Lamp
 atClock l clock =
-    record { clock = clock; bounds = l .bounds; color = l .color; looping = l .looping; remaining = l .remaining; options = l .options; running = l .running }
+    record {
+      clock = clock;
+      bounds = l .bounds;
+      color = l .color;
+      looping = l .looping;
+      remaining = l .remaining;
+      options = l .options;
+      running = l .running;
+    }
 
 -- "clock earlier than the lamp's, or above 1,099,511,627,776"
 abbrev pub badClock : Lamp → ℕ → Bool

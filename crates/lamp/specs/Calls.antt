@@ -26,7 +26,9 @@ use Rattle.lamp.specs.declared.Answer.{Answer}
 use Rattle.lamp.specs.declared.passes.Left.{Left}
 use Rattle.lamp.specs.Answers.{atClock, badClock, firstCause, refusal}
 use Rattle.lamp.specs.Valid.{lampValid}
-use Rattle.lamp.specs.Passes.{Effect, foundWith, leftBy, leftEffect, idled, hueSaturationPassed, hueSaturationPass, temperatureToPassed, temperatureToPass, huePass, saturationPass, temperaturePass, loopPass}
+use Rattle.lamp.specs.Passes.{Effect, foundWith, leftBy, leftEffect, idled, hueSaturationPassed}
+use Rattle.lamp.specs.Passes.{hueSaturationPass, temperatureToPassed, temperatureToPass, huePass, saturationPass}
+use Rattle.lamp.specs.Passes.{temperaturePass, loopPass}
 
 -- ---- starts: the lamp is at the call's clock already
 
@@ -107,7 +109,13 @@ stepped l (Running.ColorLoop direction hue seconds start) = loopPass l (loopRun 
 -- an accepted start's or step's answer
 abbrev pub done : Effect → Answer
 done e =
-    record { number = accepted; lamp = e .lamp; notices = noted (e .reported); task = GivenTask.Nothing; wait = e .wait }
+    record {
+      number = accepted;
+      lamp = e .lamp;
+      notices = noted (e .reported);
+      task = GivenTask.Nothing;
+      wait = e .wait;
+    }
 
 -- the choice between a refusal and an effect
 abbrev pub choose : ℕ → Lamp → Answer → Answer

@@ -1,5 +1,5 @@
--- The widths of the numbers of a lamp and of a call: facts that every lamp and call of a program has, and the premise of
--- theorems over every list of calls. They are no part of validity.
+-- The widths of the numbers of a lamp and of a call: facts that every lamp and call of a program has, and the premise
+-- of theorems over every list of calls. They are no part of validity.
 use Rattle.matter.specs.InRange.{Byte, Short, Clock, InRangeBounds, InRangeRequest}
 use Rattle.tasks.specs.InRange.{InRangeTask, InRangeRunning}
 use Rattle.lamp.specs.declared.Call.{Call}

@@ -1,6 +1,6 @@
 -- One pass of each transition: document 01, leaf 6 and "The arithmetic of a step". A pass is given what it needs of the
--- lamp at the call's clock, and the running record; it leaves what it changes, and the wait (`Found`, `Moved`, `Passed`,
--- `Left`: the records of src/passes.rt). From that come the lamp after it and what it reports, in its order.
+-- lamp at the call's clock, and the running record; it leaves what it changes, and the wait (`Found`, `Moved`,
+-- `Passed`, `Left`: the records of src/passes.rt). From that come the lamp after it and what it reports, in its order.
 use Prim.Native.Nat.{ℕ, _-_}
 use mathlib.Core.Bool.{Bool, true, false, cond, _&&_, _||_}
 use mathlib.Core.List.{List, [], _++_}
@@ -64,8 +64,8 @@ waiting end wait = cond end 0 wait
 abbrev pub leftBy : Bool → Passed → Running → Left
 leftBy full passed running = record { full = full; passed = passed; running = unless (passed .ends) running }
 
--- "Each pass writes the device after the setters, then, in a move-to, the remaining time": what it reports, which is its
--- first change and what comes behind it
+-- "Each pass writes the device after the setters, then, in a move-to, the remaining time": what it reports, which is
+-- its first change and what comes behind it
 abbrev pub reportedBehind : Passed → Bool → List ℕ
 reportedBehind passed active =
     changeReported (passed .second) active ++ only (ltb 0 (passed .device)) (passed .device)

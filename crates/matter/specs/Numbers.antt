@@ -116,7 +116,8 @@ enhancedColorModes =
 
 abbrev pub enhancedColorModeFound : ℕ → EnhancedColorModeFound
 enhancedColorModeFound n =
-    caseNumbered enhancedColorModeNumber EnhancedColorModeFound.Known EnhancedColorModeFound.Reserved enhancedColorModes n
+    caseNumbered enhancedColorModeNumber EnhancedColorModeFound.Known EnhancedColorModeFound.Reserved
+    enhancedColorModes n
 
 -- OnOff: the on/off attribute's numbers, and 2 where there is no on/off cluster (ours)
 abbrev pub onOffNumber : OnOff → ℕ

@@ -1,4 +1,5 @@
--- Notice lists: "a list of sixteen places, unused places 0". That none has more than 14 is `Few` in commands/specs/Table.
+-- Notice lists: "a list of sixteen places, unused places 0". That none has more than 14 is `Few` in
+-- commands/specs/Table.
 use Prim.Native.Nat.{ℕ, _-_}
 use mathlib.Core.Bool.{Bool, cond}
 use mathlib.Core.List.{List, [], _∷_, _++_}

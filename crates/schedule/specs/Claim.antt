@@ -1,7 +1,7 @@
 -- Demand 3 (docs/DEMANDS.md, whose words are quoted here). For every list of commands, starts, steps and halts, refused
--- ones too, from any valid lamp: each move to a hue that is accepted and may execute gives its task and, once a start of
--- that task is accepted, keeps its schedule. One statement over a lamp and a whole list. Premises: the lamp is valid;
--- lamp and calls are in range; the demand's own.
+-- ones too, from any valid lamp: each move to a hue that is accepted and may execute gives its task and, once a start
+-- of that task is accepted, keeps its schedule. One statement over a lamp and a whole list. Premises: the lamp is
+-- valid; lamp and calls are in range; the demand's own.
 use Prim.Native.Nat.{ℕ, _+_, _≤_}
 use mathlib.Core.Bool.{true, cond, _||_}
 use mathlib.Core.List.{List, [], _∷_, _++_}
@@ -19,8 +19,10 @@ use Rattle.lamp.specs.Valid.{lampValid}
 use Rattle.lamp.specs.declared.Call.{Call}
 use Rattle.lamp.specs.InRange.{InRangeLamp}
 use Rattle.commands.specs.Answers.{answer, allowed}
-use Rattle.schedule.specs.Calls.{next, after, accepts, idle, InRangeCalls, quiet, acceptedStep, steps, reached, paced}
-use Rattle.schedule.specs.Schedule.{HueCommand, asRequest, target, deltaFrom, time, taskOf, Fed, Shown, takes, scheduled}
+use Rattle.schedule.specs.Calls.{next, after, accepts, idle, InRangeCalls, quiet, acceptedStep, steps, reached}
+use Rattle.schedule.specs.Calls.{paced}
+use Rattle.schedule.specs.Schedule.{HueCommand, asRequest, target, deltaFrom, time, taskOf, Fed, Shown, takes}
+use Rattle.schedule.specs.Schedule.{scheduled}
 
 -- the way travelled, read off a hue: how far it is from the one found, on the side of the way's sign
 abbrev pub travelled : Fed → Lamp → ℕ

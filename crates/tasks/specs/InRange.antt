@@ -48,10 +48,12 @@ InRangeTask Task.Stop = Unit
 
 abbrev pub InRangeRunning : Running → Type 0
 InRangeRunning Running.Idle = Unit
-InRangeRunning (Running.HueSaturationMoveTo run) = Clock (run .start) × Short (run .hue) × Byte (run .saturation) × InRangeMoveTo (run .task)
+InRangeRunning (Running.HueSaturationMoveTo run) =
+    Clock (run .start) × Short (run .hue) × Byte (run .saturation) × InRangeMoveTo (run .task)
 InRangeRunning (Running.HueMove run) = Clock (run .start) × Short (run .hue) × Long (run .task .rate)
 InRangeRunning (Running.SaturationMove run) = Clock (run .start) × Byte (run .saturation) × Long (run .task .rate)
-InRangeRunning (Running.ColorTemperatureMoveTo run) = Clock (run .start) × Short (run .mireds) × InRangeTemperatureTo (run .task)
+InRangeRunning (Running.ColorTemperatureMoveTo run) =
+    Clock (run .start) × Short (run .mireds) × InRangeTemperatureTo (run .task)
 InRangeRunning (Running.ColorTemperatureMove run) =
     Clock (run .start) × Short (run .mireds) × Signed64 (run .rate) × Short (run .lo) × Short (run .hi)
 InRangeRunning (Running.ColorLoop direction hue seconds start) = Clock start × Short hue × Short seconds

@@ -16,7 +16,8 @@ runs (Running.ColorLoop direction hue seconds start) = true
 
 -- the colour loop's record of its four numbers
 abbrev pub loopRun : ColorLoopDirectionEnum → ℕ → ℕ → ℕ → ColorLoopRun
-loopRun direction hue seconds start = record { start = start; hue = hue; task = record { direction = direction; seconds = seconds } }
+loopRun direction hue seconds start =
+    record { start = start; hue = hue; task = record { direction = direction; seconds = seconds } }
 
 -- and as what runs
 abbrev pub loopRunning : ColorLoopRun → Running

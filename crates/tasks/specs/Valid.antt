@@ -57,7 +57,8 @@ rateValid rate = not (eqb (natAbs rate) 0) && small rate
 -- a move-to; the last test is "neither hue nor saturation"
 unfoldable pub moveToValid : HueSaturationMoveTo → Bool
 moveToValid t =
-    allTrue (timeValid (t .ms) ∷ deltaValid (t .delta) ∷ saturationValid (t .saturation) ∷ (deltaGiven (t .delta) || saturationGiven (t .saturation)) ∷ [])
+    allTrue (timeValid (t .ms) ∷ deltaValid (t .delta) ∷ saturationValid (t .saturation)
+    ∷ (deltaGiven (t .delta) || saturationGiven (t .saturation)) ∷ [])
 
 -- not: "rate 0", "hue rate above 65,535", "Stop as a move's direction"
 unfoldable pub hueMoveValid : HueMove → Bool
@@ -87,18 +88,21 @@ withinBounds bounds mireds = leb (bounds .min) mireds && leb mireds (bounds .max
 unfoldable pub runningValid : Running → Bounds → ℕ → Bool
 runningValid Running.Idle bounds clock = true
 runningValid (Running.HueSaturationMoveTo run) bounds clock =
-    allTrue (moveToValid (run .task) ∷ ltb 0 (run .task .ms) ∷ leb (run .saturation) saturationLimit ∷ leb (run .start) clock ∷ [])
+    allTrue (moveToValid (run .task) ∷ ltb 0 (run .task .ms) ∷ leb (run .saturation) saturationLimit
+    ∷ leb (run .start) clock ∷ [])
 runningValid (Running.HueMove run) bounds clock = allTrue (hueMoveValid (run .task) ∷ leb (run .start) clock ∷ [])
 runningValid (Running.SaturationMove run) bounds clock =
     allTrue (saturationMoveValid (run .task) ∷ leb (run .saturation) saturationLimit ∷ leb (run .start) clock ∷ [])
 runningValid (Running.ColorTemperatureMoveTo run) bounds clock =
     allTrue
-    (timeValid (run .task .ms) ∷ ltb 0 (run .task .ms) ∷ withinBounds bounds (run .mireds) ∷ withinBounds bounds (run .task .target)
+    (timeValid (run .task .ms) ∷ ltb 0 (run .task .ms) ∷ withinBounds bounds (run .mireds)
+    ∷ withinBounds bounds (run .task .target)
     ∷ leb (run .start) clock
     ∷ [])
 runningValid (Running.ColorTemperatureMove run) bounds clock =
     allTrue
-    (rateValid (run .rate) ∷ withinBounds bounds (run .mireds) ∷ ltb (run .lo) (run .hi) ∷ withinBounds bounds (run .lo) ∷ withinBounds bounds (run .hi)
+    (rateValid (run .rate) ∷ withinBounds bounds (run .mireds) ∷ ltb (run .lo) (run .hi)
+    ∷ withinBounds bounds (run .lo) ∷ withinBounds bounds (run .hi)
     ∷ leb (run .start) clock
     ∷ [])
 runningValid (Running.ColorLoop direction hue seconds start) bounds clock = leb start clock

@@ -217,7 +217,8 @@ loopSaid a = (a .number, listed a, a .task, a .lamp .looping, a .wait)
 abbrev pub withFlags : ℕ → ℕ → Answer
 withFlags flags seconds =
     plain lamp
-    (Command.ColorLoopSet flags ColorLoopActionEnum.ActivateFromColorLoopStartEnhancedHue ColorLoopDirectionEnum.Decrement
+    (Command.ColorLoopSet flags ColorLoopActionEnum.ActivateFromColorLoopStartEnhancedHue
+    ColorLoopDirectionEnum.Decrement
     seconds 100)
     OnOff.On now
 

@@ -71,7 +71,8 @@ abbrev pub HaltLeaves : Type 0
 HaltLeaves =
     haltAnswer busy now ≡ bare 0 (idled (later busy))
 
--- ---- the colour loop's action on a lamp that runs, halfway to hue 1280: on from the start hue, on again, off, off again
+-- ---- the colour loop's action on a lamp that runs, halfway to hue 1280: on from the start hue, on again, off, off
+-- again
 
 abbrev pub moving : Lamp
 moving =

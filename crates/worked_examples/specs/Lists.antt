@@ -105,7 +105,8 @@ abbrev pub NoFlagReported : Type 0
 NoFlagReported =
     listed (loopFlags 0 ColorLoopActionEnum.ActivateFromEnhancedCurrentHue lamp) ≡ (13 ∷ [])
 
--- ---- the snap at its numbers: a turn's part of 65,152 and more goes up, one of 384 and less goes down, but in the first turn
+-- ---- the snap at its numbers: a turn's part of 65,152 and more goes up, one of 384 and less goes down, but in the
+-- first turn
 
 abbrev pub SnapAt : Type 0
 SnapAt =
