@@ -19,8 +19,17 @@ impl Firmware {
         self.act(&answer);
         match answer.given_task() {
             None => {}
-            Some(Task::Stop) => self.turn(self.lamp.halt(now).result()?, now),
+            Some(Task::Stop) => self.stop(now)?,
             Some(task) => self.turn(self.lamp.start(task, now).result()?, now),
+        }
+        Ok(())
+    }
+
+    /// Stop: what runs ends, and RemainingTime is 0, as rs-matter's dispatcher has it.
+    fn stop(&mut self, now: u64) -> Result<(), Refusal> {
+        self.turn(self.lamp.halt(now).result()?, now);
+        if self.lamp.remaining.write_quietly(0, false) {
+            println!("  report RemainingTime");
         }
         Ok(())
     }
@@ -83,5 +92,14 @@ fn main() -> Result<(), Refusal> {
         firmware.tick(now)?;
     }
     assert_eq!((firmware.lamp.color.hue, firmware.due), (32_768, None));
+
+    println!("6000 MoveToHue, then StopMoveStep");
+    firmware.command(
+        Command::move_to_hue(0, DirectionEnum::Up, 20),
+        OnOff::On,
+        6000,
+    )?;
+    firmware.command(Command::stop_move_step(), OnOff::On, 6500)?;
+    assert_eq!((firmware.lamp.remaining.tenths, firmware.due), (0, None));
     Ok(())
 }

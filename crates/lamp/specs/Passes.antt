@@ -178,7 +178,7 @@ abbrev pub temperatureToPass : Lamp → ColorTemperatureToRun → ℕ → Effect
 temperatureToPass l run permille =
     leftEffect l (leftBy false (temperatureToPassed (foundIn l) run permille) (Running.ColorTemperatureMoveTo run))
 
--- ---- moves at a rate: "rate × elapsed / 1000 [..]. moves at a rate always 100"
+-- ---- moves at a rate: "rate × elapsed / 1000"; the wait of "moves at a rate always 100"
 
 -- a pass with one change, which leaves the remaining time
 abbrev pub passed : Found → ColorSet → ℕ → ℕ → Bool → Passed
