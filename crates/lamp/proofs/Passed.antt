@@ -1,4 +1,5 @@
--- What a pass reports: its parts, one in front of the other, are the list, and it has room.
+-- What the first pass of a move-to finds, and what a pass reports: its parts, one in front of the other, are the list, which has
+-- room.
 use Prim.Native.Nat.{ℕ, _+_, _≤_, _<_}
 use mathlib.Core.Bool.{Bool}
 use mathlib.Core.List.{List, _++_}
