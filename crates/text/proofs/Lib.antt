@@ -1,0 +1,5 @@
+pub mod WriteLaws
+pub mod DigitLaws
+pub mod WordLaws
+pub mod NumberLaws
+pub mod PairLaws

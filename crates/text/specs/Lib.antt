@@ -1,0 +1,5 @@
+pub mod Written
+pub mod Digits
+pub mod Words
+pub mod Numbers
+pub mod Pairs
