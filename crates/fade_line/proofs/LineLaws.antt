@@ -1,16 +1,20 @@
 -- Read a byte at a time, in parts of any sizes, an input asks for what its line says.
-use Prim.Native.Nat.{ℕ, zero, suc, _+_, _-_, _*_, _^_, _≤_, _<_}
-use mathlib.Core.Bool.{Bool, true, false, cond, not, _&&_, _||_, false≢true, and-true, and-false}
+use Prim.Native.Nat.{ℕ, zero, suc, _+_, _-_, _*_, _≤_, _<_}
+use mathlib.Core.Bool.{Bool, true, false, cond, _&&_, false≢true, and-true, and-false}
 use mathlib.Core.List.{List, [], _∷_, _++_, append-assoc, append-nil}
-use mathlib.Core.Path.{_≡_, refl, sym, ap, subst, subst⁻¹, _∙_}
+use mathlib.Core.Path.{_≡_, refl, sym, ap, subst⁻¹, _∙_}
 use native.Mathlib.Omega.{arith}
-use lib.Dec.{eqb, ltb, leb}
-use lib.ListN.{length, getD}
-use borrow.Author.Tests.{ltb-false, le-ltb, ne-eqb}
+use lib.Dec.{eqb, leb}
+use lib.ListN.{length}
+use borrow.Author.Tests.{leb-false, lt-leb, ne-eqb}
+use Rattle.text.specs.declared.digits.Grown.{Grown}
+use Rattle.text.specs.Digits.{isDigit, notEmpty, digitsAlone, value, isNumber, grown}
+use Rattle.text.specs.Words.{upTo}
+use Rattle.text.proofs.DigitLaws.{value-next, value-join, value-grows}
 use Rattle.fade_line.specs.declared.reader.Asked.{Asked}
 use Rattle.fade_line.specs.declared.reader.Reader.{Reader}
-use Rattle.fade_line.specs.Line.{line, longer, words, isDigit, notEmpty, digitsAlone, valueFrom, value, isNumber, allNumbers, wanted, askedByWords, askedBy}
-use Rattle.fade_line.specs.Reading.{fresh, spoilt, ended, nextWord, nextDigit, settled, readByte, readAll, lineRead}
+use Rattle.fade_line.specs.Line.{line, longer, words, largest, allNumbers, wanted, askedByWords, askedBy}
+use Rattle.fade_line.specs.Reading.{fresh, spoilt, ended, nextWord, withLast, nextDigit, settled, readByte, readAll, lineRead}
 
 -- ---- a settled line: nothing that follows changes what has been read, nor what it asks for
 
@@ -40,36 +44,24 @@ ended-stays r (b ∷ bs) e f = simp (e, f) (ended-stays r bs e f)
 
 -- ---- numbers
 
-pub value-next : (v : ℕ) (w : List ℕ) (b : ℕ) → valueFrom v (w ++ (b ∷ [])) ≡ valueFrom v w * 10 + (b - 48)
-value-next v [] b = refl
-value-next v (x ∷ w) b = value-next (v * 10 + (x - 48)) w b
-
-value-join : (v : ℕ) (w u : List ℕ) → valueFrom v (w ++ u) ≡ valueFrom (valueFrom v w) u
-value-join v [] u = refl
-value-join v (x ∷ w) u = value-join (v * 10 + (x - 48)) w u
-
-value-grows : (v : ℕ) (w : List ℕ) → v ≤ valueFrom v w
-value-grows v [] = omega arith
-value-grows v (x ∷ w) = omega (arith, value-grows (v * 10 + (x - 48)) w)
-
 -- a number past 64 bits stays past them
-too-large : (w : List ℕ) (b : ℕ) (u : List ℕ) → ltb (value w * 10 + (b - 48)) (2 ^ 64) ≡ false → isNumber (w ++ (b ∷ u)) ≡ false
+too-large : (w : List ℕ) (b : ℕ) (u : List ℕ) → leb (value w * 10 + (b - 48)) largest ≡ false → isNumber largest (w ++ (b ∷ u)) ≡ false
 unfolding isNumber
 too-large w b u e =
-    let grown : 2 ^ 64 ≤ value (w ++ (b ∷ u)) =
-    subst⁻¹ (λ (n : ℕ). 2 ^ 64 ≤ n) (value-join 0 w (b ∷ u)) (omega (arith, ltb-false (value w * 10 + (b - 48)) (2 ^ 64) e, value-grows (value w * 10 + (b - 48)) u)) in
-    ap (λ (t : Bool). notEmpty (w ++ (b ∷ u)) && digitsAlone (w ++ (b ∷ u)) && t) (le-ltb (value (w ++ (b ∷ u))) (2 ^ 64) grown)
+    let grown : largest < value (w ++ (b ∷ u)) =
+    subst⁻¹ (λ (n : ℕ). largest < n) (value-join 0 w (b ∷ u)) (omega (arith, leb-false (value w * 10 + (b - 48)) largest e, value-grows (value w * 10 + (b - 48)) u)) in
+    ap (λ (t : Bool). notEmpty (w ++ (b ∷ u)) && digitsAlone (w ++ (b ∷ u)) && t) (lt-leb (value (w ++ (b ∷ u))) largest grown)
     ∙ and-false (notEmpty (w ++ (b ∷ u)) && digitsAlone (w ++ (b ∷ u)))
 
 not-digits : (w : List ℕ) (b : ℕ) (u : List ℕ) → isDigit b ≡ false → digitsAlone (w ++ (b ∷ u)) ≡ false
 not-digits [] b u e = simp e
 not-digits (x ∷ w) b u e = ap (λ (t : Bool). isDigit x && t) (not-digits w b u e) ∙ and-false (isDigit x)
 
-no-digit : (w : List ℕ) (b : ℕ) (u : List ℕ) → isDigit b ≡ false → isNumber (w ++ (b ∷ u)) ≡ false
+no-digit : (w : List ℕ) (b : ℕ) (u : List ℕ) → isDigit b ≡ false → isNumber largest (w ++ (b ∷ u)) ≡ false
 unfolding isNumber
 no-digit w b u e =
-    ap (λ (t : Bool). notEmpty (w ++ (b ∷ u)) && t && ltb (value (w ++ (b ∷ u))) (2 ^ 64)) (not-digits w b u e)
-    ∙ ap (λ (t : Bool). t && ltb (value (w ++ (b ∷ u))) (2 ^ 64)) (and-false (notEmpty (w ++ (b ∷ u))))
+    ap (λ (t : Bool). notEmpty (w ++ (b ∷ u)) && t && leb (value (w ++ (b ∷ u))) largest) (not-digits w b u e)
+    ∙ ap (λ (t : Bool). t && leb (value (w ++ (b ∷ u))) largest) (and-false (notEmpty (w ++ (b ∷ u))))
 
 digits-next : (w : List ℕ) (b : ℕ) → digitsAlone w ≡ true → isDigit b ≡ true → digitsAlone (w ++ (b ∷ [])) ≡ true
 digits-next [] b e f = simp f
@@ -99,15 +91,15 @@ glue-longer : (w : List ℕ) (b : ℕ) (ws : List (List ℕ)) → glue w (longer
 glue-longer w b [] = refl
 glue-longer w b (u ∷ us) = ap {B = List (List ℕ)} (λ (x : List ℕ). x ∷ us) (sym (append-assoc w (b ∷ []) u))
 
-none-of : (p : List (List ℕ)) (x : List ℕ) (q : List (List ℕ)) → isNumber x ≡ false → askedByWords (p ++ (x ∷ q)) ≡ Asked.BadLine
+none-of : (p : List (List ℕ)) (x : List ℕ) (q : List (List ℕ)) → isNumber largest x ≡ false → askedByWords (p ++ (x ∷ q)) ≡ Asked.BadLine
 unfolding askedByWords
 none-of p x q e = simp (no-numbers p, and-false (eqb (length (p ++ (x ∷ q))) 4))
   where
     no-numbers : (p : List (List ℕ)) → allNumbers (p ++ (x ∷ q)) ≡ false
     no-numbers [] = simp e
-    no-numbers (y ∷ p) = ap (λ (t : Bool). isNumber y && t) (no-numbers p) ∙ and-false (isNumber y)
+    no-numbers (y ∷ p) = ap (λ (t : Bool). isNumber largest y && t) (no-numbers p) ∙ and-false (isNumber largest y)
 
-spoilt-word : (p : List (List ℕ)) (w : List ℕ) (b : ℕ) (ws : List (List ℕ)) → ((u : List ℕ) → isNumber (w ++ (b ∷ u)) ≡ false) → askedByWords (p ++ glue w (longer b ws)) ≡ Asked.BadLine
+spoilt-word : (p : List (List ℕ)) (w : List ℕ) (b : ℕ) (ws : List (List ℕ)) → ((u : List ℕ) → isNumber largest (w ++ (b ∷ u)) ≡ false) → askedByWords (p ++ glue w (longer b ws)) ≡ Asked.BadLine
 spoilt-word p w b [] h = none-of p (w ++ (b ∷ [])) [] (h [])
 spoilt-word p w b (u ∷ us) h = none-of p (w ++ (b ∷ u)) us (h u)
 
@@ -123,20 +115,20 @@ abbrev held : ℕ → List ℕ → List ℕ → List ℕ → List ℕ → Reader
 held k a b c w = record { bad = false; over = false; begun = notEmpty w; blanks = k; first = value a; second = value b; third = value c; last = value w }
 
 -- a word of digits within 64 bits is a number unless it is empty
-whole : (w : List ℕ) → digitsAlone w ≡ true → ltb (value w) (2 ^ 64) ≡ true → isNumber w ≡ notEmpty w
+whole : (w : List ℕ) → digitsAlone w ≡ true → leb (value w) largest ≡ true → isNumber largest w ≡ notEmpty w
 unfolding isNumber
 whole w d n = simp (d, n, and-true (notEmpty w))
 
-numbers-then : (p : List (List ℕ)) (w : List ℕ) → allNumbers p ≡ true → allNumbers (p ++ (w ∷ [])) ≡ isNumber w
-numbers-then [] w e = and-true (isNumber w)
-numbers-then (x ∷ p) w e = go (isNumber x) (numbers-then p w) e
+numbers-then : (p : List (List ℕ)) (w : List ℕ) → allNumbers p ≡ true → allNumbers (p ++ (w ∷ [])) ≡ isNumber largest w
+numbers-then [] w e = and-true (isNumber largest w)
+numbers-then (x ∷ p) w e = go (isNumber largest x) (numbers-then p w) e
   where
-    go : (t : Bool) → (allNumbers p ≡ true → allNumbers (p ++ (w ∷ [])) ≡ isNumber w) → (t && allNumbers p) ≡ true → (t && allNumbers (p ++ (w ∷ []))) ≡ isNumber w
+    go : (t : Bool) → (allNumbers p ≡ true → allNumbers (p ++ (w ∷ [])) ≡ isNumber largest w) → (t && allNumbers p) ≡ true → (t && allNumbers (p ++ (w ∷ []))) ≡ isNumber largest w
     go true h e = h e
     go false h e = absurd (false≢true e)
 
 -- at the end of the line
-line-ends : (k : ℕ) (a b c w : List ℕ) → k ≤ 3 → allNumbers (before k a b c) ≡ true → digitsAlone w ≡ true → ltb (value w) (2 ^ 64) ≡ true → lineRead (held k a b c w) ≡ askedByWords (before k a b c ++ (w ∷ []))
+line-ends : (k : ℕ) (a b c w : List ℕ) → k ≤ 3 → allNumbers (before k a b c) ≡ true → digitsAlone w ≡ true → leb (value w) largest ≡ true → lineRead (held k a b c w) ≡ askedByWords (before k a b c ++ (w ∷ []))
 unfolding lineRead askedByWords
 line-ends zero a b c w h e d n = refl
 line-ends (suc zero) a b c w h e d n = refl
@@ -148,26 +140,26 @@ line-ends (suc (suc (suc (suc k)))) a b c w h e d n = absurd (omega (arith, h))
 
 abbrev Goes : List ℕ → Type 0
 Goes bs =
-    (k : ℕ) (a b c w : List ℕ) → k ≤ 3 → allNumbers (before k a b c) ≡ true → digitsAlone w ≡ true → ltb (value w) (2 ^ 64) ≡ true →
+    (k : ℕ) (a b c w : List ℕ) → k ≤ 3 → allNumbers (before k a b c) ≡ true → digitsAlone w ≡ true → leb (value w) largest ≡ true →
     lineRead (readAll (held k a b c w) bs) ≡ askedByWords (before k a b c ++ glue w (words (line bs)))
 
 at-end : Goes []
-unfolding readAll line words
+unfolding readAll upTo words
 at-end k a b c w h e d n = line-ends k a b c w h e d n ∙ ap (λ (x : List ℕ). askedByWords (before k a b c ++ (x ∷ []))) (sym (append-nil w))
 
 at-newline : (x : ℕ) (bs : List ℕ) → eqb x 10 ≡ true → Goes (x ∷ bs)
-unfolding readAll readByte lineRead line
+unfolding readAll readByte lineRead upTo
 at-newline x bs t k a b c w h e d n = simp (t, ended-stays (ended (held k a b c w)) bs refl refl) (at-end k a b c w h e d n)
 
 at-other : (x : ℕ) (bs : List ℕ) → eqb x 10 ≡ false → eqb x 32 ≡ false → isDigit x ≡ false → Goes (x ∷ bs)
-unfolding readAll readByte line words
+unfolding readAll readByte nextDigit grown upTo words
 at-other x bs t u v k a b c w h e d n =
     simp (t, u, v, spoilt-stays (spoilt (held k a b c w)) bs refl) (sym (spoilt-word (before k a b c) w x (words (line bs)) (λ z. no-digit w x z v)))
 
 -- a blank after no digit
 at-second-blank : (x : ℕ) (bs : List ℕ) → eqb x 10 ≡ false → eqb x 32 ≡ true → (k : ℕ) (a b c : List ℕ) →
     lineRead (readAll (held k a b c []) (x ∷ bs)) ≡ askedByWords (before k a b c ++ glue [] (words (line (x ∷ bs))))
-unfolding readAll readByte nextWord line words isNumber
+unfolding readAll readByte nextWord upTo words isNumber
 at-second-blank x bs t u k a b c = simp (t, u, spoilt-stays (spoilt (held k a b c [])) bs refl) (sym (none-of (before k a b c) [] (words (line bs)) refl))
 
 -- five words and more
@@ -178,9 +170,9 @@ too-many a b c w (u ∷ us) e = simp (ne-eqb (suc (suc (suc (suc (suc (length us
 
 -- a blank after a word: one whole word more
 next-whole : (x : ℕ) (bs : List ℕ) → eqb x 10 ≡ false → eqb x 32 ≡ true → Goes bs → (y : ℕ) (ys : List ℕ) (k : ℕ) (a b c : List ℕ) → k ≤ 3 →
-    allNumbers (before k a b c) ≡ true → digitsAlone (y ∷ ys) ≡ true → ltb (value (y ∷ ys)) (2 ^ 64) ≡ true →
+    allNumbers (before k a b c) ≡ true → digitsAlone (y ∷ ys) ≡ true → leb (value (y ∷ ys)) largest ≡ true →
     lineRead (readAll (held k a b c (y ∷ ys)) (x ∷ bs)) ≡ askedByWords (before k a b c ++ glue (y ∷ ys) (words (line (x ∷ bs))))
-unfolding readAll readByte nextWord line words
+unfolding readAll readByte nextWord upTo words
 next-whole x bs t u go y ys k a b c h e d n = simp (t, u, append-nil (y ∷ ys)) (by-count k h e)
   where
     w : List ℕ
@@ -209,8 +201,8 @@ some [] x = refl
 some (y ∷ w) x = refl
 
 at-digit : (x : ℕ) (bs : List ℕ) → eqb x 10 ≡ false → eqb x 32 ≡ false → isDigit x ≡ true → Goes bs → Goes (x ∷ bs)
-unfolding readAll readByte nextDigit line words
-at-digit x bs t u v go k a b c w h e d n = simp (t, u, v) (by-size (ltb (value w * 10 + (x - 48)) (2 ^ 64)) refl)
+unfolding readAll readByte nextDigit grown upTo words
+at-digit x bs t u v go k a b c w h e d n = simp (t, u, v) (by-size (leb (value w * 10 + (x - 48)) largest) refl)
   where
     more : Reader
     more = record { bad = false; over = false; begun = true; blanks = k; first = value a; second = value b; third = value c; last = value w * 10 + (x - 48) }
@@ -218,11 +210,11 @@ at-digit x bs t u v go k a b c w h e d n = simp (t, u, v) (by-size (ltb (value w
     is-held : held k a b c (w ++ (x ∷ [])) ≡ more
     is-held = simp (some w x, value-next 0 w x)
 
-    by-size : (z : Bool) → ltb (value w * 10 + (x - 48)) (2 ^ 64) ≡ z →
-        lineRead (readAll (cond z more (spoilt (held k a b c w))) bs) ≡ askedByWords (before k a b c ++ glue w (longer x (words (line bs))))
+    by-size : (z : Bool) → leb (value w * 10 + (x - 48)) largest ≡ z →
+        lineRead (readAll (withLast (held k a b c w) (cond z (Grown.To (value w * 10 + (x - 48))) Grown.Refused)) bs) ≡ askedByWords (before k a b c ++ glue w (longer x (words (line bs))))
     by-size true z =
         ap (λ (r : Reader). lineRead (readAll r bs)) (sym is-held)
-        ∙ go k a b c (w ++ (x ∷ [])) h e (digits-next w x d v) (ap (λ (m : ℕ). ltb m (2 ^ 64)) (value-next 0 w x) ∙ z)
+        ∙ go k a b c (w ++ (x ∷ [])) h e (digits-next w x d v) (ap (λ (m : ℕ). leb m largest) (value-next 0 w x) ∙ z)
         ∙ ap (λ (q : List (List ℕ)). askedByWords (before k a b c ++ q)) (sym (glue-longer w x (words (line bs))))
     by-size false z = spoilt-stays (spoilt (held k a b c w)) bs refl ∙ sym (spoilt-word (before k a b c) w x (words (line bs)) (λ r. too-large w x r z))
 

@@ -1,18 +1,19 @@
 -- The line that `fade` reads: document 01, "The program `fade`". Bytes are numbers; 10 is the newline, 32 the blank,
 -- 48 to 57 the digits.
-use Prim.Native.Nat.{ℕ, _+_, _-_, _*_, _^_}
-use mathlib.Core.Bool.{Bool, true, false, cond, _&&_}
+use Prim.Native.Nat.{ℕ}
+use mathlib.Core.Bool.{Bool, true, cond, _&&_}
 use mathlib.Core.List.{List, [], _∷_}
-use lib.Dec.{eqb, ltb, leb}
+use lib.Dec.{eqb, leb}
 use lib.ListN.{length, getD}
+use Rattle.text.specs.Digits.{value, isNumber}
+use Rattle.text.specs.Words.{upTo}
 use Rattle.matter.specs.Numbers.{directionFound}
 use Rattle.matter.specs.declared.enums.DirectionFound.{DirectionFound}
 use Rattle.fade_line.specs.declared.reader.Asked.{Asked}
 
 -- "reads one line": what stands before the first newline, or all of the input
-unfoldable pub line : List ℕ → List ℕ
-line [] = []
-line (b ∷ bs) = cond (eqb b 10) [] (b ∷ line bs)
+abbrev pub line : List ℕ → List ℕ
+line input = upTo 10 input
 
 -- a byte put before the first word
 abbrev pub longer : ℕ → List (List ℕ) → List (List ℕ)
@@ -24,32 +25,14 @@ unfoldable pub words : List ℕ → List (List ℕ)
 words [] = [] ∷ []
 words (b ∷ bs) = cond (eqb b 32) ([] ∷ words bs) (longer b (words bs))
 
-abbrev pub isDigit : ℕ → Bool
-isDigit b = leb 48 b && leb b 57
-
-abbrev pub notEmpty : List ℕ → Bool
-notEmpty [] = false
-notEmpty (b ∷ bs) = true
-
-abbrev pub digitsAlone : List ℕ → Bool
-digitsAlone [] = true
-digitsAlone (b ∷ bs) = isDigit b && digitsAlone bs
-
--- the number that digits stand for, after digits of the number v
-abbrev pub valueFrom : ℕ → List ℕ → ℕ
-valueFrom v [] = v
-valueFrom v (b ∷ bs) = valueFrom (v * 10 + (b - 48)) bs
-
-abbrev pub value : List ℕ → ℕ
-value w = valueFrom 0 w
+-- the largest number of 64 bits
+abbrev pub largest : ℕ
+largest = 18446744073709551615
 
 -- "decimal numbers of digits alone": a digit at least, zeros in front as they come, and within 64 bits
-unfoldable pub isNumber : List ℕ → Bool
-isNumber w = notEmpty w && digitsAlone w && ltb (value w) (2 ^ 64)
-
 abbrev pub allNumbers : List (List ℕ) → Bool
 allNumbers [] = true
-allNumbers (w ∷ ws) = isNumber w && allNumbers ws
+allNumbers (w ∷ ws) = isNumber largest w && allNumbers ws
 
 abbrev pub withDirection : DirectionFound → ℕ → ℕ → ℕ → Asked
 withDirection (DirectionFound.Known direction) hue tenths clock =

@@ -1,11 +1,13 @@
 -- The line of `fade` (document 01), read a byte at a time. That this is the line of `Line` is shown in proofs/LineLaws.
-use Prim.Native.Nat.{ℕ, _+_, _-_, _*_, _^_}
+use Prim.Native.Nat.{ℕ, _+_}
 use mathlib.Core.Bool.{Bool, true, false, cond, not, _&&_, _||_}
 use mathlib.Core.List.{List, [], _∷_}
-use lib.Dec.{eqb, ltb, leb}
+use lib.Dec.{eqb, ltb}
 use Rattle.fade_line.specs.declared.reader.Asked.{Asked}
 use Rattle.fade_line.specs.declared.reader.Reader.{Reader}
-use Rattle.fade_line.specs.Line.{isDigit, wanted}
+use Rattle.text.specs.declared.digits.Grown.{Grown}
+use Rattle.text.specs.Digits.{grown}
+use Rattle.fade_line.specs.Line.{largest, wanted}
 
 -- nothing has been read
 abbrev pub fresh : Reader
@@ -54,11 +56,10 @@ nextWord r =
     })
     (spoilt r)
 
--- a digit: the number stays within 64 bits
-unfoldable pub nextDigit : Reader → ℕ → Reader
-nextDigit r d =
-    cond (ltb (r .last * 10 + d) (2 ^ 64))
-    (record {
+-- the last word's number, with one digit more
+abbrev pub withLast : Reader → Grown → Reader
+withLast r (Grown.To n) =
+    record {
       bad = r .bad;
       over = r .over;
       begun = true;
@@ -66,9 +67,13 @@ nextDigit r d =
       first = r .first;
       second = r .second;
       third = r .third;
-      last = r .last * 10 + d;
-    })
-    (spoilt r)
+      last = n;
+    }
+withLast r Grown.Refused = spoilt r
+
+-- a digit: the number stays within 64 bits. No other byte has a place in a word
+unfoldable pub nextDigit : Reader → ℕ → Reader
+nextDigit r b = withLast r (grown (r .last) b largest)
 
 -- the newline has come, or something spoils the line: no further byte counts
 abbrev pub settled : Reader → Bool
@@ -79,8 +84,7 @@ readByte r b =
     cond (settled r) r
     (cond (eqb b 10) (ended r)
     (cond (eqb b 32) (nextWord r)
-    (cond (isDigit b) (nextDigit r (b - 48))
-    (spoilt r))))
+    (nextDigit r b)))
 
 unfoldable pub readAll : Reader → List ℕ → Reader
 readAll r [] = r

@@ -2,12 +2,11 @@
 // so it is read a byte at a time, and what has been read is kept in a few numbers.
 use matter::DirectionEnum;
 use matter::DirectionFound;
+use text::digits::Grown;
+use text::digits::with_digit;
 ghost use mathlib.Core.Path.{_≡_};
-ghost use Prim.Native.Nat.{_≤_};
 ghost use Rattle.fade_line.specs.Line.{wanted, withDirection, askedBy};
 ghost use Rattle.fade_line.specs.Reading.{fresh, spoilt, ended, nextWord, nextDigit, settled, readByte, readAll, lineRead};
-
-const LARGEST: u64 = 18446744073709551615;
 
 // The fade that a line asks for.
 pub struct Wanted {
@@ -120,18 +119,17 @@ impl Reader {
         }
     }
 
-    // One digit more; a number past 64 bits spoils the line.
-    fn next_digit(self, digit: u64) -> Reader
-        requires { ⌜ digit ≤ 9 ⌝ }
-        ensures { λ r. ⌜ r ≡ nextDigit self digit ⌝ }
+    // One digit more. Any other byte, and a number past 64 bits, spoils the line.
+    fn next_digit(self, byte: u8) -> Reader
+        ensures { λ r. ⌜ r ≡ nextDigit self byte ⌝ }
     {
-        if (LARGEST - digit) / 10 < self.last {
-            return self.spoil();
-        }
-        Reader {
-            begun: true,
-            last: self.last * 10 + digit,
-            ..self
+        match with_digit(self.last, byte, u64::MAX) {
+            Grown::To(last) => Reader {
+                begun: true,
+                last,
+                ..self
+            },
+            Grown::Refused => self.spoil(),
         }
     }
 
@@ -148,13 +146,7 @@ impl Reader {
         if byte == b' ' {
             return self.next_word();
         }
-        if byte < b'0' {
-            return self.spoil();
-        }
-        if b'9' < byte {
-            return self.spoil();
-        }
-        self.next_digit((byte - b'0') as u64)
+        self.next_digit(byte)
     }
 
     // The next part of the input.

@@ -1,11 +1,14 @@
 // Writing `fade`'s lines into a caller's slice. Each function writes from `at` on and gives the place after what it
 // wrote. The public ones write nothing, and give `at`, where the slice has no room for the longest line.
 use notices::Notices;
+use text::writer;
+use text::writer::byte;
+use text::writer::decimal;
 ghost use mathlib.Core.Path.{_≡_};
-ghost use Prim.Native.Nat.{_+_, _%_, _≤_, _<_, min};
-ghost use mathlib.Core.List.{[], _∷_};
+ghost use Prim.Native.Nat.{_+_, min};
 ghost use lib.ListN.{length};
-ghost use Rattle.fade_line.specs.Text.{decimal, spaced, spacedAll, numbers, stateText, lineText, refusedText, badLineText, pasted, Wrote, roomFor, fitting};
+ghost use Rattle.text.specs.Written.{pasted, Written};
+ghost use Rattle.fade_line.specs.Text.{spaced, spacedAll, numbers, stateText, lineText, refusedText, badLineText, roomFor, fitting};
 
 // More than any line takes.
 pub const LONGEST: usize = 512;
@@ -28,51 +31,11 @@ fn has_room(at: usize, len: usize) -> bool
     LONGEST <= len - at
 }
 
-fn put(out: &mut [u8], at: usize, byte: u8) -> usize
-    requires { ⌜ at < length (now out) ⌝ }
-    ensures { λ r. ⌜ Wrote (now (out .entry)) at (byte ∷ []) (now (out .exit)) r ⌝ }
-{
-    out[at] = byte;
-    at + 1
-}
-
-fn text(out: &mut [u8], at: usize, s: &[u8]) -> usize
-    requires { ⌜ at + length (now s) ≤ length (now out) ⌝ }
-    ensures { λ r. ⌜ Wrote (now (out .entry)) at (now (s .entry)) (now (out .exit)) r ⌝ }
-{
-    let mut next = at;
-    let mut i = 0;
-    while i < s.len() {
-        next = put(out, next, s[i]);
-        i += 1;
-    }
-    next
-}
-
-fn digit(n: u64) -> u8
-    ensures { λ r. ⌜ r ≡ 48 + n % 10 ⌝ }
-{
-    48 + (n % 10) as u8
-}
-
-fn decimal(out: &mut [u8], at: usize, n: u64) -> usize
-    requires { ⌜ at + length (decimal n) ≤ length (now out) ⌝ }
-    ensures { λ r. ⌜ Wrote (now (out .entry)) at (decimal n) (now (out .exit)) r ⌝ }
-{
-    if n < 10 {
-        put(out, at, digit(n))
-    } else {
-        let last = decimal(out, at, n / 10);
-        put(out, last, digit(n))
-    }
-}
-
 // A number after a blank.
 fn spaced(out: &mut [u8], at: usize, n: u64) -> usize
-    requires { ⌜ at + 21 ≤ length (now out) ⌝ }
-    ensures { λ r. ⌜ Wrote (now (out .entry)) at (spaced n) (now (out .exit)) r ⌝ }
+    ensures { λ r. ⌜ Written (now (out .entry)) at (spaced n) (now (out .exit)) r ⌝ }
 {
-    let next = put(out, at, b' ');
+    let next = byte(out, at, b' ');
     decimal(out, next, n)
 }
 
@@ -84,8 +47,7 @@ fn count(len: usize) -> usize
 }
 
 fn notices(out: &mut [u8], at: usize, list: Notices) -> usize
-    requires { ⌜ at + 336 ≤ length (now out) ⌝ }
-    ensures { λ r. ⌜ Wrote (now (out .entry)) at (spacedAll (numbers list)) (now (out .exit)) r ⌝ }
+    ensures { λ r. ⌜ Written (now (out .entry)) at (spacedAll (numbers list)) (now (out .exit)) r ⌝ }
 {
     let places = list.places;
     let count = count(list.len);
@@ -100,14 +62,13 @@ fn notices(out: &mut [u8], at: usize, list: Notices) -> usize
 
 // Clock, hue, remaining tenths and wait, and a colon.
 fn state(out: &mut [u8], at: usize, line: Line) -> usize
-    requires { ⌜ at + 84 ≤ length (now out) ⌝ }
-    ensures { λ r. ⌜ Wrote (now (out .entry)) at (stateText line) (now (out .exit)) r ⌝ }
+    ensures { λ r. ⌜ Written (now (out .entry)) at (stateText line) (now (out .exit)) r ⌝ }
 {
     let hue = decimal(out, at, line.clock);
     let tenths = spaced(out, hue, line.hue as u64);
     let wait = spaced(out, tenths, line.tenths as u64);
     let colon = spaced(out, wait, line.wait);
-    put(out, colon, b':')
+    byte(out, colon, b':')
 }
 
 pub fn write_line(out: &mut [u8], at: usize, line: Line) -> usize
@@ -120,7 +81,7 @@ pub fn write_line(out: &mut [u8], at: usize, line: Line) -> usize
     let list = line.notices;
     let after = state(out, at, line);
     let end = notices(out, after, list);
-    put(out, end, b'\n')
+    byte(out, end, b'\n')
 }
 
 pub fn write_refused(out: &mut [u8], at: usize, number: u8) -> usize
@@ -130,9 +91,9 @@ pub fn write_refused(out: &mut [u8], at: usize, number: u8) -> usize
     if !has_room(at, out.len()) {
         return at;
     }
-    let blank = text(out, at, b"refused");
+    let blank = writer::text(out, at, b"refused");
     let last = spaced(out, blank, number as u64);
-    put(out, last, b'\n')
+    byte(out, last, b'\n')
 }
 
 pub fn write_bad_line(out: &mut [u8], at: usize) -> usize
@@ -142,5 +103,5 @@ pub fn write_bad_line(out: &mut [u8], at: usize) -> usize
     if !has_room(at, out.len()) {
         return at;
     }
-    text(out, at, b"bad line\n")
+    writer::text(out, at, b"bad line\n")
 }

@@ -30,8 +30,10 @@ use Rattle.lamp.specs.Calls.{done, started, stepped, startCause, stepCause, sta
 use Rattle.lamp.proofs.Kept.{valid-clock, start-ready, step-ready, choose-both, started-few, stepped-few}
 use Rattle.fade_run.specs.declared.Fade.{Fade}
 use Rattle.fade_line.specs.declared.writer.Line.{Line}
-use Rattle.fade_line.specs.Text.{numbers, lineText, refusedText, pasted, roomFor, fitting, Wrote}
-use Rattle.fade_line.proofs.TextLaws.{numbers-noted, line-short, refused-short, wrote-none, fitting-all, length-pasted, take-pasted}
+use Rattle.fade_line.specs.Text.{numbers, lineText, refusedText, roomFor, fitting}
+use Rattle.text.specs.Written.{pasted, Wrote}
+use Rattle.text.proofs.WriteLaws.{wrote-none, length-pasted, take-pasted}
+use Rattle.fade_line.proofs.TextLaws.{numbers-noted, line-short, refused-short, fitting-all}
 use Rattle.fade_run.specs.Run.{lineOf, isOver, moved, oneText, goesOn, stepAfter, further, text, nextText, stepOf, rest}
 
 -- ---- the text is the next line and the text of the rest

@@ -21,7 +21,8 @@ ghost use Prim.Native.Nat.{_+_, _<_, _≤_, _^_};
 ghost use mathlib.Core.List.{_++_};
 ghost use lib.ListN.{length, take};
 ghost use mathlib.Core.Bool.{true};
-ghost use Rattle.fade_line.specs.Text.{fitting, Wrote};
+ghost use Rattle.text.specs.Written.{Wrote};
+ghost use Rattle.fade_line.specs.Text.{fitting};
 ghost use Rattle.fade_run.specs.Run.{lineOf, oneText, nextText, rest, startOf, afterCommand, commanded, afterMaking, fadeWithin, fadeOf, stepOf, isOver, text, moved};
 
 // A start, and a step, that is to come, with how many more steps there may be.

@@ -1,8 +1,5 @@
 -- Read a byte at a time, an input asks for what its line says.
-use mathlib.Core.Path.{ap, _∙_}
 use borrow.Author.Needs.{needs}
-use Rattle.fade_line.specs.declared.reader.Reader.{Reader}
-use Rattle.fade_line.specs.Reading.{readAll, lineRead}
 use Rattle.fade_line.proofs.LineLaws.{reads}
 use Rattle.fade_line.proofs.reader.asked_by.Statement.{statement}
 use Rattle.fade_line.proofs.reader.asked_by.Tie as tie

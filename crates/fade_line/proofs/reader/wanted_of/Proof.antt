@@ -1,6 +1,6 @@
 -- Each test is a part of the condition under which there is a fade.
 use Rattle.fade_line.specs.Line.{wanted}
-use borrow.Author.Tests.{lt-ltb, le-ltb, le-leb, lt-leb, eq-eqb, ne-eqb, not-true, not-false}
+use borrow.Author.Tests.{le-leb, lt-leb}
 use borrow.Author.Needs.{needs}
 use Rattle.fade_line.proofs.reader.wanted_of.Statement.{statement}
 use Rattle.fade_line.proofs.reader.wanted_of.Tie as tie

@@ -1,12 +1,11 @@
 -- The words of a bad line, where there is room for a line.
 use lib.ListN.{length}
-use Rattle.fade_line.specs.Text.{roomFor}
 use borrow.Author.Tests.{not-true, not-false}
 use mathlib.Core.Bool.{true}
 use mathlib.Core.Path.{_≡_, sym, _∙_}
 use native.Mathlib.Omega.{arith}
-use Rattle.fade_line.specs.Text.{badLineText}
-use Rattle.fade_line.proofs.TextLaws.{room, wrote-fitting, wrote-nothing}
+use Rattle.fade_line.specs.Text.{badLineText, roomFor}
+use Rattle.fade_line.proofs.TextLaws.{wrote-fitting, wrote-nothing}
 use borrow.Author.Needs.{needs}
 use Rattle.fade_line.proofs.writer.write_bad_line.Statement.{statement}
 use Rattle.fade_line.proofs.writer.write_bad_line.Tie as tie
@@ -26,7 +25,7 @@ slice-aggregate-text : tie.Need-slice-aggregate-text
 slice-aggregate-text c = search needs
 
 text-requires : tie.Need-text-requires
-text-requires c κs = omega (arith, room _ _ (fits (c .before .before)))
+text-requires c κs = search needs
 
 same-length : tie.Need-same-length
 same-length c = search needs
@@ -36,7 +35,7 @@ returns-2 c =
     let made = c .before .before in
     let test = made .before .before .before in
     let start = test .before .before .before in
-    wrote-fitting (start .args .out .now) (start .args .at) badLineText (fits test) (made .text .ensures)
+    wrote-fitting (start .args .out .now) (start .args .at) badLineText (fits test) (omega arith) (made .text .ensures)
 
 pub write-bad-line-spec : {M : Type 1} → statement M
 write-bad-line-spec =

@@ -1,13 +1,14 @@
 -- The state, the notices and a newline where there is room, else nothing.
-use Rattle.fade_line.specs.Text.{spacedAll, numbers, stateText, lineText, roomFor}
-use Rattle.fade_line.proofs.TextLaws.{room, state-short, spacedAll-short, wrote-more, wrote-fitting, wrote-nothing}
+use native.Mathlib.Omega.{arith}
+use Prim.Native.Nat.{_≤_}
 use lib.ListN.{length, length-take}
 use borrow.Author.Tests.{not-true, not-false}
-use mathlib.Core.List.{[], _∷_, _++_}
 use mathlib.Core.Bool.{true}
 use mathlib.Core.Path.{_≡_, sym, _∙_}
-use Prim.Native.Nat.{_≤_}
-use native.Mathlib.Omega.{arith}
+use mathlib.Core.List.{[], _∷_, _++_}
+use Rattle.fade_line.specs.Text.{spacedAll, numbers, stateText, lineText, roomFor}
+use Rattle.text.proofs.WriteLaws.{written-more}
+use Rattle.fade_line.proofs.TextLaws.{line-short, wrote-fitting, wrote-nothing}
 use borrow.Author.Needs.{needs}
 use Rattle.fade_line.proofs.writer.write_line.Statement.{statement}
 use Rattle.fade_line.proofs.writer.write_line.Tie as tie
@@ -30,15 +31,13 @@ returns c =
     wrote-nothing (start .args .out .now) (start .args .at) (lineText (start .args .line)) (sym (c .before .has-room .ensures) ∙ not-true _ (c .if1 .taken))
 
 state-requires : tie.Need-state-requires
-state-requires c κs = omega (arith, room _ _ (fits (c .before .before)))
+state-requires c κs = search needs
 
 notices-requires : tie.Need-notices-requires
-notices-requires c κs = omega (arith, room _ _ (fits (c .before .before .before .before .before .before)), state-short (c .before .before .before .before .before .before .before .before .before .args .line))
+notices-requires c κs = search needs
 
-put-requires : tie.Need-put-requires
-put-requires c κs =
-    let start = c .before .before .before .before .before .before .before .before .before .before .before .before .before in
-    omega (arith, room _ _ (fits (c .before .before .before .before .before .before .before .before .before .before)), state-short (start .args .line), spacedAll-short (numbers (start .args .line .notices)), few start)
+byte-requires : tie.Need-byte-requires
+byte-requires c κs = search needs
 
 same-length : tie.Need-same-length
 same-length c = search needs
@@ -54,12 +53,11 @@ returns-2 c =
     let out = start .args .out .now in
     let at = start .args .at in
     let line = start .args .line in
-    let space = room _ _ (fits test) in
     let notices = spacedAll (numbers (line .notices)) in
-    wrote-fitting out at (lineText line) (fits test)
-    (wrote-more out at (stateText line ++ notices) (10 ∷ []) (omega arith)
-    (wrote-more out at (stateText line) notices (omega arith) (state .state .ensures) (reported .notices .ensures))
-    (made .put .ensures))
+    wrote-fitting out at (lineText line) (fits test) (line-short line (few start))
+    (written-more out at (stateText line ++ notices) (10 ∷ [])
+    (written-more out at (stateText line) notices (state .state .ensures) (reported .notices .ensures))
+    (made .byte .ensures))
 
 pub write-line-spec : {M : Type 1} → statement M
 write-line-spec =
@@ -69,6 +67,6 @@ write-line-spec =
     returns
     state-requires
     notices-requires
-    put-requires
+    byte-requires
     same-length
     returns-2)

@@ -1,12 +1,12 @@
 -- The word, the number after a blank and a newline where there is room, else nothing.
-use Rattle.fade_line.specs.Text.{spaced, refusedWord, refusedText, roomFor}
-use Rattle.fade_line.proofs.TextLaws.{room, spaced-short, wrote-more, wrote-fitting, wrote-nothing}
 use lib.ListN.{length}
 use borrow.Author.Tests.{not-true, not-false}
-use mathlib.Core.List.{[], _∷_, _++_}
 use mathlib.Core.Bool.{true}
 use mathlib.Core.Path.{_≡_, sym, _∙_}
-use native.Mathlib.Omega.{arith}
+use mathlib.Core.List.{[], _∷_, _++_}
+use Rattle.fade_line.specs.Text.{spaced, refusedWord, refusedText, roomFor}
+use Rattle.text.proofs.WriteLaws.{written-more}
+use Rattle.fade_line.proofs.TextLaws.{refused-short, wrote-fitting, wrote-nothing}
 use borrow.Author.Needs.{needs}
 use Rattle.fade_line.proofs.writer.write_refused.Statement.{statement}
 use Rattle.fade_line.proofs.writer.write_refused.Tie as tie
@@ -26,13 +26,13 @@ slice-aggregate-text : tie.Need-slice-aggregate-text
 slice-aggregate-text c = search needs
 
 text-requires : tie.Need-text-requires
-text-requires c κs = omega (arith, room _ _ (fits (c .before .before)))
+text-requires c κs = search needs
 
 spaced-requires : tie.Need-spaced-requires
-spaced-requires c κs = omega (arith, room _ _ (fits (c .before .before .before .before .before .before)))
+spaced-requires c κs = search needs
 
-put-requires : tie.Need-put-requires
-put-requires c κs = omega (arith, room _ _ (fits (c .before .before .before .before .before .before .before .before .before .before)), spaced-short (c .before .before .before .before .before .before .before .before .before .before .before .before .before .args .number))
+byte-requires : tie.Need-byte-requires
+byte-requires c κs = search needs
 
 same-length : tie.Need-same-length
 same-length c = search needs
@@ -48,11 +48,10 @@ returns-2 c =
     let out = start .args .out .now in
     let at = start .args .at in
     let n = start .args .number in
-    let space = room _ _ (fits test) in
-    wrote-fitting out at (refusedText n) (fits test)
-    (wrote-more out at (refusedWord ++ spaced n) (10 ∷ []) (omega arith)
-    (wrote-more out at refusedWord (spaced n) (omega arith) (word .text .ensures) (number .spaced .ensures))
-    (made .put .ensures))
+    wrote-fitting out at (refusedText n) (fits test) (refused-short n)
+    (written-more out at (refusedWord ++ spaced n) (10 ∷ [])
+    (written-more out at refusedWord (spaced n) (word .text .ensures) (number .spaced .ensures))
+    (made .byte .ensures))
 
 pub write-refused-spec : {M : Type 1} → statement M
 write-refused-spec =
@@ -63,6 +62,6 @@ write-refused-spec =
     slice-aggregate-text
     text-requires
     spaced-requires
-    put-requires
+    byte-requires
     same-length
     returns-2)

@@ -1,6 +1,6 @@
 -- A line that is not spoilt, with three blanks and a digit after the last, has four numbers.
 use Rattle.fade_line.specs.Reading.{lineRead}
-use borrow.Author.Tests.{lt-ltb, le-ltb, le-leb, lt-leb, eq-eqb, ne-eqb, not-true, not-false}
+use borrow.Author.Tests.{eq-eqb, ne-eqb, not-true, not-false}
 use borrow.Author.Needs.{needs}
 use Rattle.fade_line.proofs.reader.Reader.asked.Statement.{statement}
 use Rattle.fade_line.proofs.reader.Reader.asked.Tie as tie

@@ -1,6 +1,6 @@
 -- A blank after no digit, or after the fourth word, spoils the line.
 use Rattle.fade_line.specs.Reading.{nextWord}
-use borrow.Author.Tests.{lt-ltb, le-ltb, le-leb, lt-leb, eq-eqb, ne-eqb, not-true, not-false}
+use borrow.Author.Tests.{lt-ltb, le-ltb, not-true, not-false}
 use borrow.Author.Needs.{needs}
 use Rattle.fade_line.proofs.reader.Reader.next_word.Statement.{statement}
 use Rattle.fade_line.proofs.reader.Reader.next_word.Tie as tie

@@ -1,7 +1,7 @@
 -- The loop has read the first bytes: what it has, with the bytes that are left, reads as the whole part does.
 use Rattle.fade_line.specs.declared.reader.Reader.{Reader}
 use lib.ListN.{drop-of-length-le}
-use Rattle.fade_line.proofs.Parts.{drop-next}
+use Rattle.text.proofs.WordLaws.{drop-next}
 use Rattle.fade_line.specs.Reading.{readAll}
 use mathlib.Core.Path.{_≡_, refl, sym, ap, _∙_}
 use lib.ListN.{length, drop}

@@ -1,6 +1,6 @@
 -- The tests are those of the rule, in its order.
 use Rattle.fade_line.specs.Reading.{readByte}
-use borrow.Author.Tests.{lt-ltb, le-ltb, le-leb, lt-leb, eq-eqb, ne-eqb, not-true, not-false}
+use borrow.Author.Tests.{eq-eqb, ne-eqb}
 use borrow.Author.Needs.{needs}
 use Rattle.fade_line.proofs.reader.Reader.read_byte.Statement.{statement}
 use Rattle.fade_line.proofs.reader.Reader.read_byte.Tie as tie
@@ -26,29 +26,12 @@ returns-3 : tie.Need-returns-3
 unfolding readByte
 returns-3 c = simp (rw (c .before .before .before .before .is-settled .ensures) at (c .before .before .before .if1 .left), ne-eqb _ _ (c .before .before .if2 .left), eq-eqb _ _ (c .before .if3 .taken), c .next-word .ensures)
 
-spoil-requires : tie.Need-spoil-requires
-spoil-requires c κs = search needs
-
-returns-4 : tie.Need-returns-4
-unfolding readByte
-returns-4 c = simp (rw (c .before .before .before .before .before .is-settled .ensures) at (c .before .before .before .before .if1 .left), ne-eqb _ _ (c .before .before .before .if2 .left), ne-eqb _ _ (c .before .before .if3 .left), lt-leb _ _ (c .before .if4 .taken), c .spoil .ensures)
-
-spoil-requires-2 : tie.Need-spoil-requires-2
-spoil-requires-2 c κs = search needs
-
-returns-5 : tie.Need-returns-5
-unfolding readByte
-returns-5 c = simp (rw (c .before .before .before .before .before .before .is-settled .ensures) at (c .before .before .before .before .before .if1 .left), ne-eqb _ _ (c .before .before .before .before .if2 .left), ne-eqb _ _ (c .before .before .before .if3 .left), le-leb _ _ (c .before .before .if4 .left), lt-leb _ _ (c .before .if5 .taken), c .spoil2 .ensures)
-
-cast-next-digit : tie.Need-cast-next-digit
-cast-next-digit c = search needs
-
 next-digit-requires : tie.Need-next-digit-requires
 next-digit-requires c κs = search needs
 
-returns-6 : tie.Need-returns-6
+returns-4 : tie.Need-returns-4
 unfolding readByte
-returns-6 c = simp (rw (c .before .before .before .before .before .before .is-settled .ensures) at (c .before .before .before .before .before .if1 .left), ne-eqb _ _ (c .before .before .before .before .if2 .left), ne-eqb _ _ (c .before .before .before .if3 .left), le-leb _ _ (c .before .before .if4 .left), le-leb _ _ (c .before .if5 .left), c .next-digit .ensures)
+returns-4 c = simp (rw (c .before .before .before .before .is-settled .ensures) at (c .before .before .before .if1 .left), ne-eqb _ _ (c .before .before .if2 .left), ne-eqb _ _ (c .before .if3 .left), c .next-digit .ensures)
 
 pub read-byte-spec : {M : Type 1} → statement M
 read-byte-spec =
@@ -60,10 +43,5 @@ read-byte-spec =
     returns-2
     next-word-requires
     returns-3
-    spoil-requires
-    returns-4
-    spoil-requires-2
-    returns-5
-    cast-next-digit
     next-digit-requires
-    returns-6)
+    returns-4)
