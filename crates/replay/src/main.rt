@@ -1,21 +1,15 @@
 // Replays calls on a lamp: each line of standard input is a call, and its answer a line of standard output.
-mod calls;
-mod enums;
-mod fields;
-mod invocations;
-mod moves;
-mod print;
-mod records;
-mod run;
-mod words;
+mod state;
 
 use libc::STDIN_FILENO;
 use libc::STDOUT_FILENO;
-use run::State;
+use state::State;
+use text::words;
+use text::writer;
 ghost use Rattle.io.specs.Counts.{Counts};
 
 // Past this place the answers are written out before the next, so that the longest answer has room.
-const NEARLY_FULL: usize = 64000;
+const NEARLY_FULL: usize = 61440;
 
 // What is kept from one block of input to the next: the state, how much of a line has come, the place after the answers
 // that are not yet written, and whether there may be more.
@@ -51,7 +45,7 @@ fn end_line(replay: Replay, line: &[u8], out: &mut [u8]) -> Replay {
     }
     let n = within(replay.len, line);
     let before = replay.state;
-    let turn = run::answer(before, &line[..n], out, at);
+    let turn = state::answer(before, &line[..n], out, at);
     let state = turn.state;
     Replay {
         state: state,
@@ -65,7 +59,7 @@ fn end_line(replay: Replay, line: &[u8], out: &mut [u8]) -> Replay {
 // the longest line that can be read; what does not fit is left out.
 fn take_part(replay: Replay, part: &[u8], is_end: bool, line: &mut [u8], out: &mut [u8]) -> Replay {
     let mut longer = replay;
-    longer.len = print::text(line, replay.len, part);
+    longer.len = writer::text(line, replay.len, part);
     if is_end {
         end_line(longer, line, out)
     } else {
@@ -85,17 +79,26 @@ fn take_block(start: Replay, block: &[u8], line: &mut [u8], out: &mut [u8]) -> R
     replay
 }
 
-// One block of the input. At its end the line that has come, where there is one, is answered.
+// The answers are written out.
+fn flush(replay: Replay, out: &[u8]) -> Replay {
+    let mut written = replay;
+    write_out(out, replay.at);
+    written.at = 0;
+    written
+}
+
+// One block of the input: its answers are written out before more is waited for. At the end of the input the line that
+// has come, where there is one, is answered.
 fn next_block(replay: Replay, block: &mut [u8], line: &mut [u8], out: &mut [u8]) -> Replay {
     let got = libc::read(STDIN_FILENO, block);
     if got > 0 {
         let n = io::count(got, block);
-        return take_block(replay, &block[..n], line, out);
+        let next = take_block(replay, &block[..n], line, out);
+        return flush(next, out);
     }
     let mut last = end_line(replay, line, out);
-    write_out(out, last.at);
     last.more = false;
-    last
+    flush(last, out)
 }
 
 // Nothing says that the input ends, so the blocks are counted, down from a number that no run uses up.
@@ -107,7 +110,7 @@ fn main() {
     let line: &mut [u8] = &mut line_space;
     let out: &mut [u8] = &mut out_space;
     let mut replay = Replay {
-        state: run::nothing_yet(),
+        state: state::nothing_yet(),
         len: 0,
         at: 0,
         more: true,

@@ -1,12 +1,13 @@
 // Reading a call of the lamp: a command, a start, a step or a halt.
-use crate::enums;
-use crate::moves;
-use crate::words;
-use crate::words::LOST;
 use lamp::Call;
+use lamp_lines::enums;
+use lamp_lines::moves;
 use matter::Command;
 use matter::CommandOptions;
 use matter::Request;
+use text::numbers;
+use text::words;
+use text::words::LOST;
 
 struct CommandRead {
     value: Command,
@@ -24,10 +25,10 @@ pub struct CallRead {
 }
 
 fn move_to_hue(line: &[u8], at: usize) -> CommandRead {
-    let hue = words::byte(line, at);
+    let hue = numbers::number_8(line, at);
     let ways = enums::path_direction(line, hue.at);
     let direction = ways.value;
-    let tenths = words::short(line, ways.at);
+    let tenths = numbers::number_16(line, ways.at);
     CommandRead {
         value: Command::MoveToHue {
             hue: hue.value,
@@ -41,8 +42,8 @@ fn move_to_hue(line: &[u8], at: usize) -> CommandRead {
 fn move_hue(line: &[u8], at: usize) -> CommandRead {
     let modes = enums::move_mode(line, at);
     let mode = modes.value;
-    let rate = words::byte(line, modes.at);
-    let enhanced = words::flag(line, rate.at);
+    let rate = numbers::number_8(line, modes.at);
+    let enhanced = numbers::flag(line, rate.at);
     CommandRead {
         value: Command::MoveHue {
             mode,
@@ -56,8 +57,8 @@ fn move_hue(line: &[u8], at: usize) -> CommandRead {
 fn step_hue(line: &[u8], at: usize) -> CommandRead {
     let modes = enums::step_mode(line, at);
     let mode = modes.value;
-    let size = words::byte(line, modes.at);
-    let tenths = words::short(line, size.at);
+    let size = numbers::number_8(line, modes.at);
+    let tenths = numbers::number_16(line, size.at);
     CommandRead {
         value: Command::StepHue {
             mode,
@@ -69,10 +70,10 @@ fn step_hue(line: &[u8], at: usize) -> CommandRead {
 }
 
 fn enhanced_move_to_hue(line: &[u8], at: usize) -> CommandRead {
-    let hue = words::short(line, at);
+    let hue = numbers::number_16(line, at);
     let ways = enums::path_direction(line, hue.at);
     let direction = ways.value;
-    let tenths = words::short(line, ways.at);
+    let tenths = numbers::number_16(line, ways.at);
     CommandRead {
         value: Command::EnhancedMoveToHue {
             hue: hue.value,
@@ -86,7 +87,7 @@ fn enhanced_move_to_hue(line: &[u8], at: usize) -> CommandRead {
 fn enhanced_move_hue(line: &[u8], at: usize) -> CommandRead {
     let modes = enums::move_mode(line, at);
     let mode = modes.value;
-    let rate = words::short(line, modes.at);
+    let rate = numbers::number_16(line, modes.at);
     CommandRead {
         value: Command::EnhancedMoveHue {
             mode,
@@ -99,8 +100,8 @@ fn enhanced_move_hue(line: &[u8], at: usize) -> CommandRead {
 fn enhanced_step_hue(line: &[u8], at: usize) -> CommandRead {
     let modes = enums::step_mode(line, at);
     let mode = modes.value;
-    let size = words::short(line, modes.at);
-    let tenths = words::short(line, size.at);
+    let size = numbers::number_16(line, modes.at);
+    let tenths = numbers::number_16(line, size.at);
     CommandRead {
         value: Command::EnhancedStepHue {
             mode,
@@ -112,8 +113,8 @@ fn enhanced_step_hue(line: &[u8], at: usize) -> CommandRead {
 }
 
 fn move_to_saturation(line: &[u8], at: usize) -> CommandRead {
-    let saturation = words::byte(line, at);
-    let tenths = words::short(line, saturation.at);
+    let saturation = numbers::number_8(line, at);
+    let tenths = numbers::number_16(line, saturation.at);
     CommandRead {
         value: Command::MoveToSaturation {
             saturation: saturation.value,
@@ -126,7 +127,7 @@ fn move_to_saturation(line: &[u8], at: usize) -> CommandRead {
 fn move_saturation(line: &[u8], at: usize) -> CommandRead {
     let modes = enums::move_mode(line, at);
     let mode = modes.value;
-    let rate = words::byte(line, modes.at);
+    let rate = numbers::number_8(line, modes.at);
     CommandRead {
         value: Command::MoveSaturation {
             mode,
@@ -139,8 +140,8 @@ fn move_saturation(line: &[u8], at: usize) -> CommandRead {
 fn step_saturation(line: &[u8], at: usize) -> CommandRead {
     let modes = enums::step_mode(line, at);
     let mode = modes.value;
-    let size = words::byte(line, modes.at);
-    let tenths = words::short(line, size.at);
+    let size = numbers::number_8(line, modes.at);
+    let tenths = numbers::number_16(line, size.at);
     CommandRead {
         value: Command::StepSaturation {
             mode,
@@ -152,11 +153,11 @@ fn step_saturation(line: &[u8], at: usize) -> CommandRead {
 }
 
 fn move_to_hue_and_saturation(line: &[u8], at: usize) -> CommandRead {
-    let hue = words::byte(line, at);
-    let saturation = words::byte(line, hue.at);
-    let tenths = words::short(line, saturation.at);
-    let enhanced = words::flag(line, tenths.at);
-    let enhanced_hue = words::short(line, enhanced.at);
+    let hue = numbers::number_8(line, at);
+    let saturation = numbers::number_8(line, hue.at);
+    let tenths = numbers::number_16(line, saturation.at);
+    let enhanced = numbers::flag(line, tenths.at);
+    let enhanced_hue = numbers::number_16(line, enhanced.at);
     CommandRead {
         value: Command::MoveToHueAndSaturation {
             hue: hue.value,
@@ -170,8 +171,8 @@ fn move_to_hue_and_saturation(line: &[u8], at: usize) -> CommandRead {
 }
 
 fn move_to_color_temperature(line: &[u8], at: usize) -> CommandRead {
-    let mireds = words::short(line, at);
-    let tenths = words::short(line, mireds.at);
+    let mireds = numbers::number_16(line, at);
+    let tenths = numbers::number_16(line, mireds.at);
     CommandRead {
         value: Command::MoveToColorTemperature {
             mireds: mireds.value,
@@ -184,9 +185,9 @@ fn move_to_color_temperature(line: &[u8], at: usize) -> CommandRead {
 fn move_color_temperature(line: &[u8], at: usize) -> CommandRead {
     let modes = enums::move_mode(line, at);
     let mode = modes.value;
-    let rate = words::short(line, modes.at);
-    let min = words::short(line, rate.at);
-    let max = words::short(line, min.at);
+    let rate = numbers::number_16(line, modes.at);
+    let min = numbers::number_16(line, rate.at);
+    let max = numbers::number_16(line, min.at);
     CommandRead {
         value: Command::MoveColorTemperature {
             mode,
@@ -201,10 +202,10 @@ fn move_color_temperature(line: &[u8], at: usize) -> CommandRead {
 fn step_color_temperature(line: &[u8], at: usize) -> CommandRead {
     let modes = enums::step_mode(line, at);
     let mode = modes.value;
-    let size = words::short(line, modes.at);
-    let tenths = words::short(line, size.at);
-    let min = words::short(line, tenths.at);
-    let max = words::short(line, min.at);
+    let size = numbers::number_16(line, modes.at);
+    let tenths = numbers::number_16(line, size.at);
+    let min = numbers::number_16(line, tenths.at);
+    let max = numbers::number_16(line, min.at);
     CommandRead {
         value: Command::StepColorTemperature {
             mode,
@@ -218,13 +219,13 @@ fn step_color_temperature(line: &[u8], at: usize) -> CommandRead {
 }
 
 fn color_loop_set(line: &[u8], at: usize) -> CommandRead {
-    let flags = words::byte(line, at);
+    let flags = numbers::number_8(line, at);
     let actions = enums::loop_action(line, flags.at);
     let action = actions.value;
     let ways = enums::loop_direction(line, actions.at);
     let direction = ways.value;
-    let seconds = words::short(line, ways.at);
-    let start = words::short(line, seconds.at);
+    let seconds = numbers::number_16(line, ways.at);
+    let start = numbers::number_16(line, seconds.at);
     CommandRead {
         value: Command::ColorLoopSet {
             flags: flags.value,
@@ -295,8 +296,8 @@ fn command(line: &[u8], name: usize, at: usize) -> CommandRead {
 
 // The mask and the override.
 pub(crate) fn options(line: &[u8], at: usize) -> OptionsRead {
-    let mask = words::byte(line, at);
-    let overrides = words::byte(line, mask.at);
+    let mask = numbers::number_8(line, at);
+    let overrides = numbers::number_8(line, mask.at);
     OptionsRead {
         value: CommandOptions {
             mask: mask.value,
@@ -315,7 +316,7 @@ pub(crate) fn invoke(line: &[u8], at: usize) -> CallRead {
     let command = read.value;
     let last = options(line, read.at);
     let options = last.value;
-    let clock = words::long(line, last.at);
+    let clock = numbers::number_64(line, last.at);
     CallRead {
         value: Call::Command {
             request: Request { options, command },
@@ -330,7 +331,7 @@ pub(crate) fn begin(line: &[u8], at: usize) -> CallRead {
     let name = words::start(line, at);
     let read = moves::task(line, name, words::end(line, name));
     let task = read.value;
-    let clock = words::long(line, read.at);
+    let clock = numbers::number_64(line, read.at);
     CallRead {
         value: Call::Start {
             task,
@@ -341,7 +342,7 @@ pub(crate) fn begin(line: &[u8], at: usize) -> CallRead {
 }
 
 pub(crate) fn step(line: &[u8], at: usize) -> CallRead {
-    let clock = words::long(line, at);
+    let clock = numbers::number_64(line, at);
     CallRead {
         value: Call::Step { clock: clock.value },
         at: clock.at,
@@ -349,7 +350,7 @@ pub(crate) fn step(line: &[u8], at: usize) -> CallRead {
 }
 
 pub(crate) fn halt(line: &[u8], at: usize) -> CallRead {
-    let clock = words::long(line, at);
+    let clock = numbers::number_64(line, at);
     CallRead {
         value: Call::Halt { clock: clock.value },
         at: clock.at,

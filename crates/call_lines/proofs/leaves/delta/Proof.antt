@@ -1,11 +1,11 @@
--- `replay::run::delta`: a way of 32 bits fits 64.
+-- A way of 32 bits fits 64.
 use mir.Val.{SFits}
 use mir.Syntax.{w32}
 use mir.ValLaws.{toZ-ofZ}
 use Rattle.integers.proofs.Sizes.{wider}
 use borrow.Author.Needs.{needs}
-use Rattle.replay.proofs.run.delta.Statement.{statement}
-use Rattle.replay.proofs.run.delta.Tie as tie
+use Rattle.call_lines.proofs.leaves.delta.Statement.{statement}
+use Rattle.call_lines.proofs.leaves.delta.Tie as tie
 
 hue-path-delta-requires : tie.Need-hue-path-delta-requires
 hue-path-delta-requires c κs = search needs

@@ -1,6 +1,4 @@
 // Reading the cluster's enums by their numbers, and the on/off words. A number that no case has is LOST.
-use crate::words;
-use crate::words::LOST;
 use matter::ColorLoopActionEnum;
 use matter::ColorLoopActionFound;
 use matter::ColorLoopDirectionEnum;
@@ -16,6 +14,9 @@ use matter::MoveModeFound;
 use matter::OnOff;
 use matter::StepModeEnum;
 use matter::StepModeFound;
+use text::numbers;
+use text::words;
+use text::words::LOST;
 
 pub struct DirectionRead {
     pub value: DirectionEnum,
@@ -57,8 +58,8 @@ pub struct OnOffRead {
     pub at: usize,
 }
 
-pub(crate) fn path_direction(line: &[u8], at: usize) -> DirectionRead {
-    let n = words::byte(line, at);
+pub fn path_direction(line: &[u8], at: usize) -> DirectionRead {
+    let n = numbers::number_8(line, at);
     match DirectionEnum::of_number(n.value) {
         DirectionFound::Known(direction) => DirectionRead {
             value: direction,
@@ -71,8 +72,8 @@ pub(crate) fn path_direction(line: &[u8], at: usize) -> DirectionRead {
     }
 }
 
-pub(crate) fn move_mode(line: &[u8], at: usize) -> MoveModeRead {
-    let n = words::byte(line, at);
+pub fn move_mode(line: &[u8], at: usize) -> MoveModeRead {
+    let n = numbers::number_8(line, at);
     match MoveModeEnum::of_number(n.value) {
         MoveModeFound::Known(mode) => MoveModeRead {
             value: mode,
@@ -85,8 +86,8 @@ pub(crate) fn move_mode(line: &[u8], at: usize) -> MoveModeRead {
     }
 }
 
-pub(crate) fn step_mode(line: &[u8], at: usize) -> StepModeRead {
-    let n = words::byte(line, at);
+pub fn step_mode(line: &[u8], at: usize) -> StepModeRead {
+    let n = numbers::number_8(line, at);
     match StepModeEnum::of_number(n.value) {
         StepModeFound::Known(mode) => StepModeRead {
             value: mode,
@@ -99,8 +100,8 @@ pub(crate) fn step_mode(line: &[u8], at: usize) -> StepModeRead {
     }
 }
 
-pub(crate) fn loop_action(line: &[u8], at: usize) -> LoopActionRead {
-    let n = words::byte(line, at);
+pub fn loop_action(line: &[u8], at: usize) -> LoopActionRead {
+    let n = numbers::number_8(line, at);
     match ColorLoopActionEnum::of_number(n.value) {
         ColorLoopActionFound::Known(action) => LoopActionRead {
             value: action,
@@ -113,8 +114,8 @@ pub(crate) fn loop_action(line: &[u8], at: usize) -> LoopActionRead {
     }
 }
 
-pub(crate) fn loop_direction(line: &[u8], at: usize) -> LoopDirectionRead {
-    let n = words::byte(line, at);
+pub fn loop_direction(line: &[u8], at: usize) -> LoopDirectionRead {
+    let n = numbers::number_8(line, at);
     match ColorLoopDirectionEnum::of_number(n.value) {
         ColorLoopDirectionFound::Known(direction) => LoopDirectionRead {
             value: direction,
@@ -127,8 +128,8 @@ pub(crate) fn loop_direction(line: &[u8], at: usize) -> LoopDirectionRead {
     }
 }
 
-pub(crate) fn color_mode(line: &[u8], at: usize) -> ModeRead {
-    let n = words::byte(line, at);
+pub fn color_mode(line: &[u8], at: usize) -> ModeRead {
+    let n = numbers::number_8(line, at);
     match ColorModeEnum::of_number(n.value) {
         ColorModeFound::Known(mode) => ModeRead {
             value: mode,
@@ -141,8 +142,8 @@ pub(crate) fn color_mode(line: &[u8], at: usize) -> ModeRead {
     }
 }
 
-pub(crate) fn enhanced_mode(line: &[u8], at: usize) -> EnhancedModeRead {
-    let n = words::byte(line, at);
+pub fn enhanced_mode(line: &[u8], at: usize) -> EnhancedModeRead {
+    let n = numbers::number_8(line, at);
     match EnhancedColorModeEnum::of_number(n.value) {
         EnhancedColorModeFound::Known(mode) => EnhancedModeRead {
             value: mode,
@@ -156,7 +157,7 @@ pub(crate) fn enhanced_mode(line: &[u8], at: usize) -> EnhancedModeRead {
 }
 
 // `on`, `off`, or `none` where there is no on/off handler.
-pub(crate) fn on_off(line: &[u8], at: usize) -> OnOffRead {
+pub fn on_off(line: &[u8], at: usize) -> OnOffRead {
     let on = words::after(line, at, b"on");
     if on != LOST {
         return OnOffRead {

@@ -1,5 +1,4 @@
-// Writing answers into a buffer. Each function writes from `at` on and gives the place after what it wrote. What does
-// not fit is left out, so no place need be in the buffer; the caller makes room before a line.
+// Writing answers. As in `text`, what does not fit is left out; the caller makes room before a line.
 use color::Color;
 use lamp::Answer;
 use lamp::Lamp;
@@ -16,49 +15,10 @@ use tasks::Running;
 use tasks::SaturationMove;
 use tasks::TargetSaturation;
 use tasks::Task;
-
-pub(crate) fn byte(out: &mut [u8], at: usize, b: u8) -> usize {
-    if at < out.len() {
-        out[at] = b;
-        return at + 1;
-    }
-    at
-}
-
-pub(crate) fn text(out: &mut [u8], at: usize, s: &[u8]) -> usize {
-    let mut end = at;
-    let mut i = 0;
-    while i < s.len() {
-        end = byte(out, end, s[i]);
-        i += 1;
-    }
-    end
-}
-
-pub(crate) fn number(out: &mut [u8], at: usize, n: u64) -> usize {
-    let mut digits = [0u8; 20];
-    let count = io::decimal(n, &mut digits);
-    text(out, at, &digits[..count])
-}
-
-// The size of a number below 0.
-fn size_below_zero(n: i64) -> u64 {
-    if n < -9223372036854775807 {
-        return 9223372036854775808;
-    }
-    if n < 0 {
-        return (0 - n) as u64;
-    }
-    0
-}
-
-pub(crate) fn signed(out: &mut [u8], at: usize, n: i64) -> usize {
-    if n < 0 {
-        let next = byte(out, at, b'-');
-        return number(out, next, size_below_zero(n));
-    }
-    number(out, at, n as u64)
-}
+use text::writer::byte;
+use text::writer::decimal;
+use text::writer::signed;
+use text::writer::text;
 
 fn bar(out: &mut [u8], at: usize) -> usize {
     text(out, at, b" |")
@@ -67,7 +27,7 @@ fn bar(out: &mut [u8], at: usize) -> usize {
 // A number after a blank.
 fn long(out: &mut [u8], at: usize, n: u64) -> usize {
     let next = byte(out, at, b' ');
-    number(out, next, n)
+    decimal(out, next, n)
 }
 
 fn word(out: &mut [u8], at: usize, n: u32) -> usize {
@@ -236,7 +196,7 @@ fn status(out: &mut [u8], at: usize, number: u8) -> usize {
 }
 
 // A refusal that has no lamp.
-pub(crate) fn refused(out: &mut [u8], at: usize, number: u8) -> usize {
+pub fn refused(out: &mut [u8], at: usize, number: u8) -> usize {
     let a = status(out, at, number);
     byte(out, a, b'\n')
 }
@@ -259,7 +219,7 @@ fn reported(out: &mut [u8], at: usize, list: Notices, task: GivenTask, wait: u64
     long(out, e, wait)
 }
 
-pub(crate) fn answer(out: &mut [u8], at: usize, answer: Answer) -> usize {
+pub fn answer(out: &mut [u8], at: usize, answer: Answer) -> usize {
     let lamp = answer.lamp;
     let running = lamp.running;
     let list = answer.notices;

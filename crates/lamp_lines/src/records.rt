@@ -1,7 +1,5 @@
 // Reading a running record: its name, the clock and the initial values at its start, and its task's numbers.
 use crate::moves;
-use crate::words;
-use crate::words::LOST;
 use tasks::ColorTemperatureRun;
 use tasks::ColorTemperatureToRun;
 use tasks::HueRun;
@@ -9,6 +7,9 @@ use tasks::HueSaturationRun;
 use tasks::Running;
 use tasks::SaturationRun;
 use tasks::Task;
+use text::numbers;
+use text::words;
+use text::words::LOST;
 
 pub struct RecordRead {
     pub value: Running,
@@ -24,9 +25,9 @@ struct Initial {
 }
 
 fn initial_values(line: &[u8], name: usize, at: usize) -> Initial {
-    let clock = words::long(line, at);
+    let clock = numbers::number_64(line, at);
     if words::is(line, name, b"sat_move") {
-        let saturation = words::byte(line, clock.at);
+        let saturation = numbers::number_8(line, clock.at);
         return Initial {
             start: clock.value,
             number: 0,
@@ -34,9 +35,9 @@ fn initial_values(line: &[u8], name: usize, at: usize) -> Initial {
             at: saturation.at,
         };
     }
-    let number = words::short(line, clock.at);
+    let number = numbers::number_16(line, clock.at);
     if words::is(line, name, b"move_to") {
-        let saturation = words::byte(line, number.at);
+        let saturation = numbers::number_8(line, number.at);
         return Initial {
             start: clock.value,
             number: number.value,
@@ -101,7 +102,7 @@ fn record(initial: Initial, task: Task) -> Running {
     }
 }
 
-pub(crate) fn running(line: &[u8], at: usize) -> RecordRead {
+pub fn running(line: &[u8], at: usize) -> RecordRead {
     let name = words::start(line, at);
     let end = words::end(line, name);
     if words::is(line, name, b"idle") {

@@ -1,6 +1,5 @@
 // Reading a lamp's fields, in their order on a line.
 use crate::enums;
-use crate::words;
 use color::Color;
 use color::Stamps;
 use lamp::Lamp;
@@ -8,6 +7,7 @@ use lamp::LoopSettings;
 use matter::Bounds;
 use remaining_time::RemainingTime;
 use tasks::Running;
+use text::numbers;
 
 pub struct BoundsRead {
     pub value: Bounds,
@@ -34,9 +34,9 @@ pub struct LampRead {
     pub at: usize,
 }
 
-pub(crate) fn bounds(line: &[u8], at: usize) -> BoundsRead {
-    let min = words::short(line, at);
-    let max = words::short(line, min.at);
+pub fn bounds(line: &[u8], at: usize) -> BoundsRead {
+    let min = numbers::number_16(line, at);
+    let max = numbers::number_16(line, min.at);
     BoundsRead {
         value: Bounds {
             min: min.value,
@@ -47,9 +47,9 @@ pub(crate) fn bounds(line: &[u8], at: usize) -> BoundsRead {
 }
 
 fn stamps(line: &[u8], at: usize) -> StampsRead {
-    let hue = words::long(line, at);
-    let saturation = words::long(line, hue.at);
-    let mireds = words::long(line, saturation.at);
+    let hue = numbers::number_64(line, at);
+    let saturation = numbers::number_64(line, hue.at);
+    let mireds = numbers::number_64(line, saturation.at);
     StampsRead {
         value: Stamps {
             hue: hue.value,
@@ -63,9 +63,9 @@ fn stamps(line: &[u8], at: usize) -> StampsRead {
 fn color(line: &[u8], at: usize) -> ColorRead {
     let reported = stamps(line, at);
     let stamps = reported.value;
-    let hue = words::short(line, reported.at);
-    let saturation = words::byte(line, hue.at);
-    let mireds = words::short(line, saturation.at);
+    let hue = numbers::number_16(line, reported.at);
+    let saturation = numbers::number_8(line, hue.at);
+    let mireds = numbers::number_16(line, saturation.at);
     let modes = enums::color_mode(line, mireds.at);
     let mode = modes.value;
     let emodes = enums::enhanced_mode(line, modes.at);
@@ -84,12 +84,12 @@ fn color(line: &[u8], at: usize) -> ColorRead {
 }
 
 fn loop_settings(line: &[u8], at: usize) -> LoopRead {
-    let active = words::flag(line, at);
+    let active = numbers::flag(line, at);
     let way = enums::loop_direction(line, active.at);
     let direction = way.value;
-    let time = words::short(line, way.at);
-    let start = words::short(line, time.at);
-    let stored = words::short(line, start.at);
+    let time = numbers::number_16(line, way.at);
+    let start = numbers::number_16(line, time.at);
+    let stored = numbers::number_16(line, start.at);
     LoopRead {
         value: LoopSettings {
             active: active.value,
@@ -103,12 +103,12 @@ fn loop_settings(line: &[u8], at: usize) -> LoopRead {
 }
 
 // An idle lamp with the fields that follow.
-pub(crate) fn idle_lamp(line: &[u8], at: usize) -> LampRead {
+pub fn idle_lamp(line: &[u8], at: usize) -> LampRead {
     let limits = bounds(line, at);
     let bounds = limits.value;
-    let clock = words::long(line, limits.at);
-    let options = words::byte(line, clock.at);
-    let remaining = words::short(line, options.at);
+    let clock = numbers::number_64(line, limits.at);
+    let options = numbers::number_8(line, clock.at);
+    let remaining = numbers::number_16(line, options.at);
     let colors = color(line, remaining.at);
     let color = colors.value;
     let loops = loop_settings(line, colors.at);

@@ -1,7 +1,5 @@
 // Reading a task: by its name, what it asks for. A record has the same numbers after its initial values.
 use crate::enums;
-use crate::words;
-use crate::words::LOST;
 use tasks::ColorLoop;
 use tasks::ColorTemperatureMove;
 use tasks::ColorTemperatureMoveTo;
@@ -11,6 +9,9 @@ use tasks::HueSaturationMoveTo;
 use tasks::SaturationMove;
 use tasks::TargetSaturation;
 use tasks::Task;
+use text::numbers;
+use text::words;
+use text::words::LOST;
 
 struct DeltaRead {
     value: HueDelta,
@@ -36,7 +37,7 @@ fn delta(line: &[u8], at: usize) -> DeltaRead {
             at: none,
         };
     }
-    let way = words::signed(line, at);
+    let way = numbers::signed(line, at);
     DeltaRead {
         value: HueDelta::By(way.value),
         at: way.at,
@@ -52,7 +53,7 @@ fn target(line: &[u8], at: usize) -> TargetRead {
             at: none,
         };
     }
-    let saturation = words::byte(line, at);
+    let saturation = numbers::number_8(line, at);
     TargetRead {
         value: TargetSaturation::To(saturation.value),
         at: saturation.at,
@@ -64,8 +65,8 @@ fn move_to(line: &[u8], at: usize) -> TaskRead {
     let delta = ways.value;
     let targets = target(line, ways.at);
     let saturation = targets.value;
-    let ms = words::word(line, targets.at);
-    let enhanced = words::flag(line, ms.at);
+    let ms = numbers::number_32(line, targets.at);
+    let enhanced = numbers::flag(line, ms.at);
     TaskRead {
         value: Task::HueSaturationMoveTo(HueSaturationMoveTo {
             delta,
@@ -80,8 +81,8 @@ fn move_to(line: &[u8], at: usize) -> TaskRead {
 fn hue_move(line: &[u8], at: usize) -> TaskRead {
     let modes = enums::move_mode(line, at);
     let direction = modes.value;
-    let rate = words::word(line, modes.at);
-    let enhanced = words::flag(line, rate.at);
+    let rate = numbers::number_32(line, modes.at);
+    let enhanced = numbers::flag(line, rate.at);
     TaskRead {
         value: Task::HueMove(HueMove {
             direction,
@@ -95,7 +96,7 @@ fn hue_move(line: &[u8], at: usize) -> TaskRead {
 fn saturation_move(line: &[u8], at: usize) -> TaskRead {
     let modes = enums::move_mode(line, at);
     let direction = modes.value;
-    let rate = words::word(line, modes.at);
+    let rate = numbers::number_32(line, modes.at);
     TaskRead {
         value: Task::SaturationMove(SaturationMove {
             direction,
@@ -106,8 +107,8 @@ fn saturation_move(line: &[u8], at: usize) -> TaskRead {
 }
 
 fn mireds_to(line: &[u8], at: usize) -> TaskRead {
-    let target = words::short(line, at);
-    let ms = words::word(line, target.at);
+    let target = numbers::number_16(line, at);
+    let ms = numbers::number_32(line, target.at);
     TaskRead {
         value: Task::ColorTemperatureMoveTo(ColorTemperatureMoveTo {
             target: target.value,
@@ -118,9 +119,9 @@ fn mireds_to(line: &[u8], at: usize) -> TaskRead {
 }
 
 fn mireds_move(line: &[u8], at: usize) -> TaskRead {
-    let rate = words::signed(line, at);
-    let min = words::short(line, rate.at);
-    let max = words::short(line, min.at);
+    let rate = numbers::signed(line, at);
+    let min = numbers::number_16(line, rate.at);
+    let max = numbers::number_16(line, min.at);
     TaskRead {
         value: Task::ColorTemperatureMove(ColorTemperatureMove {
             rate: rate.value,
@@ -134,7 +135,7 @@ fn mireds_move(line: &[u8], at: usize) -> TaskRead {
 fn color_loop(line: &[u8], at: usize) -> TaskRead {
     let ways = enums::loop_direction(line, at);
     let direction = ways.value;
-    let seconds = words::short(line, ways.at);
+    let seconds = numbers::number_16(line, ways.at);
     TaskRead {
         value: Task::ColorLoop(ColorLoop {
             direction,
@@ -145,7 +146,7 @@ fn color_loop(line: &[u8], at: usize) -> TaskRead {
 }
 
 // The task whose name begins at `name`, with its numbers from `at` on.
-pub(crate) fn task(line: &[u8], name: usize, at: usize) -> TaskRead {
+pub fn task(line: &[u8], name: usize, at: usize) -> TaskRead {
     if words::is(line, name, b"move_to") {
         return move_to(line, at);
     }

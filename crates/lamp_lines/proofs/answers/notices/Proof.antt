@@ -1,10 +1,10 @@
--- `replay::print::notices` is safe and ends: no more than sixteen places are read, and the buffer keeps its length.
+-- No more than sixteen places are read, and the buffer keeps its length.
 use mathlib.Core.Path.{_≡_}
 use Prim.Native.Nat.{_≤_, _-_}
 use lib.ListN.{length}
 use borrow.Author.Needs.{needs}
-use Rattle.replay.proofs.print.notices.Statement.{statement}
-use Rattle.replay.proofs.print.notices.Tie as tie
+use Rattle.lamp_lines.proofs.answers.notices.Statement.{statement}
+use Rattle.lamp_lines.proofs.answers.notices.Tie as tie
 
 abbrev Inv-loop : tie.InvT-loop
 Inv-loop out₀ at places len end₀ i₀ out end i = (i ≤ 16) × (length out ≡ length out₀)

@@ -1,0 +1,237 @@
+// Reading a line. One whose last word does not end it, or that has a word not as asked, is unreadable.
+use crate::invocations;
+use crate::invocations::CallRead;
+use crate::leaves;
+use crate::leaves::Leaf;
+use crate::setters;
+use crate::setters::Setting;
+use lamp::Answer;
+use lamp::Call;
+use lamp::Lamp;
+use lamp::Made;
+use lamp_lines::fields;
+use lamp_lines::records;
+use matter::ACCEPTED;
+use matter::Bounds;
+use tasks::Running;
+use text::numbers;
+use text::words;
+use text::words::LOST;
+
+pub struct Making {
+    pub bounds: Bounds,
+    pub features: u32,
+    pub options: u8,
+    pub clock: u64,
+}
+
+// What is done on the lamp that there is.
+pub enum OnLamp {
+    Call(Call),
+    Poke(Lamp),
+    Record(Running),
+    Show,
+    Set(Setting),
+}
+
+pub enum Line {
+    Lamp(Lamp),
+    New(Making),
+    OnLamp(OnLamp),
+    StartLast(u64),
+    Ask(Leaf),
+    Help,
+    Unreadable,
+}
+
+struct LineRead {
+    value: Line,
+    at: usize,
+}
+
+fn call_line(read: CallRead) -> LineRead {
+    let call = read.value;
+    LineRead {
+        value: Line::OnLamp(OnLamp::Call(call)),
+        at: read.at,
+    }
+}
+
+fn lamp_line(line: &[u8], at: usize) -> LineRead {
+    let read = fields::idle_lamp(line, at);
+    let lamp = read.value;
+    LineRead {
+        value: Line::Lamp(lamp),
+        at: read.at,
+    }
+}
+
+fn poke_line(line: &[u8], at: usize) -> LineRead {
+    let read = fields::idle_lamp(line, at);
+    let fields = read.value;
+    LineRead {
+        value: Line::OnLamp(OnLamp::Poke(fields)),
+        at: read.at,
+    }
+}
+
+fn making_line(line: &[u8], at: usize) -> LineRead {
+    let limits = fields::bounds(line, at);
+    let bounds = limits.value;
+    let features = numbers::number_32(line, limits.at);
+    let options = numbers::number_8(line, features.at);
+    let clock = numbers::number_64(line, options.at);
+    LineRead {
+        value: Line::New(Making {
+            bounds,
+            features: features.value,
+            options: options.value,
+            clock: clock.value,
+        }),
+        at: clock.at,
+    }
+}
+
+fn record_line(line: &[u8], at: usize) -> LineRead {
+    let read = records::running(line, at);
+    let running = read.value;
+    LineRead {
+        value: Line::OnLamp(OnLamp::Record(running)),
+        at: read.at,
+    }
+}
+
+fn start_last_line(line: &[u8], at: usize) -> LineRead {
+    let clock = numbers::number_64(line, at);
+    LineRead {
+        value: Line::StartLast(clock.value),
+        at: clock.at,
+    }
+}
+
+fn set_line(line: &[u8], at: usize) -> LineRead {
+    let read = setters::read(line, at);
+    let setting = read.value;
+    LineRead {
+        value: Line::OnLamp(OnLamp::Set(setting)),
+        at: read.at,
+    }
+}
+
+fn leaf_line(line: &[u8], at: usize) -> LineRead {
+    let read = leaves::read(line, at);
+    let leaf = read.value;
+    LineRead {
+        value: Line::Ask(leaf),
+        at: read.at,
+    }
+}
+
+// A line of one word, or an unreadable one.
+fn single_word(line: &[u8], at: usize) -> LineRead {
+    if words::is(line, 0, b"show") {
+        return LineRead {
+            value: Line::OnLamp(OnLamp::Show),
+            at,
+        };
+    }
+    if words::is(line, 0, b"help") {
+        return LineRead {
+            value: Line::Help,
+            at,
+        };
+    }
+    LineRead {
+        value: Line::Unreadable,
+        at: LOST,
+    }
+}
+
+// The lines that make a lamp, check something on its own, or change the lamp by hand.
+fn other_line(line: &[u8], at: usize) -> LineRead {
+    if words::is(line, 0, b"leaf") {
+        return leaf_line(line, at);
+    }
+    if words::is(line, 0, b"set") {
+        return set_line(line, at);
+    }
+    if words::is(line, 0, b"lamp") {
+        return lamp_line(line, at);
+    }
+    if words::is(line, 0, b"new") {
+        return making_line(line, at);
+    }
+    if words::is(line, 0, b"poke") {
+        return poke_line(line, at);
+    }
+    if words::is(line, 0, b"record") {
+        return record_line(line, at);
+    }
+    single_word(line, at)
+}
+
+// The line by its first word.
+fn any_line(line: &[u8]) -> LineRead {
+    let at = words::end(line, 0);
+    if words::is(line, 0, b"cmd") {
+        return call_line(invocations::invoke(line, at));
+    }
+    if words::is(line, 0, b"step") {
+        return call_line(invocations::step(line, at));
+    }
+    if words::is(line, 0, b"startlast") {
+        return start_last_line(line, at);
+    }
+    if words::is(line, 0, b"start") {
+        return call_line(invocations::begin(line, at));
+    }
+    if words::is(line, 0, b"halt") {
+        return call_line(invocations::halt(line, at));
+    }
+    other_line(line, at)
+}
+
+pub fn read(line: &[u8]) -> Line {
+    let read = any_line(line);
+    if read.at != line.len() {
+        return Line::Unreadable;
+    }
+    let found = read.value;
+    found
+}
+
+pub fn make(making: Making) -> Made {
+    let bounds = making.bounds;
+    Lamp::new(bounds, making.features, making.options, making.clock)
+}
+
+// A lamp that was put in place or checked.
+pub fn shown(lamp: Lamp) -> Answer {
+    lamp.refused(ACCEPTED)
+}
+
+// The fields anew, with the record that there is.
+fn poked(lamp: Lamp, fields: Lamp) -> Answer {
+    let running = lamp.running;
+    shown(Lamp {
+        running: running,
+        ..fields
+    })
+}
+
+fn recorded(lamp: Lamp, running: Running) -> Answer {
+    shown(Lamp {
+        running: running,
+        ..lamp
+    })
+}
+
+pub fn on_lamp(lamp: Lamp, what: OnLamp) -> Answer {
+    match what {
+        OnLamp::Call(call) => commands::call(lamp, call),
+        OnLamp::Poke(fields) => poked(lamp, fields),
+        OnLamp::Record(running) => recorded(lamp, running),
+        OnLamp::Show => shown(lamp),
+        OnLamp::Set(setting) => setters::set(lamp, setting),
+    }
+}

@@ -1,0 +1,167 @@
+// What is kept from line to line, and the answer to a line. A call that cannot be read, or has no lamp to act on, answers
+// `error` and changes nothing.
+use call_lines::leaves;
+use call_lines::leaves::Leaf;
+use call_lines::lines;
+use call_lines::lines::Line;
+use call_lines::lines::Making;
+use call_lines::lines::OnLamp;
+use lamp::Answer;
+use lamp::Call;
+use lamp::Lamp;
+use lamp::Made;
+use lamp_lines::answers;
+use tasks::GivenTask;
+use text::writer;
+
+// A line of more bytes is unreadable.
+const LONGEST: usize = 4095;
+
+pub enum Held {
+    Nothing,
+    Lamp(Lamp),
+}
+
+// The lamp, where there is one, and the task that was given last.
+pub struct State {
+    pub held: Held,
+    pub task: GivenTask,
+}
+
+// The state after a line, and the place after its answer.
+pub struct Turn {
+    pub state: State,
+    pub at: usize,
+}
+
+pub(crate) fn nothing_yet() -> State {
+    State {
+        held: Held::Nothing,
+        task: GivenTask::Nothing,
+    }
+}
+
+fn error(state: State, out: &mut [u8], at: usize) -> Turn {
+    let end = writer::text(out, at, b"error\n");
+    Turn {
+        state: state,
+        at: end,
+    }
+}
+
+// The calls, one a line.
+fn help(state: State, out: &mut [u8], at: usize) -> Turn {
+    let end = writer::text(
+        out,
+        at,
+        b"lamp <fields>\nnew <min> <max> <features> <options> <clock>\npoke <fields>\nrecord <record>\ncmd <name> <on|off|none> <args> <mask> <override> <clock>\nstart <task> <clock>\nstartlast <clock>\nstep <clock>\nhalt <clock>\nset hue <new> <end> <enhanced> <clock>\nset sat <new> <end> <clock>\nset ct <new> <end> <clock>\nshow\nleaf delta <current> <target> <direction>\nleaf remaining <old> <ms> <start 0|1>\nleaf leave <on|off|none> <options> <mask> <override>\nleaf mode_of <emode>\nhelp\n",
+    );
+    Turn {
+        state: state,
+        at: end,
+    }
+}
+
+// The task given last, after an answer.
+fn last_task(last: GivenTask, given: GivenTask) -> GivenTask {
+    match given {
+        GivenTask::Nothing => last,
+        GivenTask::Given(task) => GivenTask::Given(task),
+    }
+}
+
+// An answer is written, and its lamp kept.
+fn answered(last: GivenTask, answer: Answer, out: &mut [u8], at: usize) -> Turn {
+    let lamp = answer.lamp;
+    let given = answer.task;
+    let task = last_task(last, given);
+    let end = answers::answer(out, at, answer);
+    Turn {
+        state: State {
+            held: Held::Lamp(lamp),
+            task: task,
+        },
+        at: end,
+    }
+}
+
+// Another lamp: the task that was given last is forgotten.
+fn placed(lamp: Lamp, out: &mut [u8], at: usize) -> Turn {
+    answered(GivenTask::Nothing, lines::shown(lamp), out, at)
+}
+
+fn not_made(state: State, number: u8, out: &mut [u8], at: usize) -> Turn {
+    let end = answers::refused(out, at, number);
+    Turn {
+        state: state,
+        at: end,
+    }
+}
+
+fn make(state: State, making: Making, out: &mut [u8], at: usize) -> Turn {
+    match lines::make(making) {
+        Made::Lamp(lamp) => placed(lamp, out, at),
+        Made::Refused(number) => not_made(state, number, out, at),
+    }
+}
+
+fn on_held(state: State, what: OnLamp, out: &mut [u8], at: usize) -> Turn {
+    let held = state.held;
+    let task = state.task;
+    match held {
+        Held::Nothing => error(state, out, at),
+        Held::Lamp(lamp) => answered(task, lines::on_lamp(lamp, what), out, at),
+    }
+}
+
+// A start of the task that was given last.
+fn start_last(state: State, clock: u64, out: &mut [u8], at: usize) -> Turn {
+    let last = state.task;
+    match last {
+        GivenTask::Nothing => error(state, out, at),
+        GivenTask::Given(task) => {
+            on_held(state, OnLamp::Call(Call::Start { task, clock }), out, at)
+        }
+    }
+}
+
+fn asked(state: State, leaf: Leaf, out: &mut [u8], at: usize) -> Turn {
+    let end = leaves::ask(leaf, out, at);
+    let next = writer::byte(out, end, b'\n');
+    Turn {
+        state: state,
+        at: next,
+    }
+}
+
+fn run(state: State, line: Line, out: &mut [u8], at: usize) -> Turn {
+    match line {
+        Line::Lamp(lamp) => placed(lamp, out, at),
+        Line::New(making) => make(state, making, out, at),
+        Line::OnLamp(what) => on_held(state, what, out, at),
+        Line::StartLast(clock) => start_last(state, clock, out, at),
+        Line::Ask(leaf) => asked(state, leaf, out, at),
+        Line::Help => help(state, out, at),
+        Line::Unreadable => error(state, out, at),
+    }
+}
+
+// One line. An empty one, and one that begins with `#`, has no answer.
+pub(crate) fn answer(state: State, line: &[u8], out: &mut [u8], at: usize) -> Turn {
+    if line.len() == 0 {
+        return Turn {
+            state: state,
+            at: at,
+        };
+    }
+    if line[0] == b'#' {
+        return Turn {
+            state: state,
+            at: at,
+        };
+    }
+    if LONGEST < line.len() {
+        return error(state, out, at);
+    }
+    run(state, lines::read(line), out, at)
+}
