@@ -73,8 +73,14 @@ startedWith r (Task.SaturationMove t) =
 startedWith r (Task.ColorTemperatureMoveTo t) =
     Running.ColorTemperatureMoveTo (record { start = r .start; mireds = short (r .x); task = t })
 startedWith r (Task.ColorTemperatureMove t) =
-    Running.ColorTemperatureMove (record { start =
-        r .start; mireds = short (r .x); rate = t .rate; lo = t .min; hi = t .max })
+    Running.ColorTemperatureMove (record {
+      start =
+          r .start;
+      mireds = short (r .x);
+      rate = t .rate;
+      lo = t .min;
+      hi = t .max;
+    })
 startedWith r (Task.ColorLoop t) = Running.ColorLoop (t .direction) (short (r .x)) (t .seconds) (r .start)
 startedWith r Task.Stop = Running.Idle
 
