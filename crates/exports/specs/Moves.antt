@@ -74,8 +74,7 @@ startedWith r (Task.ColorTemperatureMoveTo t) =
     Running.ColorTemperatureMoveTo (record { start = r .start; mireds = short (r .x); task = t })
 startedWith r (Task.ColorTemperatureMove t) =
     Running.ColorTemperatureMove (record {
-      start =
-          r .start;
+      start = r .start;
       mireds = short (r .x);
       rate = t .rate;
       lo = t .min;
