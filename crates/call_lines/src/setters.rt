@@ -1,4 +1,5 @@
 // A setter on its own: its line, and the lamp at the clock with the colour that was set.
+use color::Color;
 use color::ColorSet;
 use lamp::Answer;
 use lamp::Lamp;
@@ -9,29 +10,16 @@ use text::numbers;
 use text::words;
 use text::words::LOST;
 
-pub struct HueSetting {
-    pub hue: u16,
-    pub is_end: bool,
-    pub is_enhanced: bool,
-    pub clock: u64,
+pub enum NewValue {
+    Hue { hue: u16, is_enhanced: bool },
+    Saturation(u8),
+    Mireds(u16),
 }
 
-pub struct SaturationSetting {
-    pub saturation: u8,
+pub struct Setting {
+    pub value: NewValue,
     pub is_end: bool,
     pub clock: u64,
-}
-
-pub struct MiredsSetting {
-    pub mireds: u16,
-    pub is_end: bool,
-    pub clock: u64,
-}
-
-pub enum Setting {
-    Hue(HueSetting),
-    Saturation(SaturationSetting),
-    Mireds(MiredsSetting),
 }
 
 pub struct SettingRead {
@@ -39,48 +27,42 @@ pub struct SettingRead {
     pub at: usize,
 }
 
+// What ends each line: the clock.
+fn at_clock(line: &[u8], at: usize, value: NewValue, is_end: bool) -> SettingRead {
+    let clock = numbers::number_64(line, at);
+    SettingRead {
+        value: Setting {
+            value,
+            is_end,
+            clock: clock.value,
+        },
+        at: clock.at,
+    }
+}
+
 fn hue(line: &[u8], at: usize) -> SettingRead {
     let hue = numbers::number_16(line, at);
     let is_end = numbers::flag(line, hue.at);
     let is_enhanced = numbers::flag(line, is_end.at);
-    let clock = numbers::number_64(line, is_enhanced.at);
-    SettingRead {
-        value: Setting::Hue(HueSetting {
-            hue: hue.value,
-            is_end: is_end.value,
-            is_enhanced: is_enhanced.value,
-            clock: clock.value,
-        }),
-        at: clock.at,
-    }
+    let value = NewValue::Hue {
+        hue: hue.value,
+        is_enhanced: is_enhanced.value,
+    };
+    at_clock(line, is_enhanced.at, value, is_end.value)
 }
 
 fn saturation(line: &[u8], at: usize) -> SettingRead {
     let saturation = numbers::number_8(line, at);
     let is_end = numbers::flag(line, saturation.at);
-    let clock = numbers::number_64(line, is_end.at);
-    SettingRead {
-        value: Setting::Saturation(SaturationSetting {
-            saturation: saturation.value,
-            is_end: is_end.value,
-            clock: clock.value,
-        }),
-        at: clock.at,
-    }
+    let value = NewValue::Saturation(saturation.value);
+    at_clock(line, is_end.at, value, is_end.value)
 }
 
 fn mireds(line: &[u8], at: usize) -> SettingRead {
     let mireds = numbers::number_16(line, at);
     let is_end = numbers::flag(line, mireds.at);
-    let clock = numbers::number_64(line, is_end.at);
-    SettingRead {
-        value: Setting::Mireds(MiredsSetting {
-            mireds: mireds.value,
-            is_end: is_end.value,
-            clock: clock.value,
-        }),
-        at: clock.at,
-    }
+    let value = NewValue::Mireds(mireds.value);
+    at_clock(line, is_end.at, value, is_end.value)
 }
 
 // The setter's name and its numbers.
@@ -97,11 +79,33 @@ pub fn read(line: &[u8], at: usize) -> SettingRead {
     mireds(line, if known { end } else { LOST })
 }
 
-fn colored(lamp: Lamp, clock: u64, set: ColorSet) -> Answer {
+fn set_color(color: Color, setting: Setting) -> ColorSet {
+    let value = setting.value;
+    match value {
+        NewValue::Hue { hue, is_enhanced } => {
+            color.set_hue(hue, setting.is_end, is_enhanced, setting.clock)
+        }
+        NewValue::Saturation(saturation) => {
+            color.set_saturation(saturation, setting.is_end, setting.clock)
+        }
+        NewValue::Mireds(mireds) => {
+            color.set_color_temperature(mireds, setting.is_end, setting.clock)
+        }
+    }
+}
+
+// Refused with 8 or 4, as a halt is.
+pub fn set(lamp: Lamp, setting: Setting) -> Answer {
+    let number = lamp.first_cause(setting.clock);
+    if number != ACCEPTED {
+        return lamp.refused(number);
+    }
+    let found = lamp.color;
+    let set = set_color(found, setting);
     let color = set.color;
     let change = set.change;
     let reported = change.cons(Numeral::new(), lamp.looping.active);
-    let now = lamp.at_clock(clock);
+    let now = lamp.at_clock(setting.clock);
     Answer {
         number: ACCEPTED,
         lamp: Lamp {
@@ -111,52 +115,5 @@ fn colored(lamp: Lamp, clock: u64, set: ColorSet) -> Answer {
         notices: reported.notices(),
         task: GivenTask::Nothing,
         wait: 0,
-    }
-}
-
-fn set_hue(lamp: Lamp, set: HueSetting) -> Answer {
-    let number = lamp.first_cause(set.clock);
-    if number != ACCEPTED {
-        return lamp.refused(number);
-    }
-    let color = lamp.color;
-    colored(
-        lamp,
-        set.clock,
-        color.set_hue(set.hue, set.is_end, set.is_enhanced, set.clock),
-    )
-}
-
-fn set_saturation(lamp: Lamp, set: SaturationSetting) -> Answer {
-    let number = lamp.first_cause(set.clock);
-    if number != ACCEPTED {
-        return lamp.refused(number);
-    }
-    let color = lamp.color;
-    colored(
-        lamp,
-        set.clock,
-        color.set_saturation(set.saturation, set.is_end, set.clock),
-    )
-}
-
-fn set_mireds(lamp: Lamp, set: MiredsSetting) -> Answer {
-    let number = lamp.first_cause(set.clock);
-    if number != ACCEPTED {
-        return lamp.refused(number);
-    }
-    let color = lamp.color;
-    colored(
-        lamp,
-        set.clock,
-        color.set_color_temperature(set.mireds, set.is_end, set.clock),
-    )
-}
-
-pub fn set(lamp: Lamp, setting: Setting) -> Answer {
-    match setting {
-        Setting::Hue(s) => set_hue(lamp, s),
-        Setting::Saturation(s) => set_saturation(lamp, s),
-        Setting::Mireds(s) => set_mireds(lamp, s),
     }
 }

@@ -54,7 +54,24 @@ fn help(state: State, out: &mut [u8], at: usize) -> Turn {
     let end = writer::text(
         out,
         at,
-        b"lamp <fields>\nnew <min> <max> <features> <options> <clock>\npoke <fields>\nrecord <record>\ncmd <name> <on|off|none> <args> <mask> <override> <clock>\nstart <task> <clock>\nstartlast <clock>\nstep <clock>\nhalt <clock>\nset hue <new> <end> <enhanced> <clock>\nset sat <new> <end> <clock>\nset ct <new> <end> <clock>\nshow\nleaf delta <current> <target> <direction>\nleaf remaining <old> <ms> <start 0|1>\nleaf leave <on|off|none> <options> <mask> <override>\nleaf mode_of <emode>\nhelp\n",
+        b"lamp <fields>\n\
+          new <min> <max> <features> <options> <clock>\n\
+          poke <fields>\n\
+          record <record>\n\
+          cmd <name> <on|off|none> <args> <mask> <override> <clock>\n\
+          start <task> <clock>\n\
+          startlast <clock>\n\
+          step <clock>\n\
+          halt <clock>\n\
+          set hue <new> <end> <enhanced> <clock>\n\
+          set sat <new> <end> <clock>\n\
+          set ct <new> <end> <clock>\n\
+          show\n\
+          leaf delta <current> <target> <direction>\n\
+          leaf remaining <old> <ms> <start 0|1>\n\
+          leaf leave <on|off|none> <options> <mask> <override>\n\
+          leaf mode_of <emode>\n\
+          help\n",
     );
     Turn {
         state: state,
