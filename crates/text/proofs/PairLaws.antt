@@ -1,14 +1,14 @@
 -- A word of pairs of hexadecimal digits, pair by pair.
-use Prim.Native.Nat.{ℕ, _+_, _*_, _/_, _<_, _≤_}
+use Prim.Native.Nat.{ℕ, suc, _+_, _*_, _/_, _%_, _<_, _≤_}
 use native.Mathlib.Omega.{arith}
 use mathlib.Core.Path.{_≡_, refl, sym, _∙_}
 use mathlib.Core.Logic.{⊎-elim}
 use mathlib.Core.Bool.{Bool, true, false, not, _&&_, false≢true}
 use mathlib.Core.List.{List, [], _∷_}
-use borrow.Author.Tests.{eqb-true}
+use borrow.Author.Tests.{eqb-true, lt-ltb, le-ltb, le-leb, lt-leb}
 use lib.Dec.{eqb}
 use lib.ListN.{length, getD, List·getD-eq-default}
-use Rattle.text.specs.Digits.{isHexDigit, hexValue}
+use Rattle.text.specs.Digits.{isHexDigit, hexValue, hexDigit, hexText}
 use Rattle.text.specs.declared.pairs.BytesRead.{BytesRead}
 use Rattle.text.specs.Written.{pasted, Written}
 use Rattle.text.specs.Words.{wordAt, inWord, startOf, endOf}
@@ -98,3 +98,33 @@ module _ (line : List ℕ) (at : ℕ) (out : List ℕ) where
       let all = wrote-all out 0 (bytesOf (wordAt line (startOf line at))) (omega arith) w in
       let count : next ≡ length (bytesOf (wordAt line (startOf line at))) = omega (arith, all .0) in
       rw (e, count) (refl, all .1)
+
+-- ---- what is written reads back
+
+digit-back : (n : ℕ) → hexValue (hexDigit n) ≡ n % 16
+unfolding hexValue hexDigit
+digit-back n =
+    ⊎-elim
+    (λ h. simp (lt-ltb (n % 16) 10 h, le-leb 48 (n % 16 + 48) (omega arith), le-leb (n % 16 + 48) 57 (omega arith)) (omega arith))
+    (λ h. simp (le-ltb (n % 16) 10 h, le-leb 48 (n % 16 + 87) (omega arith), lt-leb (n % 16 + 87) 57 (omega arith), le-leb 97 (n % 16 + 87) (omega arith), le-leb (n % 16 + 87) 102 (omega arith)) (omega arith))
+    (side (n % 16) 10)
+
+digit-is : (n : ℕ) → isHexDigit (hexDigit n) ≡ true
+unfolding hexDigit
+digit-is n =
+    ⊎-elim
+    (λ h. simp (lt-ltb (n % 16) 10 h, le-leb 48 (n % 16 + 48) (omega arith), le-leb (n % 16 + 48) 57 (omega arith)))
+    (λ h. simp (le-ltb (n % 16) 10 h, le-leb 48 (n % 16 + 87) (omega arith), lt-leb (n % 16 + 87) 57 (omega arith), le-leb 97 (n % 16 + 87) (omega arith), le-leb (n % 16 + 87) 102 (omega arith)))
+    (side (n % 16) 10)
+
+pub hex-is-pairs : (bs : List ℕ) → isPairs (hexText bs) ≡ true
+unfolding isPairs hexText
+hex-is-pairs [] = refl
+hex-is-pairs (b ∷ bs) = rw (digit-is (b / 16), digit-is b, hex-is-pairs bs)
+
+pub bytes-back : (bs : List ℕ) → ((k : ℕ) → k < length bs → getD bs k 0 < 256) → bytesOf (hexText bs) ≡ bs
+unfolding bytesOf hexText
+bytes-back [] small = refl
+bytes-back (b ∷ bs) small =
+    let first : hexValue (hexDigit (b / 16)) * 16 + hexValue (hexDigit b) ≡ b = rw (digit-back (b / 16), digit-back b) (omega (arith, small 0 (omega arith))) in
+    rw (first, bytes-back bs (λ k h. small (suc k) (omega arith)))

@@ -6,6 +6,7 @@ use mathlib.Core.Path.{_≡_, refl, sym, ap, subst⁻¹}
 use mathlib.Core.Logic.{⊎-elim}
 use mathlib.Core.Bool.{Bool, true, false, cond, not, _&&_, false≢true}
 use mathlib.Core.List.{List, [], _∷_}
+use borrow.Author.Tests.{eq-eqb, eqb-true}
 use lib.Dec.{eqb}
 use lib.ListN.{length, getD, drop, drop-of-length-le, List·getD-eq-default}
 use Rattle.bytes.specs.Bytes.{indexAfter, indexOf}
@@ -98,3 +99,19 @@ same-next line text at i e h = rw (word-here line at e .1, drop-next text i h)
 pub same-over : (line text : List ℕ) (at i : ℕ) → inWord line at ≡ false → i < length text → same (wordAt line at) (drop i text) ≡ false
 unfolding same
 same-over line text at i e h = rw (word-over line at e, drop-next text i h)
+
+pub same-is : (w text : List ℕ) → same w text ≡ true → w ≡ text
+unfolding same
+same-is [] [] e = refl
+same-is [] (y ∷ ys) e = absurd (false≢true e)
+same-is (x ∷ xs) [] e = absurd (false≢true e)
+same-is (x ∷ xs) (y ∷ ys) e = both (eqb x y) refl (same-is xs ys) e
+  where
+    both : (t : Bool) → eqb x y ≡ t → (same xs ys ≡ true → xs ≡ ys) → (t && same xs ys) ≡ true → _≡_ {A = List ℕ} (x ∷ xs) (y ∷ ys)
+    both true f rest e = rw (eqb-true x y f, rest e)
+    both false f rest e = absurd (false≢true e)
+
+pub is-same : (w : List ℕ) → same w w ≡ true
+unfolding same
+is-same [] = refl
+is-same (x ∷ xs) = rw (eq-eqb x x refl, is-same xs)
