@@ -98,11 +98,11 @@ module _ (l : Lamp) (r : Request) (onOff : OnOff) (clock : ℕ) where
   lamp : withLoop at (done .lamp .color) (done .lamp .looping) ≡ done .lamp
   lamp = done-any at (λ m. withLoop at (m .color) (m .looping) ≡ m) (λ c s. refl) r onOff
 
-  built-by : (t : Bool) → eqb (commandCause l r onOff clock) 0 ≡ t →
+  built-by : (t : Bool) → eqb (commandCause l r clock) 0 ≡ t →
       answerOf l clock (outcomeOf l r onOff clock) ≡ commandAnswer l r onOff clock
   unfolding commandAnswer outcomeOf
   built-by true z = simp (z, list, lamp)
   built-by false z = simp (z, no-list)
 
   pub built : answerOf l clock (outcomeOf l r onOff clock) ≡ commandAnswer l r onOff clock
-  built = built-by (eqb (commandCause l r onOff clock) 0) refl
+  built = built-by (eqb (commandCause l r clock) 0) refl

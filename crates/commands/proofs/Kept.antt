@@ -44,7 +44,7 @@ module _ (l : Lamp) where
   -- what holds of both holds of the answer
   pub answer-both : (P : Answer → Type 0) (x : Call) → (cause l x ≡ 0 → P (granted l x)) → ((cause l x ≡ 0 → ⊥) → P (refusal l (cause l x))) → P (answer l x)
   unfolding cause answer commandAnswer startAnswer stepAnswer haltAnswer
-  answer-both P (Call.Command r onOff clock) h k = choose-both P (commandCause l r onOff clock) l _ h k
+  answer-both P (Call.Command r onOff clock) h k = choose-both P (commandCause l r clock) l _ h k
   answer-both P (Call.Start task clock) h k = choose-both P (startCause l task clock) l _ h k
   answer-both P (Call.Step clock) h k = choose-both P (stepCause l clock) l _ h k
   answer-both P (Call.Halt clock) h k = choose-both P (firstCause l clock) l _ h k
@@ -67,7 +67,7 @@ module _ (l : Lamp) where
   -- where a call is accepted, the lamp at its clock is valid
   pub granted-ready : (x : Call) → cause l x ≡ 0 → lampValid (atClock l (clockOf x)) ≡ true
   unfolding cause commandCause
-  granted-ready (Call.Command r onOff clock) e = ready l clock (no-cause (firstCause l clock) (afterClock l r onOff) e .0)
+  granted-ready (Call.Command r onOff clock) e = ready l clock (no-cause (firstCause l clock) (afterClock r) e .0)
   granted-ready (Call.Start task clock) e = start-ready l clock task e .0
   granted-ready (Call.Step clock) e = step-ready l clock e
   granted-ready (Call.Halt clock) e = ready l clock e

@@ -5,3 +5,4 @@ pub mod Table
 pub mod Unchanged
 pub mod Built
 pub mod LoopLaws
+pub mod StepLimits

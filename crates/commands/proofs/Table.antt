@@ -2,7 +2,7 @@
 use Prim.Native.Nat.{ℕ, _≤_}
 use mathlib.Core.Bool.{Bool, true, false, not, _&&_, _||_}
 use mathlib.Core.List.{List, []}
-use mathlib.Core.Path.{_≡_, refl}
+use mathlib.Core.Path.{_≡_, refl, sym, _∙_}
 use native.Mathlib.Omega.{arith}
 use lib.Dec.{eqb, ltb}
 use lib.ListN.{length}
@@ -22,10 +22,10 @@ use Rattle.lamp.specs.Valid.{lampValid}
 use Rattle.lamp.specs.Calls.{started, stepped, startAnswer, stepAnswer, haltAnswer, choose, startCause, stepCause}
 use Rattle.lamp.proofs.Kept.{started-few, stepped-few}
 use Rattle.lamp.specs.declared.Call.{Call}
-use Rattle.commands.specs.Commands.{causeIf, checks, crossed}
+use Rattle.commands.specs.Commands.{causeIf, checks}
 use Rattle.commands.specs.Table.{StepCauses, HaltCauses, StartCauses, CommandCauses, Few, TableOfCauses}
 use Rattle.commands.specs.Answers.{allowed, afterClock, commandCause, commandDone, commandAnswer, cause, answer}
-use Rattle.commands.proofs.Kept.{commands-few}
+use Rattle.commands.proofs.Kept.{commands-few, number-is-cause}
 
 module _ (l : Lamp) (clock : ℕ) where
   -- ---- a step: 8, 7, 4
@@ -78,7 +78,7 @@ module _ (l : Lamp) (clock : ℕ) where
     start-0 f b t = simp (f, b, t)
 
   module _ (r : Request) (onOff : OnOff) where
-    -- ---- a command: 8, 4, Stop mode, its own numbers (1 or 2), off, 3
+    -- ---- a command: 8, 4, Stop mode, its own numbers (1 or 2)
     pub command-8 : lampValid l ≡ false → cause l (Call.Command r onOff clock) ≡ 8
     unfolding cause commandCause firstCause
     command-8 f = simp f
@@ -91,23 +91,11 @@ module _ (l : Lamp) (clock : ℕ) where
     unfolding cause commandCause firstCause
     command-stop f b s = simp (f, b, s)
 
-    pub command-number : lampValid l ≡ true → badClock l clock ≡ false → checks (r .command) .stop ≡ false → eqb (checks (r .command) .cause) 0 ≡ false → cause l (Call.Command r onOff clock) ≡ checks (r .command) .cause
+    pub command-own : lampValid l ≡ true → badClock l clock ≡ false → checks (r .command) .stop ≡ false → cause l (Call.Command r onOff clock) ≡ checks (r .command) .cause
     unfolding cause commandCause firstCause
-    command-number f b s n = simp (f, b, s, n)
+    command-own f b s = simp (f, b, s)
 
-    pub command-off : lampValid l ≡ true → badClock l clock ≡ false → checks (r .command) .stop ≡ false → eqb (checks (r .command) .cause) 0 ≡ true → allowed l r onOff ≡ false → cause l (Call.Command r onOff clock) ≡ 0
-    unfolding cause commandCause firstCause
-    command-off f b s n a = simp (f, b, s, n, a)
-
-    pub command-3 : lampValid l ≡ true → badClock l clock ≡ false → checks (r .command) .stop ≡ false → eqb (checks (r .command) .cause) 0 ≡ true → allowed l r onOff ≡ true → crossed (l .bounds) (r .command) ≡ true → cause l (Call.Command r onOff clock) ≡ 3
-    unfolding cause commandCause firstCause
-    command-3 f b s n a x = simp (f, b, s, n, a, x)
-
-    pub command-0 : lampValid l ≡ true → badClock l clock ≡ false → checks (r .command) .stop ≡ false → eqb (checks (r .command) .cause) 0 ≡ true → allowed l r onOff ≡ true → crossed (l .bounds) (r .command) ≡ false → cause l (Call.Command r onOff clock) ≡ 0
-    unfolding cause commandCause firstCause
-    command-0 f b s n a x = simp (f, b, s, n, a, x)
-
--- ---- no number is above 8
+-- ---- which numbers there are
 
 small : {most : ℕ} (test : Bool) (number : ℕ) → number ≤ most → causeIf test number ≤ most
 small {most} test number h = cond-both (λ n. n ≤ most) test number 0 (λ e. h) (λ e. omega arith)
@@ -131,26 +119,36 @@ own-small (Command.StepColorTemperature mode size time min max) = small (eqb siz
 own-small (Command.ColorLoopSet flags action direction time startHue) = omega arith
 own-small Command.StopMoveStep = omega arith
 
-first-small : (l : Lamp) (clock : ℕ) → firstCause l clock ≤ 8
-unfolding firstCause
-first-small l clock =
-    cond-both (λ n. n ≤ 8) (not (lampValid l)) 8 _ (λ e. omega arith) (λ e. small (badClock l clock) 4 (omega arith))
+-- what holds of 0, of the commands' own causes, and of 4, 6, 7 and 8 holds of every cause
+module _ (P : ℕ → Type 0) (p0 : P 0) (own : (c : Command) → P (checks c .cause)) (p4 : P 4) (p6 : P 6) (p7 : P 7) (p8 : P 8) where
+  clock-in : (l : Lamp) (clock : ℕ) → P (causeIf (badClock l clock) 4)
+  clock-in l clock = cond-both P (badClock l clock) 4 0 (λ e. p4) (λ e. p0)
+
+  first-in : (l : Lamp) (clock : ℕ) → P (firstCause l clock)
+  unfolding firstCause
+  first-in l clock = cond-both P (not (lampValid l)) 8 _ (λ e. p8) (λ e. clock-in l clock)
+
+  cause-in : (l : Lamp) (x : Call) → P (cause l x)
+  unfolding cause commandCause
+  cause-in l (Call.Command r onOff clock) =
+      cond-both P (eqb (firstCause l clock) 0) (afterClock r) (firstCause l clock)
+      (λ e. cond-both P (checks (r .command) .stop) 0 _ (λ e. p0) (λ e. own (r .command)))
+      (λ e. first-in l clock)
+  cause-in l (Call.Start task clock) =
+      cond-both P (eqb (firstCause l clock) 0) _ (firstCause l clock)
+      (λ e. cond-both P (taskValid task) 0 6 (λ e. p0) (λ e. p6))
+      (λ e. first-in l clock)
+  cause-in l (Call.Step clock) =
+      cond-both P (not (lampValid l)) 8 _ (λ e. p8)
+      (λ e. cond-both P (not (runs (l .running))) 7 _ (λ e. p7) (λ e. clock-in l clock))
+  cause-in l (Call.Halt clock) = first-in l clock
 
 pub cause-small : (l : Lamp) (x : Call) → cause l x ≤ 8
-unfolding cause commandCause
-cause-small l (Call.Command r onOff clock) =
-    cond-both (λ n. n ≤ 8) (eqb (firstCause l clock) 0) (afterClock l r onOff) (firstCause l clock)
-    (λ e. cond-both (λ n. n ≤ 8) (checks (r .command) .stop) 0 _ (λ e. omega arith)
-    (λ e. cond-both (λ n. n ≤ 8) (eqb (checks (r .command) .cause) 0) _ (checks (r .command) .cause) (λ e. small (allowed l r onOff && crossed (l .bounds) (r .command)) 3 (omega arith)) (λ e. omega (arith, own-small (r .command)))))
-    (λ e. first-small l clock)
-cause-small l (Call.Start task clock) =
-    cond-both (λ n. n ≤ 8) (eqb (firstCause l clock) 0) _ (firstCause l clock)
-    (λ e. cond-both (λ n. n ≤ 8) (taskValid task) 0 6 (λ e. omega arith) (λ e. omega arith))
-    (λ e. first-small l clock)
-cause-small l (Call.Step clock) =
-    cond-both (λ n. n ≤ 8) (not (lampValid l)) 8 _ (λ e. omega arith)
-    (λ e. cond-both (λ n. n ≤ 8) (not (runs (l .running))) 7 _ (λ e. omega arith) (λ e. small (badClock l clock) 4 (omega arith)))
-cause-small l (Call.Halt clock) = first-small l clock
+cause-small = cause-in (λ n. n ≤ 8) (omega arith) (λ c. omega (arith, own-small c)) (omega arith) (omega arith) (omega arith) (omega arith)
+
+pub cause-not-3 : (l : Lamp) (x : Call) → cause l x ≡ 3 → ⊥
+cause-not-3 =
+    cause-in (λ n. n ≡ 3 → ⊥) (λ e. omega (arith, e)) (λ c e. omega (arith, own-small c, e)) (λ e. omega (arith, e)) (λ e. omega (arith, e)) (λ e. omega (arith, e)) (λ e. omega (arith, e))
 
 -- ---- at most 14 notices: an answer's list is some list of at most 14 in its places, with zeros behind
 
@@ -160,7 +158,7 @@ chosen n l a f = cond-both Few (eqb n 0) a (refusal l n) (λ e. f) (λ e. record
 pub answer-few : (l : Lamp) (x : Call) → Few (answer l x)
 unfolding answer commandAnswer startAnswer stepAnswer haltAnswer
 answer-few l (Call.Command r onOff clock) =
-    chosen (commandCause l r onOff clock) l _
+    chosen (commandCause l r clock) l _
     (record { reported = commandDone (atClock l clock) r onOff .reported; listed = refl; few = commands-few (atClock l clock) r onOff })
 answer-few l (Call.Start task clock) =
     chosen (startCause l task clock) l _
@@ -189,12 +187,10 @@ table =
             command-8 = command-8 l clock r onOff;
             command-4 = command-4 l clock r onOff;
             command-stop = command-stop l clock r onOff;
-            command-number = command-number l clock r onOff;
-            command-off = command-off l clock r onOff;
-            command-3 = command-3 l clock r onOff;
-            command-0 = command-0 l clock r onOff;
+            command-own = command-own l clock r onOff;
           };
       own = own-small;
       most = cause-small;
+      no-3 = λ l x e. cause-not-3 l x (sym (number-is-cause l x) ∙ e);
       few = answer-few;
     }

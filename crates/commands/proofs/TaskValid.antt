@@ -32,7 +32,7 @@ use Rattle.lamp.proofs.Kept.{valid-color, no-cause}
 use Rattle.matter.specs.Rules.{signed}
 use Rattle.lamp.specs.declared.Call.{Call}
 use Rattle.commands.specs.Answers.{allowed, afterClock, commandCause, cause, answer}
-use Rattle.commands.specs.Commands.{CommandEffect, causeIf, isStop, checks, crossed, stored, ms, hueTask, saturationTask, hueMoveTask, stepDelta, saturationStep, acted, deactivated, activated, loopSet, commandEffect}
+use Rattle.commands.specs.Commands.{CommandEffect, causeIf, isStop, checks, stored, ms, hueTask, saturationTask, hueMoveTask, stepDelta, saturationStep, acted, deactivated, activated, loopSet, commandEffect}
 use Rattle.commands.proofs.Kept.{answer-both, granted-ready}
 use Rattle.commands.proofs.Table.{start-0}
 
@@ -148,8 +148,7 @@ module _ (l : Lamp) (r : Request) (onOff : OnOff) (clock : ℕ) (inRange : InRan
   own-none : cause l (Call.Command r onOff clock) ≡ 0 → checks (r .command) .stop ≡ false → checks (r .command) .cause ≡ 0
   unfolding cause commandCause
   own-none e s =
-      no-cause (checks (r .command) .cause) (causeIf (allowed l r onOff && crossed (l .bounds) (r .command)) 3)
-      (rw s at (no-cause (firstCause l clock) (afterClock l r onOff) e .1)) .0
+      rw s at (no-cause (firstCause l clock) (afterClock r) e .1)
 
   answer-valid : Startable (answer l (Call.Command r onOff clock) .task)
   answer-valid =

@@ -6,7 +6,7 @@ use lib.Dec.{eqb}
 use Rattle.matter.specs.declared.commands.Command.{Command}
 use Rattle.matter.specs.declared.commands.Request.{Request}
 use Rattle.matter.specs.declared.enums.OnOff.{OnOff}
-use Rattle.matter.specs.Causes.{accepted, crossedLimits}
+use Rattle.matter.specs.Causes.{accepted}
 use Rattle.matter.specs.Rules.{mayExecute}
 use Rattle.notices.specs.Notices.{noted}
 use Rattle.tasks.specs.declared.Task.{Task}
@@ -16,24 +16,21 @@ use Rattle.lamp.specs.Answers.{atClock, firstCause}
 use Rattle.lamp.specs.Calls.{choose, done, started, stepped, startCause, stepCause, startAnswer, stepAnswer, haltAnswer}
 use Rattle.lamp.specs.Passes.{idled}
 use Rattle.lamp.specs.declared.Call.{Call}
-use Rattle.commands.specs.Commands.{CommandEffect, skip, giving, causeIf, checks, crossed, commandEffect}
+use Rattle.commands.specs.Commands.{CommandEffect, skip, giving, checks, commandEffect}
 
 -- whether a command may execute on a lamp
 abbrev pub allowed : Lamp → Request → OnOff → Bool
 allowed l r onOff = mayExecute onOff (l .options) (r .options .mask) (r .options .overrides)
 
--- "commands 8, 4, then the order above": Stop mode, the cause of the command's own numbers, off, crossed limits
-abbrev pub inOrder : Bool → ℕ → Bool → Bool → ℕ
-inOrder stop own allowed crossed =
-    cond stop accepted (cond (eqb own accepted) (causeIf (allowed && crossed) crossedLimits) own)
+-- "commands 8, 4, then the order above": Stop mode, then the cause of the command's own numbers
+abbrev pub inOrder : Bool → ℕ → ℕ
+inOrder stop own = cond stop accepted own
 
-abbrev pub afterClock : Lamp → Request → OnOff → ℕ
-afterClock l r onOff =
-    inOrder (checks (r .command) .stop) (checks (r .command) .cause) (allowed l r onOff)
-    (crossed (l .bounds) (r .command))
+abbrev pub afterClock : Request → ℕ
+afterClock r = inOrder (checks (r .command) .stop) (checks (r .command) .cause)
 
-unfoldable pub commandCause : Lamp → Request → OnOff → ℕ → ℕ
-commandCause l r onOff clock = cond (eqb (firstCause l clock) accepted) (afterClock l r onOff) (firstCause l clock)
+unfoldable pub commandCause : Lamp → Request → ℕ → ℕ
+commandCause l r clock = cond (eqb (firstCause l clock) accepted) (afterClock r) (firstCause l clock)
 
 -- the Stop task in Stop mode; where it may not execute, a pass-over; else what the command does
 abbrev pub ranWith : Lamp → Bool → Bool → CommandEffect → CommandEffect
@@ -49,12 +46,12 @@ commandAccepted e =
 
 unfoldable pub commandAnswer : Lamp → Request → OnOff → ℕ → Answer
 commandAnswer l r onOff clock =
-    choose (commandCause l r onOff clock) l (commandAccepted (commandDone (atClock l clock) r onOff))
+    choose (commandCause l r clock) l (commandAccepted (commandDone (atClock l clock) r onOff))
 
 -- ---- every call
 
 unfoldable pub cause : Lamp → Call → ℕ
-cause l (Call.Command r onOff clock) = commandCause l r onOff clock
+cause l (Call.Command r onOff clock) = commandCause l r clock
 cause l (Call.Start task clock) = startCause l task clock
 cause l (Call.Step clock) = stepCause l clock
 cause l (Call.Halt clock) = firstCause l clock

@@ -98,23 +98,13 @@ lo bounds n = lower bounds (asked (bounds .min) n)
 abbrev pub hi : Bounds → ℕ → ℕ
 hi bounds n = upper bounds (asked (bounds .max) n)
 
--- a step of mireds with lo above hi
-abbrev pub crossed : Bounds → Command → Bool
-crossed bounds (Command.MoveToHue hue direction time) = false
-crossed bounds (Command.MoveHue mode rate enhanced) = false
-crossed bounds (Command.StepHue mode size time) = false
-crossed bounds (Command.MoveToSaturation saturation time) = false
-crossed bounds (Command.MoveSaturation mode rate) = false
-crossed bounds (Command.StepSaturation mode size time) = false
-crossed bounds (Command.MoveToHueAndSaturation hue saturation time enhanced enhancedHue) = false
-crossed bounds (Command.EnhancedMoveToHue hue direction time) = false
-crossed bounds (Command.EnhancedMoveHue mode rate) = false
-crossed bounds (Command.EnhancedStepHue mode size time) = false
-crossed bounds (Command.MoveToColorTemperature mireds time) = false
-crossed bounds (Command.MoveColorTemperature mode rate min max) = false
-crossed bounds (Command.StepColorTemperature mode size time min max) = ltb (hi bounds max) (lo bounds min)
-crossed bounds (Command.ColorLoopSet flags action direction time startHue) = false
-crossed bounds Command.StopMoveStep = false
+-- between which mireds a step goes. Document 02, A.12: "A step with lo above hi, however that comes about, is now
+-- answered as if both limits were 0"
+abbrev pub limits : Bounds → ℕ → ℕ → Bounds
+limits bounds min max = record { min = lo bounds min; max = hi bounds max }
+
+abbrev pub stepLimits : Bounds → ℕ → ℕ → Bounds
+stepLimits bounds min max = cond (ltb (hi bounds max) (lo bounds min)) (limits bounds 0 0) (limits bounds min max)
 
 -- ---- the tasks
 
@@ -153,6 +143,12 @@ temperatureTask target tenths = Task.ColorTemperatureMoveTo (record { target = t
 abbrev pub stepDelta : StepModeEnum → ℕ → ℤ
 stepDelta StepModeEnum.Up size = pos size
 stepDelta StepModeEnum.Down size = negℤ (pos size)
+
+-- a step of the mireds, within its limits
+abbrev pub miredsStep : Lamp → StepModeEnum → ℕ → ℕ → ℕ → ℕ
+miredsStep l mode size min max =
+    let between : Bounds = stepLimits (l .bounds) min max in
+    clamp (between .min) (between .max) (pos (l .color .mireds) +ℤ stepDelta mode size)
 
 -- "Saturation steps stop at 0 and 254"
 abbrev pub saturationStep : StepModeEnum → ℕ → ℕ → ℕ
@@ -269,7 +265,7 @@ commandEffect l (Command.MoveColorTemperature mode rate min max) =
     (Task.ColorTemperatureMove
     (record { rate = signed mode rate; min = asked (l .bounds .min) min; max = asked (l .bounds .max) max }))
 commandEffect l (Command.StepColorTemperature mode size time min max) =
-    giving l (temperatureTask (clamp (lo (l .bounds) min) (hi (l .bounds) max) (pos (l .color .mireds) +ℤ stepDelta mode size)) time)
+    giving l (temperatureTask (miredsStep l mode size min max) time)
 commandEffect l (Command.ColorLoopSet flags action direction time startHue) =
     loopSet l flags action direction time startHue
 commandEffect l Command.StopMoveStep = giving l Task.Stop

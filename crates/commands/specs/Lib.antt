@@ -3,3 +3,4 @@ pub mod Answers
 pub mod Outcomes
 pub mod Table
 pub mod Unchanged
+pub mod StepLimits

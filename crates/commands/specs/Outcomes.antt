@@ -32,5 +32,5 @@ refusedOutcome l cause =
 -- of a command
 unfoldable pub outcomeOf : Lamp → Request → OnOff → ℕ → Outcome
 outcomeOf l r onOff clock =
-    cond (eqb (commandCause l r onOff clock) accepted) (acceptedOutcome (commandDone (atClock l clock) r onOff))
-    (refusedOutcome l (commandCause l r onOff clock))
+    cond (eqb (commandCause l r clock) accepted) (acceptedOutcome (commandDone (atClock l clock) r onOff))
+    (refusedOutcome l (commandCause l r clock))

@@ -21,8 +21,8 @@ use Rattle.lamp.specs.declared.Answer.{Answer}
 use Rattle.lamp.specs.Answers.{badClock}
 use Rattle.lamp.specs.Valid.{lampValid}
 use Rattle.lamp.specs.declared.Call.{Call}
-use Rattle.commands.specs.Commands.{checks, crossed}
-use Rattle.commands.specs.Answers.{allowed, cause, answer}
+use Rattle.commands.specs.Commands.{checks}
+use Rattle.commands.specs.Answers.{cause, answer}
 
 -- steps 8, 7, 4; a step of a valid running lamp with a good clock is never refused
 pub record StepCauses (l : Lamp) (clock : ℕ) : Type 0 where
@@ -46,24 +46,14 @@ pub record StartCauses (l : Lamp) (clock : ℕ) (task : Task) : Type 0 where
   pub start-0 : lampValid l ≡ true → badClock l clock ≡ false → taskValid task ≡ true →
       cause l (Call.Start task clock) ≡ 0
 
--- commands 8, 4, Stop mode, the command's own numbers (1 or 2), off, 3
+-- commands 8, 4, Stop mode, the command's own numbers (1 or 2, or no cause), on or off
 pub record CommandCauses (l : Lamp) (clock : ℕ) (r : Request) (onOff : OnOff) : Type 0 where
   pub command-8 : lampValid l ≡ false → cause l (Call.Command r onOff clock) ≡ 8
   pub command-4 : lampValid l ≡ true → badClock l clock ≡ true → cause l (Call.Command r onOff clock) ≡ 4
   pub command-stop : lampValid l ≡ true → badClock l clock ≡ false → checks (r .command) .stop ≡ true →
       cause l (Call.Command r onOff clock) ≡ 0
-  pub command-number : lampValid l ≡ true → badClock l clock ≡ false → checks (r .command) .stop ≡ false →
-      eqb (checks (r .command) .cause) 0 ≡ false →
+  pub command-own : lampValid l ≡ true → badClock l clock ≡ false → checks (r .command) .stop ≡ false →
       cause l (Call.Command r onOff clock) ≡ checks (r .command) .cause
-  pub command-off : lampValid l ≡ true → badClock l clock ≡ false → checks (r .command) .stop ≡ false →
-      eqb (checks (r .command) .cause) 0 ≡ true →
-      allowed l r onOff ≡ false → cause l (Call.Command r onOff clock) ≡ 0
-  pub command-3 : lampValid l ≡ true → badClock l clock ≡ false → checks (r .command) .stop ≡ false →
-      eqb (checks (r .command) .cause) 0 ≡ true →
-      allowed l r onOff ≡ true → crossed (l .bounds) (r .command) ≡ true → cause l (Call.Command r onOff clock) ≡ 3
-  pub command-0 : lampValid l ≡ true → badClock l clock ≡ false → checks (r .command) .stop ≡ false →
-      eqb (checks (r .command) .cause) 0 ≡ true →
-      allowed l r onOff ≡ true → crossed (l .bounds) (r .command) ≡ false → cause l (Call.Command r onOff clock) ≡ 0
 
 -- an answer's list is some list of at most 14 in its places, with zeros behind
 pub record Few (a : Answer) : Type 0 where
@@ -79,4 +69,6 @@ pub record TableOfCauses : Type 0 where
   -- a command's own numbers give 1, 2 or no cause
   pub own : (c : Command) → checks c .cause ≤ 2
   pub most : (l : Lamp) (x : Call) → cause l x ≤ 8
+  -- document 02, A.12: "Number 3 no longer occurs"
+  pub no-3 : (l : Lamp) (x : Call) → answer l x .number ≡ 3 → ⊥
   pub few : (l : Lamp) (x : Call) → Few (answer l x)

@@ -1,14 +1,11 @@
 // What is checked of a command by itself, in one row each: Stop mode, and its own numbers.
-use crate::temperatures::high_limit;
-use crate::temperatures::low_limit;
 use matter::ACCEPTED;
-use matter::Bounds;
 use matter::CONSTRAINT_ERROR;
 use matter::Command;
 use matter::INVALID_COMMAND;
 use matter::MoveModeEnum;
 ghost use mathlib.Core.Path.{_≡_};
-ghost use Rattle.commands.specs.Commands.{isStop, constrained, nonzero, moving, checks, crossed};
+ghost use Rattle.commands.specs.Commands.{isStop, constrained, nonzero, moving, checks};
 
 // Whether it is a move in Stop mode, and the cause that its numbers give, or 0.
 pub struct Checks {
@@ -80,17 +77,5 @@ pub(crate) fn checks_of(command: Command) -> Checks
         Command::StepColorTemperature { size, .. } => nonzero(size),
         Command::ColorLoopSet { .. } => constrained(false),
         Command::StopMoveStep => constrained(false),
-    }
-}
-
-// A step of the colour temperature whose lower limit is above its upper one.
-pub(crate) fn is_crossed(bounds: Bounds, command: Command) -> bool
-    ensures { λ r. ⌜ r ≡ crossed bounds command ⌝ }
-{
-    match command {
-        Command::StepColorTemperature { min, max, .. } => {
-            high_limit(bounds, max) < low_limit(bounds, min)
-        }
-        _ => false,
     }
 }

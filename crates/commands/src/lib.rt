@@ -9,7 +9,6 @@ mod saturations;
 mod temperatures;
 
 use checks::checks_of;
-use checks::is_crossed;
 pub use hues::cmd_enhanced_move_hue;
 pub use hues::cmd_enhanced_move_to_hue;
 pub use hues::cmd_enhanced_step_hue;
@@ -29,7 +28,6 @@ use lamp::Lamp;
 pub use loops::cmd_color_loop_set;
 use loops::set_loop;
 use matter::ACCEPTED;
-use matter::CROSSED_LIMITS;
 use matter::Command;
 use matter::CommandOptions;
 use matter::OnOff;
@@ -128,7 +126,7 @@ fn execute(lamp: Lamp, command: Command, clock: u64) -> Outcome
     }
 }
 
-// A command's checks in their order: 8 and 4, Stop mode, its own numbers, off, crossed limits.
+// A command's checks in their order: 8 and 4, Stop mode, its own numbers, off.
 fn outcome(lamp: Lamp, request: Request, on_off: OnOff, clock: u64) -> Outcome
     ensures { λ r. ⌜ r ≡ outcomeOf lamp request «on_off» clock ⌝ }
 {
@@ -147,10 +145,6 @@ fn outcome(lamp: Lamp, request: Request, on_off: OnOff, clock: u64) -> Outcome
     let options = request.options;
     if !should_continue(on_off, lamp.options, options.mask, options.overrides) {
         return skipped(lamp);
-    }
-    let bounds = lamp.bounds;
-    if is_crossed(bounds, command) {
-        return refused(lamp, CROSSED_LIMITS);
     }
     execute(lamp, command, clock)
 }

@@ -22,7 +22,7 @@ ghost use lib.IntN.{pos, _+ℤ_};
 ghost use Rattle.matter.specs.Rules.{signed};
 ghost use Rattle.progress.specs.Progress.{clamp};
 ghost use Rattle.tasks.specs.declared.Task.{Task};
-ghost use Rattle.commands.specs.Commands.{giving, asked, lo, hi, temperatureTask, stepDelta};
+ghost use Rattle.commands.specs.Commands.{giving, asked, lo, hi, stepLimits, temperatureTask, miredsStep};
 ghost use Rattle.commands.specs.Outcomes.{acceptedOutcome};
 
 // The caller's limit, or the physical one for 0.
@@ -33,16 +33,34 @@ fn limit_asked(physical: u16, n: u16) -> u16
 }
 
 // Between which mireds a command moves: the caller's limits within the physical bounds.
-pub(crate) fn low_limit(bounds: Bounds, min: u16) -> u16
+fn low_limit(bounds: Bounds, min: u16) -> u16
     ensures { λ r. ⌜ r ≡ lo bounds min ⌝ }
 {
     bounds.lower_limit(limit_asked(bounds.min, min))
 }
 
-pub(crate) fn high_limit(bounds: Bounds, max: u16) -> u16
+fn high_limit(bounds: Bounds, max: u16) -> u16
     ensures { λ r. ⌜ r ≡ hi bounds max ⌝ }
 {
     bounds.upper_limit(limit_asked(bounds.max, max))
+}
+
+// Between which mireds a step goes: limits that cross count as 0, both of them.
+fn step_limits(bounds: Bounds, min: u16, max: u16) -> Bounds
+    ensures { λ r. ⌜ r ≡ stepLimits bounds min max ⌝ }
+{
+    let low = low_limit(bounds, min);
+    let high = high_limit(bounds, max);
+    if high < low {
+        return Bounds {
+            min: low_limit(bounds, 0),
+            max: high_limit(bounds, 0),
+        };
+    }
+    Bounds {
+        min: low,
+        max: high,
+    }
 }
 
 // A move by so many mireds between two limits; the time is in tenths.
@@ -70,13 +88,14 @@ pub(crate) fn step_mireds(
     min: u16,
     max: u16,
 ) -> Outcome
-    ensures { λ r. ⌜ r ≡ acceptedOutcome (giving lamp (temperatureTask (clamp (lo (lamp .bounds) min) (hi (lamp .bounds) max) (pos (lamp .color .mireds) +ℤ stepDelta mode size)) tenths)) ⌝ }
+    ensures { λ r. ⌜ r ≡ acceptedOutcome (giving lamp (temperatureTask (miredsStep lamp mode size min max) tenths)) ⌝ }
 {
     let bounds = lamp.bounds;
+    let limits = step_limits(bounds, min, max);
     between(
         lamp,
-        low_limit(bounds, min),
-        high_limit(bounds, max),
+        limits.min,
+        limits.max,
         lamp.color.mireds,
         step_delta(mode, size),
         tenths,
@@ -136,7 +155,7 @@ pub fn cmd_move_color_temperature(
     with_options(lamp, command, options_mask, options_override, on_off, clock)
 }
 
-// StepColorTemperature: by a step, within the caller's limits, where 0 is the physical one.
+// StepColorTemperature: by a step, within the caller's limits, where 0 is the physical one, unless they cross.
 pub fn cmd_step_color_temperature(
     lamp: Lamp,
     step_mode: StepModeEnum,

@@ -134,7 +134,7 @@ one-by true = refl
 one-by false = refl
 
 module _ (l : Lamp) (onOff : OnOff) where
-  looked : (r : Request) → eqb (afterClock l r onOff) 2 ≡ cond (checks (r .command) .stop) false (eqb (checks (r .command) .cause) 2)
+  looked : (r : Request) → eqb (afterClock r) 2 ≡ cond (checks (r .command) .stop) false (eqb (checks (r .command) .cause) 2)
   looked r = by (checks (r .command) .stop)
     where
       by : (s : Bool) → eqb (cond s 0 (cond (eqb (checks (r .command) .cause) 0) (cond (allowed l r onOff && crossed (l .bounds) (r .command)) 3 0) (checks (r .command) .cause))) 2 ≡ cond s false (eqb (checks (r .command) .cause) 2)
@@ -168,5 +168,5 @@ module _ (l : Lamp) (onOff : OnOff) where
   own-agree Command.StopMoveStep = refl
 
   -- past validity and clock, InvalidCommand is the port's answer exactly where the text's is
-  pub invalid-agree : (r : Request) → eqb (afterClock l r onOff) 2 ≡ invalid (r .command)
+  pub invalid-agree : (r : Request) → eqb (afterClock r) 2 ≡ invalid (r .command)
   invalid-agree r = looked r ∙ own-agree (r .command)

@@ -335,7 +335,7 @@ command-fields : (l : Lamp) (q : Request) (onOff : OnOff) (clock : ℕ) → caus
     checks (q .command) .stop ≡ false → checks (q .command) .cause ≡ 0
 unfolding cause commandCause
 command-fields l q onOff clock z s =
-    no-cause (checks (q .command) .cause) _ (rw s at (no-cause (firstCause l clock) (afterClock l q onOff) z .1)) .0
+    no-cause (checks (q .command) .cause) _ (rw s at (no-cause (firstCause l clock) (afterClock q) z .1)) .0
 
 -- an accepted command that may execute, in no Stop mode, does what the text asks
 pub receipt-agrees : (l : Lamp) (q : Request) (onOff : OnOff) (clock : ℕ) → l .color .hue < 65536 → InRangeRequest q →

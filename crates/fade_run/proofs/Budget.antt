@@ -155,7 +155,7 @@ module _ (w : Wanted) (j : ℕ) where
   commanded-enough : (l : Lamp) → text (afterCommand (j + w .tenths) (w .clock) (commandAnswer l asked OnOff.On (w .clock))) ≡ text (afterCommand (w .tenths) (w .clock) (commandAnswer l asked OnOff.On (w .clock)))
   unfolding commandAnswer commandEffect
   commanded-enough l =
-      choose-both (λ a. text (afterCommand (j + w .tenths) (w .clock) a) ≡ text (afterCommand (w .tenths) (w .clock) a)) (commandCause l asked OnOff.On (w .clock)) l _
+      choose-both (λ a. text (afterCommand (j + w .tenths) (w .clock) a) ≡ text (afterCommand (w .tenths) (w .clock) a)) (commandCause l asked (w .clock)) l _
       (λ e. ap (λ (u : List ℕ). oneText started-on (w .clock) ++ u) (enough (w .tenths) j started-on (w .clock) (start-within (atClock l (w .clock)) (task l) (w .clock) (w .tenths) refl)))
       (λ e. refl)
     where

@@ -1,4 +1,4 @@
--- The checks in their order: 8 and 4, Stop mode, the numbers, off, crossed limits.
+-- The checks in their order: 8 and 4, Stop mode, the numbers, off.
 use Rattle.commands.specs.Answers.{commandCause}
 use Rattle.commands.specs.Outcomes.{outcomeOf}
 use borrow.Author.Tests.{eq-eqb, ne-eqb, not-true, not-false}
@@ -55,36 +55,18 @@ returns-4 c =
     let checked = at-if2 .before in
     simp (← checked .before .before .first-cause .ensures, eq-eqb _ 0 (checked .before .if1 .left), ← checked .checks-of .ensures, at-if2 .if2 .left, eq-eqb _ 0 (at-if3 .if3 .left), ← at-continue .should-continue .ensures, not-true (at-continue .should-continue .result) (c .before .if4 .taken)) (c .skipped .ensures)
 
-is-crossed-requires : tie.Need-is-crossed-requires
-is-crossed-requires c κs = search needs
-
-refused-requires-3 : tie.Need-refused-requires-3
-refused-requires-3 c κs = search needs
+execute-requires : tie.Need-execute-requires
+execute-requires c κs = search needs
 
 returns-5 : tie.Need-returns-5
 unfolding outcomeOf commandCause
 returns-5 c =
-    let at-crossed = c .before .before in
-    let at-if4 = at-crossed .before .before in
+    let at-if4 = c .before in
     let at-continue = at-if4 .before in
     let at-if3 = at-continue .before .before in
     let at-if2 = at-if3 .before .before in
     let checked = at-if2 .before in
-    simp (← checked .before .before .first-cause .ensures, eq-eqb _ 0 (checked .before .if1 .left), ← checked .checks-of .ensures, at-if2 .if2 .left, eq-eqb _ 0 (at-if3 .if3 .left), ← at-continue .should-continue .ensures, not-false (at-continue .should-continue .result) (at-if4 .if4 .left), ← at-crossed .is-crossed .ensures, c .before .if5 .taken) (c .refused3 .ensures)
-
-execute-requires : tie.Need-execute-requires
-execute-requires c κs = search needs
-
-returns-6 : tie.Need-returns-6
-unfolding outcomeOf commandCause
-returns-6 c =
-    let at-crossed = c .before .before in
-    let at-if4 = at-crossed .before .before in
-    let at-continue = at-if4 .before in
-    let at-if3 = at-continue .before .before in
-    let at-if2 = at-if3 .before .before in
-    let checked = at-if2 .before in
-    simp (← checked .before .before .first-cause .ensures, eq-eqb _ 0 (checked .before .if1 .left), ← checked .checks-of .ensures, at-if2 .if2 .left, eq-eqb _ 0 (at-if3 .if3 .left), ← at-continue .should-continue .ensures, not-false (at-continue .should-continue .result) (at-if4 .if4 .left), ← at-crossed .is-crossed .ensures, c .before .if5 .left) (c .execute .ensures)
+    simp (← checked .before .before .first-cause .ensures, eq-eqb _ 0 (checked .before .if1 .left), ← checked .checks-of .ensures, at-if2 .if2 .left, eq-eqb _ 0 (at-if3 .if3 .left), ← at-continue .should-continue .ensures, not-false (at-continue .should-continue .result) (at-if4 .if4 .left)) (c .execute .ensures)
 
 pub outcome-spec : {M : Type 1} → statement M
 outcome-spec =
@@ -101,8 +83,5 @@ outcome-spec =
     should-continue-requires
     skipped-requires
     returns-4
-    is-crossed-requires
-    refused-requires-3
-    returns-5
     execute-requires
-    returns-6)
+    returns-5)

@@ -4,11 +4,8 @@ use borrow.Author.Needs.{needs, sfits-of}
 use Rattle.commands.proofs.temperatures.step_mireds.Statement.{statement}
 use Rattle.commands.proofs.temperatures.step_mireds.Tie as tie
 
-low-limit-requires : tie.Need-low-limit-requires
-low-limit-requires c κs = search needs
-
-high-limit-requires : tie.Need-high-limit-requires
-high-limit-requires c κs = search needs
+step-limits-requires : tie.Need-step-limits-requires
+step-limits-requires c κs = search needs
 
 step-delta-requires : tie.Need-step-delta-requires
 step-delta-requires c κs = search needs
@@ -18,10 +15,8 @@ between-requires c κs = search needs
 
 returns : tie.Need-returns
 returns c =
-    simp (c .between .ensures, toZ-ofZ w64 (c .before .step-delta .result) (sfits-of (c .before .step-delta .ok)), c .before .before .high-limit .ensures, c .before .before .before .low-limit .ensures)
+    simp (c .between .ensures, toZ-ofZ w64 (c .before .step-delta .result) (sfits-of (c .before .step-delta .ok)), c .before .before .step-limits .ensures)
     (simp (c .before .step-delta .ensures))
 
 pub step-mireds-spec : {M : Type 1} → statement M
-step-mireds-spec =
-    tie.close
-    (tie.spec low-limit-requires high-limit-requires step-delta-requires between-requires returns)
+step-mireds-spec = tie.close (tie.spec step-limits-requires step-delta-requires between-requires returns)
