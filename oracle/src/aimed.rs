@@ -520,7 +520,7 @@ impl Lines {
     fn order(&mut self) {
         say!(self, "new 500 153 31 0 {}", LIMIT + 1);
         say!(self, "{FRESH}");
-        // 255, rate 0 and crossed limits, each also with a clock that goes back.
+        // 255 and rate 0, also where limits cross, each also with a clock that goes back.
         let refused = [
             ("move_to_hue", "255 0 2"),
             ("move_to_saturation", "255 2"),

@@ -312,11 +312,8 @@ fn all() -> Vec<(&'static str, String)> {
         "cmd, 8 before 4",
         "cmd, 8 before 1",
         "cmd, 8 before 2",
-        "cmd, 8 before 3",
         "cmd, 4 before 1",
         "cmd, 4 before 2",
-        "cmd, 4 before 3",
-        "cmd, 2 before 3",
         "start, 8 before 4",
         "start, 8 before 6",
         "start, 4 before 6",
@@ -968,9 +965,6 @@ impl Corners {
                 if zero(command) {
                     causes.push(2);
                 }
-                if crossed(f, command) {
-                    causes.push(3);
-                }
             }
             _ => {}
         }
@@ -1073,8 +1067,7 @@ impl Corners {
                 self.met_if(given && lo == hi, CROSSED, &format!("{name}, lo = hi"));
                 let which = if by_one { "by one" } else { "further" };
                 let key = format!("{name}, lo above hi {which}");
-                self.met_if(answer.cause == 3, CROSSED, &key);
-                assert!(answer.cause != 3 || lo > hi);
+                self.met_if(given && lo > hi, CROSSED, &key);
                 let zero = size == 0 && lo > hi && answer.cause == 2;
                 self.met_if(zero, CROSSED, &format!("{name}, lo above hi, step 0"));
             }
@@ -1344,7 +1337,7 @@ fn zero(command: &Command) -> bool {
     }
 }
 
-/// Cause 3, off aside.
+/// A mired step whose limits cross.
 fn crossed(f: &Fields, command: &Command) -> bool {
     match *command {
         Command::StepColorTemperature(.., min, max) => {

@@ -1,5 +1,5 @@
 //! The causes 4 to 8, which the Rust has not: written by hand from document 01's table,
-//! and looked at before the Rust is run. (3 is the Rust's own panic; 1 and 2 are its errors.)
+//! and looked at before the Rust is run. (1 and 2 are the Rust's own errors.)
 
 use crate::data::*;
 

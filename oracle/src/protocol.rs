@@ -282,17 +282,21 @@ impl Player {
         handler.load(&lamp.fields);
         match call {
             Call::Command(on_off, command, mask, over, _) => {
-                let ran = caught(|| handler.command(on_off, &command, mask, over));
-                let (result, given) = match ran {
-                    Ok(ran) => ran,
-                    Err(panic) => {
-                        return match command {
-                            Command::StepColorTemperature(..) if of_clamp(&*panic) => {
-                                End::Refused(3)
-                            }
-                            _ => End::Broken,
-                        }
+                let mut ran = caught(|| handler.command(on_off, &command, mask, over));
+                // Document 02, A.12: where the Rust's `clamp` panics at crossed limits, the step is
+                // given to it again with limits 0 and 0.
+                if let (Err(panic), Command::StepColorTemperature(mode, size, time, ..)) =
+                    (&ran, command)
+                {
+                    if of_clamp(&**panic) {
+                        recorder::begin(clock);
+                        handler.load(&lamp.fields);
+                        let again = Command::StepColorTemperature(mode, size, time, 0, 0);
+                        ran = caught(|| handler.command(on_off, &again, mask, over));
                     }
+                }
+                let Ok((result, given)) = ran else {
+                    return End::Broken;
                 };
                 let mut after = lamp.fields;
                 handler.store(&mut after);

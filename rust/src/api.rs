@@ -57,7 +57,6 @@ numbered! {
     Refusal of matter {
         ConstraintError = CONSTRAINT_ERROR: "hue or saturation above 254, or mireds 0",
         InvalidCommand = INVALID_COMMAND: "a rate or a step of 0",
-        CrossedLimits = CROSSED_LIMITS: "a step of mireds whose lower limit is above its upper one",
         Clock = CLOCK_REFUSED: "a clock earlier than the lamp's, or above the limit",
         CrossedBounds = CROSSED_BOUNDS: "a physical minimum above the maximum",
         InvalidTask = INVALID_TASK: "an invalid task",

@@ -12,7 +12,6 @@ mod saturations;
 mod temperatures;
 
 use checks::checks_of;
-use checks::is_crossed;
 pub use hues::cmd_enhanced_move_hue;
 pub use hues::cmd_enhanced_move_to_hue;
 pub use hues::cmd_enhanced_step_hue;
@@ -32,7 +31,6 @@ use crate::lamp::Lamp;
 pub use loops::cmd_color_loop_set;
 use loops::set_loop;
 use crate::matter::ACCEPTED;
-use crate::matter::CROSSED_LIMITS;
 use crate::matter::Command;
 use crate::matter::CommandOptions;
 use crate::matter::OnOff;
@@ -121,7 +119,7 @@ fn execute(lamp: Lamp, command: Command, clock: u64) -> Outcome {
     }
 }
 
-/// A command's checks in their order: 8 and 4, Stop mode, its own numbers, off, crossed limits.
+/// A command's checks in their order: 8 and 4, Stop mode, its own numbers, off.
 fn outcome(lamp: Lamp, request: Request, on_off: OnOff, clock: u64) -> Outcome {
     let cause = lamp.first_cause(clock);
     if cause != ACCEPTED {
@@ -138,10 +136,6 @@ fn outcome(lamp: Lamp, request: Request, on_off: OnOff, clock: u64) -> Outcome {
     let options = request.options;
     if !should_continue(on_off, lamp.options, options.mask, options.overrides) {
         return skipped(lamp);
-    }
-    let bounds = lamp.bounds;
-    if is_crossed(bounds, command) {
-        return refused(lamp, CROSSED_LIMITS);
     }
     execute(lamp, command, clock)
 }

@@ -11,7 +11,6 @@ pub use causes::ACCEPTED;
 pub use causes::CLOCK_REFUSED;
 pub use causes::CONSTRAINT_ERROR;
 pub use causes::CROSSED_BOUNDS;
-pub use causes::CROSSED_LIMITS;
 pub use causes::INVALID_COMMAND;
 pub use causes::INVALID_LAMP;
 pub use causes::INVALID_TASK;

@@ -16,7 +16,8 @@ const NEW: NewLamp = NewLamp {
 #[test]
 fn numbers_and_names_agree() {
     let refusals = Refusal::ALL.iter().map(|r| (r.number(), *r));
-    assert!(refusals.clone().map(|(n, _)| n).eq(1..=8));
+    // 3 is free.
+    assert!(refusals.clone().map(|(n, _)| n).eq([1, 2, 4, 5, 6, 7, 8]));
     assert!(
         refusals
             .into_iter()
@@ -54,8 +55,12 @@ fn refusals_have_their_causes() {
         send(Command::move_saturation(matter::MoveModeEnum::Up, 0)),
         Err(Refusal::InvalidCommand)
     );
-    let crossed = Command::step_color_temperature(matter::StepModeEnum::Up, 1, 0, 400, 300);
-    assert_eq!(send(crossed), Err(Refusal::CrossedLimits));
+    let step = |size, min, max| {
+        Command::step_color_temperature(matter::StepModeEnum::Up, size, 0, min, max)
+    };
+    assert_eq!(send(step(0, 400, 300)), Err(Refusal::InvalidCommand));
+    let given = |command| lamp.command(command, OnOff::On, 5000).unwrap().given_task();
+    assert_eq!(given(step(1, 400, 300)), given(step(1, 0, 0)));
     assert_eq!(lamp.step(5000).result(), Err(Refusal::StepWhileIdle));
     assert_eq!(lamp.halt(4999).result(), Err(Refusal::Clock));
     let stop = lamp

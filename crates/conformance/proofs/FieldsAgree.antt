@@ -14,7 +14,7 @@ use Rattle.matter.specs.declared.enums.MoveModeEnum.{MoveModeEnum}
 use Rattle.matter.specs.declared.enums.StepModeEnum.{StepModeEnum}
 use Rattle.matter.specs.declared.enums.OnOff.{OnOff}
 use Rattle.lamp.specs.declared.Lamp.{Lamp}
-use Rattle.commands.specs.Commands.{isStop, checks, crossed}
+use Rattle.commands.specs.Commands.{isStop, checks}
 use Rattle.commands.specs.Answers.{allowed, afterClock}
 use Rattle.conformance.specs.Fields.{fieldsGood, invalidMove, invalid}
 
@@ -118,13 +118,6 @@ step-time-differs = (refl, refl)
 
 -- ---- INVALID_COMMAND
 
--- the port's cause past validity and clock is 2 where that of its numbers is: crossed limits are 3, which is not 2
-limits-by : (n : ℕ) (t a b : Bool) → eqb n 0 ≡ t → eqb (cond t (cond (a && b) 3 0) n) 2 ≡ eqb n 2
-limits-by n true true true e = ap (λ (m : ℕ). eqb m 2) (sym (eqb-true n 0 e))
-limits-by n true true false e = ap (λ (m : ℕ). eqb m 2) (sym (eqb-true n 0 e))
-limits-by n true false b e = ap (λ (m : ℕ). eqb m 2) (sym (eqb-true n 0 e))
-limits-by n false a b e = refl
-
 zero-by : (b : Bool) → eqb (cond b 2 0) 2 ≡ b
 zero-by true = refl
 zero-by false = refl
@@ -133,40 +126,36 @@ one-by : (b : Bool) → eqb (cond b 1 0) 2 ≡ false
 one-by true = refl
 one-by false = refl
 
-module _ (l : Lamp) (onOff : OnOff) where
-  looked : (r : Request) → eqb (afterClock r) 2 ≡ cond (checks (r .command) .stop) false (eqb (checks (r .command) .cause) 2)
-  looked r = by (checks (r .command) .stop)
-    where
-      by : (s : Bool) → eqb (cond s 0 (cond (eqb (checks (r .command) .cause) 0) (cond (allowed l r onOff && crossed (l .bounds) (r .command)) 3 0) (checks (r .command) .cause))) 2 ≡ cond s false (eqb (checks (r .command) .cause) 2)
-      by true = refl
-      by false = limits-by (checks (r .command) .cause) (eqb (checks (r .command) .cause) 0) (allowed l r onOff) (crossed (l .bounds) (r .command)) refl
+stop-by : (s : Bool) (n : ℕ) → eqb (cond s 0 n) 2 ≡ cond s false (eqb n 2)
+stop-by true n = refl
+stop-by false n = refl
 
-  move-by : (mode : MoveModeEnum) (rate : ℕ) → cond (isStop mode) false (eqb (cond (eqb rate 0) 2 0) 2) ≡ invalidMove mode rate
-  move-by MoveModeEnum.Stop rate = refl
-  move-by MoveModeEnum.Up rate = zero-by (eqb rate 0)
-  move-by MoveModeEnum.Down rate = zero-by (eqb rate 0)
+move-by : (mode : MoveModeEnum) (rate : ℕ) → cond (isStop mode) false (eqb (cond (eqb rate 0) 2 0) 2) ≡ invalidMove mode rate
+move-by MoveModeEnum.Stop rate = refl
+move-by MoveModeEnum.Up rate = zero-by (eqb rate 0)
+move-by MoveModeEnum.Down rate = zero-by (eqb rate 0)
 
-  -- Stop mode and the numbers
-  own-agree : (c : Command) → cond (checks c .stop) false (eqb (checks c .cause) 2) ≡ invalid c
-  unfolding invalid
-  own-agree (Command.MoveToHue hue direction time) = one-by (ltb 254 hue)
-  own-agree (Command.MoveHue mode rate enhanced) = move-by mode rate
-  own-agree (Command.StepHue mode size time) = zero-by (eqb size 0)
-  own-agree (Command.MoveToSaturation saturation time) = one-by (ltb 254 saturation)
-  own-agree (Command.MoveSaturation mode rate) = move-by mode rate
-  own-agree (Command.StepSaturation mode size time) = zero-by (eqb size 0)
-  own-agree (Command.MoveToHueAndSaturation hue saturation time enhanced enhancedHue) =
-      one-by ((not enhanced && ltb 254 hue) || ltb 254 saturation)
-  own-agree (Command.EnhancedMoveToHue hue direction time) = refl
-  own-agree (Command.EnhancedMoveHue mode rate) = move-by mode rate
-  own-agree (Command.EnhancedStepHue mode size time) = zero-by (eqb size 0)
-  own-agree (Command.MoveToColorTemperature mireds time) = one-by (eqb mireds 0)
-  own-agree (Command.MoveColorTemperature mode rate min max) = move-by mode rate
-  own-agree (Command.StepColorTemperature mode size time min max) =
-      zero-by (eqb size 0)
-  own-agree (Command.ColorLoopSet flags action direction time startHue) = refl
-  own-agree Command.StopMoveStep = refl
+-- Stop mode and the numbers
+own-agree : (c : Command) → cond (checks c .stop) false (eqb (checks c .cause) 2) ≡ invalid c
+unfolding invalid
+own-agree (Command.MoveToHue hue direction time) = one-by (ltb 254 hue)
+own-agree (Command.MoveHue mode rate enhanced) = move-by mode rate
+own-agree (Command.StepHue mode size time) = zero-by (eqb size 0)
+own-agree (Command.MoveToSaturation saturation time) = one-by (ltb 254 saturation)
+own-agree (Command.MoveSaturation mode rate) = move-by mode rate
+own-agree (Command.StepSaturation mode size time) = zero-by (eqb size 0)
+own-agree (Command.MoveToHueAndSaturation hue saturation time enhanced enhancedHue) =
+    one-by ((not enhanced && ltb 254 hue) || ltb 254 saturation)
+own-agree (Command.EnhancedMoveToHue hue direction time) = refl
+own-agree (Command.EnhancedMoveHue mode rate) = move-by mode rate
+own-agree (Command.EnhancedStepHue mode size time) = zero-by (eqb size 0)
+own-agree (Command.MoveToColorTemperature mireds time) = one-by (eqb mireds 0)
+own-agree (Command.MoveColorTemperature mode rate min max) = move-by mode rate
+own-agree (Command.StepColorTemperature mode size time min max) =
+    zero-by (eqb size 0)
+own-agree (Command.ColorLoopSet flags action direction time startHue) = refl
+own-agree Command.StopMoveStep = refl
 
-  -- past validity and clock, InvalidCommand is the port's answer exactly where the text's is
-  pub invalid-agree : (r : Request) → eqb (afterClock r) 2 ≡ invalid (r .command)
-  invalid-agree r = looked r ∙ own-agree (r .command)
+-- past validity and clock, InvalidCommand is the port's answer exactly where the text's is
+pub invalid-agree : (r : Request) → eqb (afterClock r) 2 ≡ invalid (r .command)
+invalid-agree r = stop-by (checks (r .command) .stop) (checks (r .command) .cause) ∙ own-agree (r .command)

@@ -32,7 +32,7 @@ use Rattle.matter.specs.Rules.{signed}
 use Rattle.lamp.specs.Passes.{idled, temperaturePass}
 use Rattle.lamp.specs.declared.Call.{Call}
 use Rattle.commands.specs.Answers.{cause, answer, allowed, commandDone}
-use Rattle.commands.specs.Commands.{CommandEffect, asked, lo, hi, checks, crossed, commandEffect}
+use Rattle.commands.specs.Commands.{CommandEffect, asked, lo, hi, checks, commandEffect}
 use Rattle.commands.proofs.Kept.{answer-both}
 use Rattle.conformance.specs.Limits.{Allowed, Closest}
 use Rattle.conformance.proofs.Ran.{granted-is}
@@ -67,18 +67,11 @@ module _ (bounds : Bounds) where
       }
 
   -- the limits of a step cross exactly where no mired is allowed
-  module _ (mode : StepModeEnum) (size time minimum maximum : ℕ) where
-    abbrev theStep : Command
-    theStep = Command.StepColorTemperature mode size time minimum maximum
+  pub crossed-none : (minimum maximum n : ℕ) → hi bounds maximum < lo bounds minimum → Allowed bounds minimum maximum n → ⊥
+  crossed-none minimum maximum n h a = omega (arith, h, allowed-within minimum maximum n a)
 
-    pub crossed-none : (n : ℕ) → crossed bounds theStep ≡ true → Allowed bounds minimum maximum n → ⊥
-    crossed-none n e a =
-        omega (arith, ltb-true (hi bounds maximum) (lo bounds minimum) e, allowed-within minimum maximum n a)
-
-    pub uncrossed-some : crossed bounds theStep ≡ false → Allowed bounds minimum maximum (lo bounds minimum)
-    uncrossed-some e =
-        within-allowed minimum maximum (lo bounds minimum) (omega arith)
-        (ltb-false (hi bounds maximum) (lo bounds minimum) e)
+  pub uncrossed-some : (minimum maximum : ℕ) → lo bounds minimum ≤ hi bounds maximum → Allowed bounds minimum maximum (lo bounds minimum)
+  uncrossed-some minimum maximum h = within-allowed minimum maximum (lo bounds minimum) (omega arith) h
 
 -- ---- MoveColorTemperature: the task that it is answered with, started on a lamp with the same bounds
 

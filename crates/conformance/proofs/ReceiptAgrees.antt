@@ -36,6 +36,7 @@ use Rattle.lamp.specs.declared.Call.{Call}
 use Rattle.commands.specs.Answers.{allowed, commandCause, afterClock, cause, answer}
 use Rattle.commands.specs.Commands.{causeIf, checks, asked, lo, hi, stored, temperatureTask, stepDelta, commandEffect}
 use Rattle.commands.proofs.Kept.{answer-both, granted-ready}
+use Rattle.commands.proofs.StepLimits.{step-within}
 use Rattle.commands.proofs.TaskValid.{given-valid}
 use Rattle.conformance.proofs.ArrivalsAgree.{move-to-follows, mireds-to-follow}
 use Rattle.conformance.proofs.DirectionsAgree.{directions-agree}
@@ -302,7 +303,8 @@ module _ (l : Lamp) (validity : lampValid l ≡ true) (hued : l .color .hue < 65
         let w : (lo (l .bounds) min ≤ target) × (target ≤ hi (l .bounds) max) =
         clamp-within (lo (l .bounds) min) (hi (l .bounds) max) (pos from +ℤ stepDelta mode size) (omega arith)
         in
-        with-mireds (to-mireds target time m n begun b (omega (arith, w), omega (arith, w)) r clock lasts)
+        let run = subst (λ (to : ℕ). Ran m (temperatureTask to time) begun n) (step-within l mode size min max (omega (arith, i))) r in
+        with-mireds (to-mireds target time m n begun b (omega (arith, w), omega (arith, w)) run clock lasts)
         (subst (λ (to : ℕ). Reaches (m .color .mireds) to (milliseconds time) (clock - begun) (n .color .mireds))
         (mireds-step-agrees (lo (l .bounds) min) (hi (l .bounds) max) from size (i .0) (i .1) mode
         ∙ ap (λ (q : ℕ). stepTo mode q (hi (l .bounds) max) size from)
@@ -335,7 +337,7 @@ command-fields : (l : Lamp) (q : Request) (onOff : OnOff) (clock : ℕ) → caus
     checks (q .command) .stop ≡ false → checks (q .command) .cause ≡ 0
 unfolding cause commandCause
 command-fields l q onOff clock z s =
-    no-cause (checks (q .command) .cause) _ (rw s at (no-cause (firstCause l clock) (afterClock q) z .1)) .0
+    rw s at (no-cause (firstCause l clock) (afterClock q) z .1)
 
 -- an accepted command that may execute, in no Stop mode, does what the text asks
 pub receipt-agrees : (l : Lamp) (q : Request) (onOff : OnOff) (clock : ℕ) → l .color .hue < 65536 → InRangeRequest q →

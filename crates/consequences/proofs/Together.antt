@@ -45,11 +45,11 @@ module _ (f : Fed) (s : Shown) (c : ℕ) (m : At f c s) where
   stepped true clock = record { hue = refl; remaining = refl; done = refl }
   stepped false clock = m
 
-  one : (l : Lamp) (x : Call) → accepts l x ≡ takes f s x → At f (cond (acceptedStep l x) (clockOf x) c) (followed f s x)
-  one l (Call.Command k onOff clock) e = other (takes f s (Call.Command k onOff clock)) clock
-  one l (Call.Start task clock) e = other (takes f s (Call.Start task clock)) clock
-  one l (Call.Step clock) e = rw e (stepped (takes f s (Call.Step clock)) clock)
-  one l (Call.Halt clock) e = other (takes f s (Call.Halt clock)) clock
+  one : (l : Lamp) (x : Call) → accepts l x ≡ takes s x → At f (cond (acceptedStep l x) (clockOf x) c) (followed f s x)
+  one l (Call.Command k onOff clock) e = other (takes s (Call.Command k onOff clock)) clock
+  one l (Call.Start task clock) e = other (takes s (Call.Start task clock)) clock
+  one l (Call.Step clock) e = rw e (stepped (takes s (Call.Step clock)) clock)
+  one l (Call.Halt clock) e = other (takes s (Call.Halt clock)) clock
 
 -- all along the calls that follow the start: `ys` are behind, and left the lamp `l` and the schedule `s`
 module _ (a : Answer) (f : Fed) (calls : List Call) (k : KeptFade a f calls) where
@@ -57,7 +57,7 @@ module _ (a : Answer) (f : Fed) (calls : List Call) (k : KeptFade a f calls) whe
   unfolding scheduledFrom stepClocks
   along [] ys zs split l s el es c m = m
   along (x ∷ xs) ys zs split l s el es c m =
-      let e : accepts l x ≡ takes f s x = rw (el, es) (k .everyCall ys x (xs ++ zs) split .accepted) in
+      let e : accepts l x ≡ takes s x = rw (el, es) (k .everyCall ys x (xs ++ zs) split .accepted) in
       rw (← last-cond (acceptedStep l x) c (clockOf x) (stepClocks (next l x) xs))
       (along xs (ys ++ (x ∷ [])) zs (split ∙ sym (append-assoc ys (x ∷ []) (xs ++ zs))) (next l x) (followed f s x) (ap (λ (n : Lamp). next n x) el ∙ sym (after-one (a .lamp) ys x)) (ap (λ (t : Shown). followed f t x) es ∙ sym (scheduled-one f (shownAt f (f .start)) ys x)) (cond (acceptedStep l x) (clockOf x) c) (one f s c m l x e))
 

@@ -1,4 +1,5 @@
--- Why a call is refused: the numbers of document 01's table. 0 is an accepted call's.
+-- Why a call is refused: the numbers of document 01's table. 0 is an accepted call's. 3, which was a mired step's with lo
+-- above hi, no longer occurs (document 02, A.12) and stays free.
 use Prim.Native.Nat.{ℕ}
 
 abbrev pub accepted : ℕ
@@ -11,10 +12,6 @@ constraintError = 1
 -- rate or step 0 (InvalidCommand)
 abbrev pub invalidCommand : ℕ
 invalidCommand = 2
-
--- step of mireds with lo above hi: "crossed bounds" in document 01's order of checks
-abbrev pub crossedLimits : ℕ
-crossedLimits = 3
 
 -- clock earlier than the lamp's, or above the limit
 abbrev pub clockRefused : ℕ

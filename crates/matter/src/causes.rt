@@ -1,4 +1,4 @@
-// Why a call is refused: the numbers of document 01's table.
+// Why a call is refused: the numbers of document 01's table. 3, which was crossed limits of a mired step, is free.
 pub const ACCEPTED: u8 = 0;
 
 // Hue or saturation above 254, mireds 0.
@@ -6,9 +6,6 @@ pub const CONSTRAINT_ERROR: u8 = 1;
 
 // Rate or step 0.
 pub const INVALID_COMMAND: u8 = 2;
-
-// A step of mireds whose limits cross.
-pub const CROSSED_LIMITS: u8 = 3;
 
 // A clock earlier than the lamp's, or above the limit.
 pub const CLOCK_REFUSED: u8 = 4;

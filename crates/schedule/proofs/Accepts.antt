@@ -1,7 +1,6 @@
 -- Which calls a valid lamp accepts, that a refused one leaves it as it was, and what an accepted one gives.
 use Prim.Native.Nat.{ℕ}
 use mathlib.Core.Bool.{Bool, true, false, not, cond, _&&_, _||_}
-use mathlib.Core.Logic.{inl, inr}
 use mathlib.Core.Path.{_≡_, refl, sym, _∙_, ap}
 use lib.Dec.{leb, eqb}
 use borrow.Author.Tests.{eqb-true, eqb-false}
@@ -13,11 +12,11 @@ use Rattle.lamp.specs.declared.Answer.{Answer}
 use Rattle.lamp.specs.Answers.{badClock, firstCause}
 use Rattle.lamp.specs.Valid.{lampValid}
 use Rattle.lamp.specs.declared.Call.{Call}
-use Rattle.commands.specs.Commands.{checks, crossed}
-use Rattle.commands.specs.Answers.{allowed, commandCause, cause, answer, granted, clockOf}
+use Rattle.commands.specs.Commands.{checks}
+use Rattle.commands.specs.Answers.{commandCause, cause, answer, granted, clockOf}
 use Rattle.commands.proofs.Kept.{answer-both, number-is-cause, refused-same}
 use Rattle.schedule.specs.Calls.{next, accepts}
-use Rattle.schedule.proofs.Tests.{either, below-is}
+use Rattle.schedule.proofs.Tests.{below-is}
 
 -- a clock that a lamp takes
 abbrev pub timely : ℕ → ℕ → Bool
@@ -25,7 +24,7 @@ timely now clock = leb now clock && leb clock clockLimit
 
 -- a call that nothing but validity and clock can turn away
 abbrev pub grounds : Lamp → Call → Bool
-grounds l (Call.Command r onOff clock) = checks (r .command) .stop || (eqb (checks (r .command) .cause) 0 && not (allowed l r onOff && crossed (l .bounds) (r .command)))
+grounds l (Call.Command r onOff clock) = checks (r .command) .stop || eqb (checks (r .command) .cause) 0
 grounds l (Call.Start task clock) = taskValid task
 grounds l (Call.Step clock) = runs (l .running)
 grounds l (Call.Halt clock) = true
@@ -38,14 +37,10 @@ bad-is l clock = rw (below-is clock (l .clock), below-is clockLimit clock) (go (
     go false b = refl
 
 -- the causes of each kind of call in their order, by a clock that is taken or not, as one test
-command-table : (t stop : Bool) (n : ℕ) (b : Bool) → eqb (cond (eqb (cond (not t) 4 0) 0) (cond stop 0 (cond (eqb n 0) (cond b 3 0) n)) (cond (not t) 4 0)) 0 ≡ (t && (stop || (eqb n 0 && not b)))
-command-table false stop n b = refl
-command-table true true n b = refl
-command-table true false n b = elim (either (eqb n 0)) [ inl e ↦ rw e (go b) | inr e ↦ rw e e ]
-  where
-    go : (c : Bool) → eqb (cond c 3 0) 0 ≡ not c
-    go true = refl
-    go false = refl
+command-table : (t stop : Bool) (n : ℕ) → eqb (cond (eqb (cond (not t) 4 0) 0) (cond stop 0 n) (cond (not t) 4 0)) 0 ≡ (t && (stop || eqb n 0))
+command-table false stop n = refl
+command-table true true n = refl
+command-table true false n = refl
 
 start-table : (t valid : Bool) → eqb (cond (eqb (cond (not t) 4 0) 0) (cond valid 0 6) (cond (not t) 4 0)) 0 ≡ (t && valid)
 start-table false valid = refl
@@ -64,7 +59,7 @@ halt-table false = refl
 
 table : (l : Lamp) (x : Call) → lampValid l ≡ true → eqb (cause l x) 0 ≡ (timely (l .clock) (clockOf x) && grounds l x)
 unfolding cause commandCause firstCause
-table l (Call.Command r onOff clock) f = rw (f, bad-is l clock) (command-table (timely (l .clock) clock) (checks (r .command) .stop) (checks (r .command) .cause) (allowed l r onOff && crossed (l .bounds) (r .command)))
+table l (Call.Command r onOff clock) f = rw (f, bad-is l clock) (command-table (timely (l .clock) clock) (checks (r .command) .stop) (checks (r .command) .cause))
 table l (Call.Start task clock) f = rw (f, bad-is l clock) (start-table (timely (l .clock) clock) (taskValid task))
 table l (Call.Step clock) f = rw (f, bad-is l clock) (step-table (timely (l .clock) clock) (runs (l .running)))
 table l (Call.Halt clock) f = rw (f, bad-is l clock) (halt-table (timely (l .clock) clock))

@@ -116,27 +116,27 @@ module _ (f : Fed) (n : Sane f) where
 -- ---- a call that the schedule takes, or not
 
 -- a step that is taken
-abbrev pub stepTaken : Fed → Shown → Call → Bool
-stepTaken f s x = isStep x && takes f s x
+abbrev pub stepTaken : Shown → Call → Bool
+stepTaken s x = isStep x && takes s x
 
-pub takes-late : (f : Fed) (s : Shown) (x : Call) → takes f s x ≡ true → s .clock ≤ clockOf x
-takes-late f s x e = leb-true (s .clock) (clockOf x) (and-left (leb (s .clock) (clockOf x)) _ (and-left (leb (s .clock) (clockOf x) && leb (clockOf x) clockLimit) _ e))
+pub takes-late : (s : Shown) (x : Call) → takes s x ≡ true → s .clock ≤ clockOf x
+takes-late s x e = leb-true (s .clock) (clockOf x) (and-left (leb (s .clock) (clockOf x)) _ (and-left (leb (s .clock) (clockOf x) && leb (clockOf x) clockLimit) _ e))
 
-pub taken : (f : Fed) (s : Shown) (x : Call) → takes f s x ≡ true → followed f s x ≡ whenTaken f s x
+pub taken : (f : Fed) (s : Shown) (x : Call) → takes s x ≡ true → followed f s x ≡ whenTaken f s x
 taken f s x e = rw e
 
-pub refused : (f : Fed) (s : Shown) (x : Call) → takes f s x ≡ false → followed f s x ≡ s
+pub refused : (f : Fed) (s : Shown) (x : Call) → takes s x ≡ false → followed f s x ≡ s
 refused f s x e = rw e
 
 -- a step is taken only before the end
-pub step-open : (f : Fed) (s : Shown) (x : Call) → stepTaken f s x ≡ true → (s .done ≡ false) × (s .clock ≤ clockOf x)
-step-open f s (Call.Command asked onOff clock) e = never refl (sym e)
-step-open f s (Call.Start task clock) e = never refl (sym e)
-step-open f s (Call.Step clock) e = (not-true (s .done) (and-right (leb (s .clock) clock && leb clock clockLimit) _ e), takes-late f s (Call.Step clock) e)
-step-open f s (Call.Halt clock) e = never refl (sym e)
+pub step-open : (s : Shown) (x : Call) → stepTaken s x ≡ true → (s .done ≡ false) × (s .clock ≤ clockOf x)
+step-open s (Call.Command asked onOff clock) e = never refl (sym e)
+step-open s (Call.Start task clock) e = never refl (sym e)
+step-open s (Call.Step clock) e = (not-true (s .done) (and-right (leb (s .clock) clock && leb clock clockLimit) _ e), takes-late s (Call.Step clock) e)
+step-open s (Call.Halt clock) e = never refl (sym e)
 
 -- and leads to the place of its clock
-pub step-is : (f : Fed) (s : Shown) (x : Call) → stepTaken f s x ≡ true → followed f s x ≡ shownAt f (clockOf x)
+pub step-is : (f : Fed) (s : Shown) (x : Call) → stepTaken s x ≡ true → followed f s x ≡ shownAt f (clockOf x)
 step-is f s (Call.Command asked onOff clock) e = never refl (sym e)
 step-is f s (Call.Start task clock) e = never refl (sym e)
 step-is f s (Call.Step clock) e = taken f s (Call.Step clock) e
@@ -147,31 +147,31 @@ same-done : (s t : Shown) (b : Bool) → t .done ≡ s .done → cond b t s .don
 same-done s t true e = e
 same-done s t false e = refl
 
-pub other-is : (f : Fed) (s : Shown) (x : Call) → stepTaken f s x ≡ false → followed f s x .done ≡ s .done
-other-is f s (Call.Command asked onOff clock) e = same-done s (whenTaken f s (Call.Command asked onOff clock)) (takes f s (Call.Command asked onOff clock)) refl
-other-is f s (Call.Start task clock) e = same-done s (whenTaken f s (Call.Start task clock)) (takes f s (Call.Start task clock)) refl
+pub other-is : (f : Fed) (s : Shown) (x : Call) → stepTaken s x ≡ false → followed f s x .done ≡ s .done
+other-is f s (Call.Command asked onOff clock) e = same-done s (whenTaken f s (Call.Command asked onOff clock)) (takes s (Call.Command asked onOff clock)) refl
+other-is f s (Call.Start task clock) e = same-done s (whenTaken f s (Call.Start task clock)) (takes s (Call.Start task clock)) refl
 other-is f s (Call.Step clock) e = ap (λ (t : Shown). t .done) (refused f s (Call.Step clock) e)
-other-is f s (Call.Halt clock) e = same-done s (whenTaken f s (Call.Halt clock)) (takes f s (Call.Halt clock)) refl
+other-is f s (Call.Halt clock) e = same-done s (whenTaken f s (Call.Halt clock)) (takes s (Call.Halt clock)) refl
 
 module _ (f : Fed) (n : Sane f) (s : Shown) (r : Right f s) where
-  taken-right : (x : Call) → takes f s x ≡ true → Right f (whenTaken f s x)
-  taken-right (Call.Command asked onOff clock) e = later-right f s clock r (takes-late f s (Call.Command asked onOff clock) e)
-  taken-right (Call.Start task clock) e = later-right f s clock r (takes-late f s (Call.Start task clock) e)
-  taken-right (Call.Step clock) e = at-right f n clock (le-trans (r .since) (takes-late f s (Call.Step clock) e))
-  taken-right (Call.Halt clock) e = later-right f s clock r (takes-late f s (Call.Halt clock) e)
+  taken-right : (x : Call) → takes s x ≡ true → Right f (whenTaken f s x)
+  taken-right (Call.Command asked onOff clock) e = later-right f s clock r (takes-late s (Call.Command asked onOff clock) e)
+  taken-right (Call.Start task clock) e = later-right f s clock r (takes-late s (Call.Start task clock) e)
+  taken-right (Call.Step clock) e = at-right f n clock (le-trans (r .since) (takes-late s (Call.Step clock) e))
+  taken-right (Call.Halt clock) e = later-right f s clock r (takes-late s (Call.Halt clock) e)
 
   pub followed-right : (x : Call) → Right f (followed f s x)
-  followed-right x = elim (either (takes f s x)) [ inl e ↦ rw e (taken-right x e) | inr e ↦ rw e r ]
+  followed-right x = elim (either (takes s x)) [ inl e ↦ rw e (taken-right x e) | inr e ↦ rw e r ]
 
-  taken-on : (x : Call) → takes f s x ≡ true → goneOf f (s .hue) ≤ goneOf f (whenTaken f s x .hue)
+  taken-on : (x : Call) → takes s x ≡ true → goneOf f (s .hue) ≤ goneOf f (whenTaken f s x .hue)
   taken-on (Call.Command asked onOff clock) e = le-refl (goneOf f (s .hue))
   taken-on (Call.Start task clock) e = le-refl (goneOf f (s .hue))
-  taken-on (Call.Step clock) e = let o = step-open f s (Call.Step clock) e in at-on f n s clock r (o .0) (o .1)
+  taken-on (Call.Step clock) e = let o = step-open s (Call.Step clock) e in at-on f n s clock r (o .0) (o .1)
   taken-on (Call.Halt clock) e = le-refl (goneOf f (s .hue))
 
   -- over a call the way travelled never shrinks
   pub followed-on : (x : Call) → goneOf f (s .hue) ≤ goneOf f (followed f s x .hue)
-  followed-on x = elim (either (takes f s x)) [ inl e ↦ rw e (taken-on x e) | inr e ↦ rw e (le-refl (goneOf f (s .hue))) ]
+  followed-on x = elim (either (takes s x)) [ inl e ↦ rw e (taken-on x e) | inr e ↦ rw e (le-refl (goneOf f (s .hue))) ]
 
   at-done : (clock : ℕ) → f .start ≤ clock → 0 < wholeOf f → shownAt f clock .done ≡ leb (f .start + time (f .fade)) clock
   at-done clock h k =
@@ -180,11 +180,11 @@ module _ (f : Fed) (n : Sane f) (s : Shown) (r : Right f s) where
       (leb-same (time (f .fade)) (clock - f .start) (f .start + time (f .fade)) clock (λ z. omega arith) (λ z. omega arith))
 
   -- done exactly from a taken step at or after the time on
-  pub followed-done : (x : Call) → followed f s x .done ≡ (s .done || (stepTaken f s x && leb (f .start + time (f .fade)) (clockOf x)))
+  pub followed-done : (x : Call) → followed f s x .done ≡ (s .done || (stepTaken s x && leb (f .start + time (f .fade)) (clockOf x)))
   followed-done x =
-      elim (either (stepTaken f s x)) [
+      elim (either (stepTaken s x)) [
         | inl e ↦
-            let o = step-open f s x e in
+            let o = step-open s x e in
             ap (λ (t : Shown). t .done) (step-is f s x e)
             ∙ at-done (clockOf x) (le-trans (r .since) (o .1)) (r .live (o .0) .1)
             ∙ rw (e, o .0)

@@ -7,9 +7,6 @@ use native.Mathlib.Nat.{sub-self, zero-div, le-refl}
 use native.Mathlib.Omega.{arith}
 use lib.Dec.{leb, eqb}
 use borrow.Author.Tests.{leb-true, ne-eqb, not-true}
-use Rattle.matter.specs.declared.enums.OnOff.{OnOff}
-use Rattle.matter.specs.Flags.{hasFlag, executeIfOff}
-use Rattle.matter.specs.Rules.{mayExecute}
 use Rattle.progress.specs.Progress.{permilleOf}
 use Rattle.progress.proofs.Laws.{permille-full, permille-is}
 use Rattle.tasks.specs.declared.HueDelta.{HueDelta}
@@ -24,7 +21,7 @@ use Rattle.lamp.specs.Passes.{hueSaturationPass}
 use Rattle.lamp.proofs.Passed.{withFullTime}
 use Rattle.lamp.specs.declared.Call.{Call}
 use Rattle.commands.specs.Answers.{answer, isLoopSet}
-use Rattle.commands.proofs.Kept.{valid-kept, bounds-kept, options-kept, quiet-command}
+use Rattle.commands.proofs.Kept.{valid-kept, quiet-command}
 use Rattle.schedule.specs.Calls.{next, accepts, idle, acceptedStep, interrupts}
 use Rattle.schedule.specs.Schedule.{taskOf, time, deltaFrom, Fed, Shown, over, shownAt, own, takes, whenTaken, followed}
 use Rattle.matter.proofs.Laws.{or-left}
@@ -35,23 +32,11 @@ use Rattle.schedule.proofs.Accepts.{grounds, accepts-is, no-cause, refu
 
 pub record Fading (f : Fed) (l : Lamp) (s : Shown) : Type 0 where
   pub valid : lampValid l ≡ true
-  pub bounds : l .bounds ≡ f .bounds
-  pub options : hasFlag (l .options) executeIfOff ≡ f .executeIfOff
   pub saturation : ℕ
   pub shows : Shows f saturation l s
   pub right : Right f s
 
 -- ---- the lamp accepts what the schedule takes
-
-bit-is : (b : Bool) → hasFlag (cond b 1 0) executeIfOff ≡ b
-unfolding hasFlag
-bit-is true = refl
-bit-is false = refl
-
-leave-same : (onOff : OnOff) (options mask over : ℕ) (b : Bool) → hasFlag options executeIfOff ≡ b → mayExecute onOff options mask over ≡ mayExecute onOff (cond b 1 0) mask over
-leave-same OnOff.NoHandler options mask over b e = refl
-leave-same OnOff.On options mask over b e = refl
-leave-same OnOff.Off options mask over b e = rw (e, bit-is b)
 
 runs-is : (f : Fed) (saturation : ℕ) (b : Bool) → runs (runningOf f saturation b) ≡ not b
 runs-is f saturation true = refl
@@ -65,13 +50,13 @@ module _ {f : Fed} {l : Lamp} {s : Shown} (k : Fading f l s) where
   pub idle-is : idle l ≡ s .done
   idle-is = rw (k .shows .running) (not-runs-is f (k .saturation) (s .done))
 
-  grounds-are : (x : Call) → grounds l x ≡ own f x (s .done)
-  grounds-are (Call.Command r onOff clock) = rw (k .bounds, leave-same onOff (l .options) _ _ (f .executeIfOff) (k .options))
+  grounds-are : (x : Call) → grounds l x ≡ own x (s .done)
+  grounds-are (Call.Command r onOff clock) = refl
   grounds-are (Call.Start task clock) = refl
   grounds-are (Call.Step clock) = rw (k .shows .running) (runs-is f (k .saturation) (s .done))
   grounds-are (Call.Halt clock) = refl
 
-  pub accepts-takes : (x : Call) → accepts l x ≡ takes f s x
+  pub accepts-takes : (x : Call) → accepts l x ≡ takes s x
   accepts-takes x = accepts-is l x (k .valid) ∙ rw (grounds-are x, k .shows .clock)
 
 -- ---- one call
@@ -100,7 +85,7 @@ module _ {f : Fed} {l : Lamp} {s : Shown} (k : Fading f l s) (n : Sane f) where
       (record { clock = refl; hue = k .shows .hue; remaining = k .shows .remaining; running = k .shows .running })
   accepted-shows (Call.Start task clock) q a = never a (not-true (accepts l (Call.Start task clock)) q)
   accepted-shows (Call.Step clock) q a =
-      let o = step-open f s (Call.Step clock) (sym (accepts-takes k (Call.Step clock)) ∙ a) in
+      let o = step-open s (Call.Step clock) (sym (accepts-takes k (Call.Step clock)) ∙ a) in
       rw (next, accepted-is l (Call.Step clock) a) (step-meets k clock n (o .0) .shows)
   accepted-shows (Call.Halt clock) q a = never a (not-true (accepts l (Call.Halt clock)) q)
 
@@ -109,11 +94,9 @@ module _ {f : Fed} {l : Lamp} {s : Shown} (k : Fading f l s) (n : Sane f) where
   fades-on x q =
       record {
         valid = valid-kept l x (k .valid);
-        bounds = bounds-kept l x ∙ k .bounds;
-        options = ap (λ (o : ℕ). hasFlag o executeIfOff) (options-kept l x) ∙ k .options;
         saturation = k .saturation;
         shows =
-            elim (either (takes f s x)) [
+            elim (either (takes s x)) [
               | inl e ↦ rw e (accepted-shows x q (accepts-takes k x ∙ e))
               | inr e ↦ rw (e, refused-keeps l x (accepts-takes k x ∙ e)) (k .shows)
             ];
@@ -126,7 +109,7 @@ module _ {f : Fed} {l : Lamp} {s : Shown} (k : Fading f l s) (n : Sane f) where
   wait-is (Call.Start task clock) e = never refl (sym e)
   wait-is (Call.Step clock) e =
       let t = sym (accepts-takes k (Call.Step clock)) ∙ e in
-      rw (accepted-is l (Call.Step clock) e, t) (step-meets k clock n (step-open f s (Call.Step clock) t .0) .wait)
+      rw (accepted-is l (Call.Step clock) e, t) (step-meets k clock n (step-open s (Call.Step clock) t .0) .wait)
   wait-is (Call.Halt clock) e = never refl (sym e)
 
 -- ---- the start
@@ -162,7 +145,7 @@ pub record Begins (f : Fed) (a : Answer) : Type 0 where
   pub fading : Fading f (a .lamp) (shownAt f (f .start))
   pub wait : a .wait ≡ shownAt f (f .start) .wait
 
-module _ (f : Fed) (n : Sane f) (l : Lamp) (valid : lampValid l ≡ true) (bounds : l .bounds ≡ f .bounds) (options : hasFlag (l .options) executeIfOff ≡ f .executeIfOff) (hue : l .color .hue ≡ f .found) where
+module _ (f : Fed) (n : Sane f) (l : Lamp) (valid : lampValid l ≡ true) (hue : l .color .hue ≡ f .found) where
   pub begins : accepts l (Call.Start (taskOf (f .fade) (f .found)) (f .start)) ≡ true → Begins f (answer l (Call.Start (taskOf (f .fade) (f .found)) (f .start)))
   begins a =
       let x : Call = Call.Start (taskOf (f .fade) (f .found)) (f .start) in
@@ -172,8 +155,6 @@ module _ (f : Fed) (n : Sane f) (l : Lamp) (valid : lampValid l ≡ true) (bound
         fading =
             record {
               valid = valid-kept l x valid;
-              bounds = bounds-kept l x ∙ bounds;
-              options = ap (λ (o : ℕ). hasFlag o executeIfOff) (options-kept l x) ∙ options;
               saturation = l .color .saturation;
               shows = rw d (m .shows);
               right = at-right f n (f .start) (le-refl (f .start));

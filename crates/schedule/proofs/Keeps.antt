@@ -8,7 +8,6 @@ use native.Mathlib.Omega.{arith}
 use lib.Dec.{eqb}
 use borrow.Author.Tests.{leb-true}
 use Rattle.matter.specs.declared.enums.OnOff.{OnOff}
-use Rattle.matter.specs.Flags.{hasFlag, executeIfOff}
 use Rattle.matter.proofs.Laws.{each, and-right}
 use Rattle.matter.specs.InRange.{InRangeRequest}
 use Rattle.tasks.specs.declared.GivenTask.{GivenTask}
@@ -20,7 +19,7 @@ use Rattle.lamp.specs.declared.Call.{Call}
 use Rattle.lamp.specs.InRange.{InRangeLamp}
 use Rattle.commands.specs.Commands.{commandEffect}
 use Rattle.commands.specs.Answers.{answer, allowed}
-use Rattle.commands.proofs.Kept.{valid-kept, bounds-kept, options-kept}
+use Rattle.commands.proofs.Kept.{valid-kept}
 use Rattle.schedule.specs.Calls.{next, after, accepts, interrupts, quiet, steps, paced}
 use Rattle.schedule.specs.Schedule.{HueCommand, asRequest, target, time, taskOf, Fed, Shown, shownAt, scheduledFrom}
 use Rattle.schedule.specs.Claim.{Keeps, KeepsAt, KeptFade, fed, Kept, Claim}
@@ -28,7 +27,7 @@ use Rattle.schedule.proofs.Tests.{either}
 use Rattle.schedule.proofs.Course.{Sane, followed-on, at-open, begins-done}
 use Rattle.schedule.proofs.Accepts.{timely, accepts-is, accepted-is}
 use Rattle.schedule.proofs.Fading.{Fading, idle-is, accepts-takes, fades-on, wait-is, Begins, begins}
-use Rattle.schedule.proofs.Lists.{after-one, scheduled-one, quiet-front, quiet-back, quiet-call, in-range-split, valid-after, in-range-after, bounds-after, options-after}
+use Rattle.schedule.proofs.Lists.{after-one, scheduled-one, quiet-front, quiet-back, quiet-call, in-range-split, valid-after, in-range-after}
 use Rattle.schedule.proofs.Pace.{fades-after, done-exactly, left, done-stays, pace-kept}
 
 -- ---- from the start on
@@ -129,9 +128,7 @@ kept l h onOff clock rest valid inRange c a e =
           let form' : lampValid found ≡ true = valid-after (next l x) between (valid-kept l x valid) in
           let n : Sane f = record { found = inRange .hue; target = target-small h c; time = time-small found h (l .color .hue) at form' (p .accepted) } in
           let b =
-          begins f n found form' (bounds-after (next l x) between ∙ bounds-kept l x)
-          (ap (λ (o : ℕ). hasFlag o executeIfOff) (options-after (next l x) between ∙ options-kept l x))
-          (p .hue)
+          begins f n found form' (p .hue)
           (p .accepted) in
           kept-fade f n (answer found (Call.Start (taskOf h (l .color .hue)) at)) b calls (p .undisturbed);
     }

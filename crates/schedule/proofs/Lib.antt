@@ -8,4 +8,3 @@ pub mod Lists
 pub mod Pace
 pub mod Keeps
 pub mod Examples
-pub mod Laws

@@ -7,7 +7,7 @@ use Rattle.lamp.specs.declared.Lamp.{Lamp}
 use Rattle.lamp.specs.Valid.{lampValid}
 use Rattle.lamp.specs.declared.Call.{Call}
 use Rattle.lamp.specs.InRange.{InRangeLamp}
-use Rattle.commands.proofs.Kept.{valid-kept, in-range-kept, bounds-kept, options-kept}
+use Rattle.commands.proofs.Kept.{valid-kept, in-range-kept}
 use Rattle.schedule.specs.Calls.{next, after, accepts, InRangeCalls, interrupts, quiet}
 use Rattle.schedule.specs.Schedule.{Fed, Shown, followed, scheduledFrom}
 
@@ -65,13 +65,3 @@ pub in-range-after : (l : Lamp) (xs : List Call) → lampValid l ≡ true → In
 unfolding after
 in-range-after l [] f t c = t
 in-range-after l (x ∷ xs) f t c = in-range-after (next l x) xs (valid-kept l x f) (in-range-kept l x f t (c .0)) (c .1)
-
-pub bounds-after : (l : Lamp) (xs : List Call) → after l xs .bounds ≡ l .bounds
-unfolding after
-bounds-after l [] = refl
-bounds-after l (x ∷ xs) = bounds-after (next l x) xs ∙ bounds-kept l x
-
-pub options-after : (l : Lamp) (xs : List Call) → after l xs .options ≡ l .options
-unfolding after
-options-after l [] = refl
-options-after l (x ∷ xs) = options-after (next l x) xs ∙ options-kept l x

@@ -26,7 +26,7 @@ fades-after [] n k q = k
 fades-after {f} {l} {s} (x ∷ xs) n k q = let r = quiet-call l x xs q in fades-after xs n (fades-on k n x (r .0)) (r .1)
 
 -- an accepted step is one that the schedule takes
-step-same : {f : Fed} {l : Lamp} {s : Shown} → Fading f l s → (x : Call) → acceptedStep l x ≡ stepTaken f s x
+step-same : {f : Fed} {l : Lamp} {s : Shown} → Fading f l s → (x : Call) → acceptedStep l x ≡ stepTaken s x
 step-same k x = ap (λ (b : Bool). isStep x && b) (accepts-takes k x)
 
 -- ---- done exactly from the first accepted step at or after the time on
@@ -46,7 +46,7 @@ abbrev pub left : Bool → ℕ
 left b = cond b 0 1
 
 no-step : {f : Fed} {l : Lamp} {s : Shown} → Fading f l s → (x : Call) → s .done ≡ true → acceptedStep l x ≡ false
-no-step {f} {l} {s} k x d = elim (either (acceptedStep l x)) [ inl e ↦ never d (step-open f s x (sym (step-same k x) ∙ e) .0) | inr e ↦ e ]
+no-step {f} {l} {s} k x d = elim (either (acceptedStep l x)) [ inl e ↦ never d (step-open s x (sym (step-same k x) ∙ e) .0) | inr e ↦ e ]
 
 pub done-stays : {f : Fed} {l : Lamp} {s : Shown} (xs : List Call) → Sane f → Fading f l s → quiet l xs ≡ true → s .done ≡ true → steps l xs + left (scheduledFrom f s xs .done) ≡ 0
 unfolding steps scheduledFrom
@@ -69,7 +69,7 @@ pace-kept {f} {l} {s} due m (x ∷ xs) n k q o h z =
           let c : ℕ = clockOf x in
           let h' : (leb due c && paced (c + answer l x .wait) (next l x) xs) ≡ true = rw e at h in
           let late : due ≤ c = leb-true due c (and-left (leb due c) _ h') in
-          let from : f .start ≤ c = le-trans (k .right .since) (step-open f s x t .1) in
+          let from : f .start ≤ c = le-trans (k .right .since) (step-open s x t .1) in
           elim (either (followed f s x .done)) [
             | inl d ↦ let y = done-stays xs n k' (r .1) d in rw e (omega arith)
             | inr d ↦

@@ -4,13 +4,11 @@ use Prim.Native.Nat.{ℕ, suc, _+_}
 use mathlib.Core.Bool.{Bool, true, false, not, cond, _&&_, _||_}
 use mathlib.Core.List.{List, [], _∷_}
 use lib.Dec.{leb, eqb}
-use Rattle.matter.specs.declared.limits.Bounds.{Bounds}
 use Rattle.matter.specs.Causes.{accepted}
 use Rattle.tasks.specs.Runs.{runs}
 use Rattle.lamp.specs.declared.Lamp.{Lamp}
 use Rattle.lamp.specs.declared.Call.{Call}
 use Rattle.lamp.specs.InRange.{InRangeCall}
-use Rattle.commands.specs.Commands.{crossed}
 use Rattle.commands.specs.Answers.{answer, clockOf, isLoopSet}
 
 -- the lamp that a call leaves
@@ -70,14 +68,3 @@ paced due l [] = true
 paced due l (x ∷ xs) =
     cond (acceptedStep l x) (leb due (clockOf x) && paced (clockOf x + answer l x .wait) (next l x) xs)
     (paced due (next l x) xs)
-
--- a mired step whose limits cross within the bounds, and a list without one
-abbrev pub crosses : Bounds → Call → Bool
-crosses bounds (Call.Command r onOff clock) = crossed bounds (r .command)
-crosses bounds (Call.Start task clock) = false
-crosses bounds (Call.Step clock) = false
-crosses bounds (Call.Halt clock) = false
-
-abbrev pub noneCrosses : Bounds → List Call → Bool
-noneCrosses bounds [] = true
-noneCrosses bounds (x ∷ xs) = not (crosses bounds x) && noneCrosses bounds xs

@@ -10,7 +10,6 @@ use lib.Dec.{eqb}
 use lib.IntN.{pos, natAbs}
 use lib.Signed.{leZ}
 use Rattle.matter.specs.declared.enums.OnOff.{OnOff}
-use Rattle.matter.specs.Flags.{hasFlag, executeIfOff}
 use Rattle.hue.specs.Hue.{distance}
 use Rattle.tasks.specs.declared.GivenTask.{GivenTask}
 use Rattle.lamp.specs.declared.Lamp.{Lamp}
@@ -59,7 +58,7 @@ pub record Keeps (a : Answer) (f : Fed) (ys : List Call) : Type 0 where
 -- at the call `x` that comes after those
 pub record KeepsAt (a : Answer) (f : Fed) (ys : List Call) (x : Call) : Type 0 where
   -- (b) it is accepted exactly when the schedule takes it
-  pub accepted : accepts (after (a .lamp) ys) x ≡ takes f (scheduled f ys) x
+  pub accepted : accepts (after (a .lamp) ys) x ≡ takes (scheduled f ys) x
   -- (c) an accepted step asks for the schedule's wait
   pub wait : acceptedStep (after (a .lamp) ys) x ≡ true →
       answer (after (a .lamp) ys) x .wait ≡ scheduled f (ys ++ (x ∷ [])) .wait
@@ -73,14 +72,12 @@ pub record KeptFade (a : Answer) (f : Fed) (calls : List Call) : Type 0 where
   pub everywhere : (ys zs : List Call) → calls ≡ ys ++ zs → Keeps a f ys
   pub everyCall : (ys : List Call) (x : Call) (zs : List Call) → calls ≡ ys ++ (x ∷ zs) → KeepsAt a f ys x
 
--- what the schedule of a fade is fed: the command, what the lamp that it found has, and the clock of the start
+-- what the schedule of a fade is fed: the command, the hue that it found, and the clock of the start
 abbrev pub fed : HueCommand → Lamp → ℕ → Fed
 fed h l clock =
     record {
       fade = h;
       found = l .color .hue;
-      bounds = l .bounds;
-      executeIfOff = hasFlag (l .options) executeIfOff;
       start = clock;
     }
 

@@ -1,19 +1,17 @@
--- The schedule of a fade: document 01, "Demand 3's schedule". A machine of its own. It is fed a move to a hue, the hue
--- that the command found, the lamp's bounds and its ExecuteIfOff (docs/DECISIONS.md, point 12), and from the accepted
--- start on the calls alone; it sees no lamp and no answer, and keeps its own clock and its own done.
+-- The schedule of a fade: document 01, "Demand 3's schedule". A machine of its own. It is fed a move to a hue and the
+-- hue that the command found, and from the accepted start on the calls alone; the lamp's bounds have no say since A.12
+-- (docs/DECISIONS.md, point 12). It sees no lamp and no answer, and keeps its own clock and its own done.
 use Prim.Native.Nat.{ℕ, _-_, _*_, min}
 use mathlib.Core.Bool.{Bool, true, false, not, cond, _&&_, _||_}
 use mathlib.Core.List.{List, [], _∷_}
 use lib.Dec.{leb, eqb}
 use lib.IntN.{ℤ, natAbs}
-use Rattle.matter.specs.declared.limits.Bounds.{Bounds}
 use Rattle.matter.specs.declared.commands.Command.{Command}
 use Rattle.matter.specs.declared.commands.CommandOptions.{CommandOptions}
 use Rattle.matter.specs.declared.commands.Request.{Request}
 use Rattle.matter.specs.Requests.{request}
 use Rattle.matter.specs.declared.enums.DirectionEnum.{DirectionEnum}
 use Rattle.matter.specs.Limits.{clockLimit}
-use Rattle.matter.specs.Rules.{mayExecute}
 use Rattle.hue.specs.Hue.{pathDelta, movedHue}
 use Rattle.progress.specs.Progress.{permilleOf, partOf, tenthsOf}
 use Rattle.tasks.specs.declared.HueDelta.{HueDelta}
@@ -21,7 +19,7 @@ use Rattle.tasks.specs.declared.TargetSaturation.{TargetSaturation}
 use Rattle.tasks.specs.declared.Task.{Task}
 use Rattle.tasks.specs.Valid.{taskValid}
 use Rattle.lamp.specs.declared.Call.{Call}
-use Rattle.commands.specs.Commands.{checks, crossed}
+use Rattle.commands.specs.Commands.{checks}
 use Rattle.commands.specs.Answers.{clockOf}
 
 -- a move to a hue, plain or enhanced, without saturation
@@ -66,15 +64,8 @@ taskOf h found =
 pub record Fed : Type 0 where
   pub fade : HueCommand
   pub found : ℕ
-  pub bounds : Bounds
-  pub executeIfOff : Bool
   -- the clock of the accepted start
   pub start : ℕ
-
--- the same, with another ExecuteIfOff
-abbrev pub withOption : Fed → Bool → Fed
-withOption f option =
-    record { fade = f .fade; found = f .found; bounds = f .bounds; executeIfOff = option; start = f .start }
 
 -- what it says: its clock, its hue, remaining time, wait and done
 pub record Shown : Type 0 where
@@ -105,18 +96,14 @@ shownAt f clock =
 
 -- "a call is accepted where it meets no cause below, the clock being the last accepted call's and the lamp idle once
 -- done": the clock, and what the call itself can be refused for
-abbrev pub own : Fed → Call → Bool → Bool
-own f (Call.Command r onOff clock) done =
-    checks (r .command) .stop
-    || (eqb (checks (r .command) .cause) 0
-    && not (mayExecute onOff (cond (f .executeIfOff) 1 0) (r .options .mask) (r .options .overrides)
-    && crossed (f .bounds) (r .command)))
-own f (Call.Start task clock) done = taskValid task
-own f (Call.Step clock) done = not done
-own f (Call.Halt clock) done = true
+abbrev pub own : Call → Bool → Bool
+own (Call.Command r onOff clock) done = checks (r .command) .stop || eqb (checks (r .command) .cause) 0
+own (Call.Start task clock) done = taskValid task
+own (Call.Step clock) done = not done
+own (Call.Halt clock) done = true
 
-abbrev pub takes : Fed → Shown → Call → Bool
-takes f s x = (leb (s .clock) (clockOf x) && leb (clockOf x) clockLimit) && own f x (s .done)
+abbrev pub takes : Shown → Call → Bool
+takes s x = (leb (s .clock) (clockOf x) && leb (clockOf x) clockLimit) && own x (s .done)
 
 -- "No other call moves it": an accepted step shows the fade at its clock, another accepted call only sets the clock
 abbrev pub whenTaken : Fed → Shown → Call → Shown
@@ -129,7 +116,7 @@ whenTaken f s (Call.Halt clock) =
     record { clock = clock; hue = s .hue; remaining = s .remaining; wait = s .wait; done = s .done }
 
 abbrev pub followed : Fed → Shown → Call → Shown
-followed f s x = cond (takes f s x) (whenTaken f s x) s
+followed f s x = cond (takes s x) (whenTaken f s x) s
 
 -- the schedule after a list of calls that follow the start
 unfoldable pub scheduledFrom : Fed → Shown → List Call → Shown

@@ -134,13 +134,15 @@ commands =
     ∷ gives (Command.MoveColorTemperature MoveModeEnum.Up 10 400 300) (miredsMove (pos 10) 400 300)
     ∷ gives (Command.StepColorTemperature StepModeEnum.Up 400 7 0 0) (toMireds 500)
     ∷ gives (Command.StepColorTemperature StepModeEnum.Down 40 7 220 0) (toMireds 220)
-    -- a mired step's limits crossed: only where lo is above hi
-    ∷ refuses (tenUp 400 300) 3
+    -- a mired step's limits cross only where lo is above hi, and then both count as 0 (document 02, A.12)
+    ∷ gives (tenUp 400 300) (toMireds 260)
     ∷ gives (tenUp 300 300) (toMireds 300)
-    ∷ refuses (tenUp 600 0) 3
+    ∷ gives (tenUp 600 0) (toMireds 260)
     ∷ gives (tenUp 500 0) (toMireds 500)
-    ∷ refuses (tenUp 0 100) 3
+    ∷ gives (tenUp 0 100) (toMireds 260)
     ∷ gives (tenUp 0 153) (toMireds 153)
+    ∷ gives (Command.StepColorTemperature StepModeEnum.Up 100 7 400 300) (toMireds 350)
+    ∷ gives (Command.StepColorTemperature StepModeEnum.Down 10 7 0 100) (toMireds 240)
     ∷ passes (tenUp 400 300)
     ∷ refuses (Command.StepColorTemperature StepModeEnum.Up 0 7 400 300) 2
     -- Stop mode, before rate and off

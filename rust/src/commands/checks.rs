@@ -1,10 +1,7 @@
 // Made by rust/make from crates/commands/src/checks.rt: not to be edited.
 //! What is checked of a command by itself, in one row each: Stop mode, and its own numbers.
 
-use crate::commands::temperatures::high_limit;
-use crate::commands::temperatures::low_limit;
 use crate::matter::ACCEPTED;
-use crate::matter::Bounds;
 use crate::matter::CONSTRAINT_ERROR;
 use crate::matter::Command;
 use crate::matter::INVALID_COMMAND;
@@ -71,15 +68,5 @@ pub(in crate::commands) fn checks_of(command: Command) -> Checks {
         Command::StepColorTemperature { size, .. } => nonzero(size),
         Command::ColorLoopSet { .. } => constrained(false),
         Command::StopMoveStep => constrained(false),
-    }
-}
-
-/// A step of the colour temperature whose lower limit is above its upper one.
-pub(in crate::commands) fn is_crossed(bounds: Bounds, command: Command) -> bool {
-    match command {
-        Command::StepColorTemperature { min, max, .. } => {
-            high_limit(bounds, max) < low_limit(bounds, min)
-        }
-        _ => false,
     }
 }

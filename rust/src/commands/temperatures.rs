@@ -25,12 +25,28 @@ fn limit_asked(physical: u16, n: u16) -> u16 {
 }
 
 /// Between which mireds a command moves: the caller's limits within the physical bounds.
-pub(in crate::commands) fn low_limit(bounds: Bounds, min: u16) -> u16 {
+fn low_limit(bounds: Bounds, min: u16) -> u16 {
     bounds.lower_limit(limit_asked(bounds.min, min))
 }
 
-pub(in crate::commands) fn high_limit(bounds: Bounds, max: u16) -> u16 {
+fn high_limit(bounds: Bounds, max: u16) -> u16 {
     bounds.upper_limit(limit_asked(bounds.max, max))
+}
+
+/// Between which mireds a step goes: limits that cross count as 0, both of them.
+fn step_limits(bounds: Bounds, min: u16, max: u16) -> Bounds {
+    let low = low_limit(bounds, min);
+    let high = high_limit(bounds, max);
+    if high < low {
+        return Bounds {
+            min: low_limit(bounds, 0),
+            max: high_limit(bounds, 0),
+        };
+    }
+    Bounds {
+        min: low,
+        max: high,
+    }
 }
 
 /// A move by so many mireds between two limits; the time is in tenths.
@@ -55,10 +71,11 @@ pub(in crate::commands) fn step_mireds(
     max: u16,
 ) -> Outcome {
     let bounds = lamp.bounds;
+    let limits = step_limits(bounds, min, max);
     between(
         lamp,
-        low_limit(bounds, min),
-        high_limit(bounds, max),
+        limits.min,
+        limits.max,
         lamp.color.mireds,
         step_delta(mode, size),
         tenths,
@@ -118,7 +135,7 @@ pub fn cmd_move_color_temperature(
     with_options(lamp, command, options_mask, options_override, on_off, clock)
 }
 
-/// StepColorTemperature: by a step, within the caller's limits, where 0 is the physical one.
+/// StepColorTemperature: by a step, within the caller's limits, where 0 is the physical one, unless they cross.
 pub fn cmd_step_color_temperature(
     lamp: Lamp,
     step_mode: StepModeEnum,

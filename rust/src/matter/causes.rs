@@ -1,5 +1,5 @@
 // Made by rust/make from crates/matter/src/causes.rt: not to be edited.
-//! Why a call is refused: the numbers of document 01's table.
+//! Why a call is refused: the numbers of document 01's table. 3, which was crossed limits of a mired step, is free.
 
 pub const ACCEPTED: u8 = 0;
 
@@ -8,9 +8,6 @@ pub const CONSTRAINT_ERROR: u8 = 1;
 
 /// Rate or step 0.
 pub const INVALID_COMMAND: u8 = 2;
-
-/// A step of mireds whose limits cross.
-pub const CROSSED_LIMITS: u8 = 3;
 
 /// A clock earlier than the lamp's, or above the limit.
 pub const CLOCK_REFUSED: u8 = 4;
