@@ -70,7 +70,7 @@ uint64_t yemkruos_new(uint64_t *lamp, size_t lamp_words, uint16_t min, uint16_t 
                       uint32_t features, uint8_t options, uint64_t clock);
 
 /* Sends a call of 10 words to the lamp, which is left as the call leaves it, and writes the answer's
- * 25 words. 0, or why not: 1 to 4 or 6 to 8, with the lamp as it was; or 100, 101 or 102: then nothing
+ * 25 words. 0, or why not: 1, 2, 4 or 6 to 8, with the lamp as it was; or 100, 101 or 102: then nothing
  * changes, nor is an answer written. Lamp, call and answer do not overlap. */
 uint64_t yemkruos_call(uint64_t *lamp, size_t lamp_words, const uint64_t *call, size_t call_words,
                        uint64_t *answer, size_t answer_words);

@@ -1,7 +1,7 @@
 -- The limits of a mired step.
 use Prim.Native.Nat.{ℕ, _≤_, _<_}
 use mathlib.Core.Bool.{Bool, true, false, cond}
-use mathlib.Core.Path.{_≡_, refl, ap}
+use mathlib.Core.Path.{_≡_, refl}
 use lib.Dec.{ltb}
 use lib.IntN.{pos, _+ℤ_}
 use borrow.Author.Tests.{lt-ltb, le-ltb}

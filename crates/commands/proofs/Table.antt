@@ -10,7 +10,8 @@ use Rattle.matter.specs.declared.commands.Command.{Command}
 use Rattle.matter.specs.declared.commands.Request.{Request}
 use Rattle.matter.specs.declared.enums.OnOff.{OnOff}
 use Rattle.matter.proofs.Laws.{cond-both}
-use Rattle.matter.specs.Limits.{hueLimit, saturationLimit}
+use Rattle.matter.specs.declared.limits.Bounds.{Bounds}
+use Rattle.matter.specs.Limits.{hueLimit, saturationLimit, clockLimit}
 use Rattle.notices.specs.Notices.{noted}
 use Rattle.tasks.specs.declared.Task.{Task}
 use Rattle.tasks.specs.Valid.{taskValid}
@@ -18,13 +19,14 @@ use Rattle.tasks.specs.Runs.{runs}
 use Rattle.lamp.specs.declared.Lamp.{Lamp}
 use Rattle.lamp.specs.declared.Answer.{Answer}
 use Rattle.lamp.specs.Answers.{atClock, badClock, firstCause, refusal}
+use Rattle.lamp.specs.Making.{makingCause}
 use Rattle.lamp.specs.Valid.{lampValid}
 use Rattle.lamp.specs.Calls.{started, stepped, startAnswer, stepAnswer, haltAnswer, choose, startCause, stepCause}
 use Rattle.lamp.proofs.Kept.{started-few, stepped-few}
 use Rattle.lamp.specs.declared.Call.{Call}
 use Rattle.commands.specs.Commands.{causeIf, checks}
 use Rattle.commands.specs.Table.{StepCauses, HaltCauses, StartCauses, CommandCauses, Few, TableOfCauses}
-use Rattle.commands.specs.Answers.{allowed, afterClock, commandCause, commandDone, commandAnswer, cause, answer}
+use Rattle.commands.specs.Answers.{afterClock, commandCause, commandDone, commandAnswer, cause, answer}
 use Rattle.commands.proofs.Kept.{commands-few, number-is-cause}
 
 module _ (l : Lamp) (clock : ℕ) where
@@ -150,6 +152,11 @@ pub cause-not-3 : (l : Lamp) (x : Call) → cause l x ≡ 3 → ⊥
 cause-not-3 =
     cause-in (λ n. n ≡ 3 → ⊥) (λ e. omega (arith, e)) (λ c e. omega (arith, own-small c, e)) (λ e. omega (arith, e)) (λ e. omega (arith, e)) (λ e. omega (arith, e)) (λ e. omega (arith, e))
 
+making-not-3 : (bounds : Bounds) (clock : ℕ) → makingCause bounds clock ≡ 3 → ⊥
+making-not-3 bounds clock =
+    cond-both (λ n. n ≡ 3 → ⊥) (ltb clockLimit clock) 4 _ (λ t e. omega (arith, e))
+    (λ t. cond-both (λ n. n ≡ 3 → ⊥) (ltb (bounds .max) (bounds .min)) 5 0 (λ u e. omega (arith, e)) (λ u e. omega (arith, e)))
+
 -- ---- at most 14 notices: an answer's list is some list of at most 14 in its places, with zeros behind
 
 chosen : (n : ℕ) (l : Lamp) (a : Answer) → Few a → Few (choose n l a)
@@ -192,5 +199,6 @@ table =
       own = own-small;
       most = cause-small;
       no-3 = λ l x e. cause-not-3 l x (sym (number-is-cause l x) ∙ e);
+      making-no-3 = making-not-3;
       few = answer-few;
     }

@@ -1,7 +1,7 @@
 -- The answer of every call of a lamp: the table of causes in its order, the effect of an accepted call, and the choice
 -- between the two. Document 01, "Commands in their order" and "Why a call is turned away".
 use Prim.Native.Nat.{ℕ}
-use mathlib.Core.Bool.{Bool, true, false, cond, _&&_}
+use mathlib.Core.Bool.{Bool, true, false, cond}
 use lib.Dec.{eqb}
 use Rattle.matter.specs.declared.commands.Command.{Command}
 use Rattle.matter.specs.declared.commands.Request.{Request}

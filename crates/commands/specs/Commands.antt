@@ -1,5 +1,5 @@
 -- What each command does: document 01, leaf 7 and "Commands in their order". A command is given the lamp at its clock.
--- What is checked before it, and in which order, is `inOrder` in Answers.
+-- What is checked before it, and in which order: `commandCause`, `inOrder` and `ranWith` in Answers.
 use Prim.Native.Nat.{ℕ, _+_, _-_, _*_, min}
 use mathlib.Core.Bool.{Bool, true, false, not, cond, _&&_, _||_}
 use mathlib.Core.List.{List, [], _∷_, _++_}

@@ -9,6 +9,7 @@ use Rattle.matter.specs.declared.commands.CommandOptions.{CommandOptions}
 use Rattle.matter.specs.declared.enums.OnOff.{OnOff}
 use Rattle.matter.specs.declared.enums.StepModeEnum.{StepModeEnum}
 use Rattle.matter.specs.Requests.{request}
+use Rattle.matter.specs.Rules.{mayExecute}
 use Rattle.progress.specs.Progress.{clamp}
 use Rattle.lamp.specs.declared.Answer.{Answer}
 use Rattle.lamp.specs.declared.Call.{Call}
@@ -16,12 +17,13 @@ use Rattle.lamp.specs.declared.Lamp.{Lamp}
 use Rattle.lamp.specs.Answers.{atClock, firstCause}
 use Rattle.lamp.specs.Calls.{choose}
 use Rattle.commands.specs.Commands.{skip, giving, causeIf, lo, hi, stepDelta, temperatureTask}
-use Rattle.commands.specs.Answers.{allowed, commandAccepted, answer}
+use Rattle.commands.specs.Answers.{commandAccepted, answer}
 
 module _ (l : Lamp) (mode : StepModeEnum) (size time : ℕ) (o : CommandOptions) (onOff : OnOff) (clock : ℕ) where
   -- the answer to the step with these limits
   abbrev pub stepWith : ℕ → ℕ → Answer
-  stepWith min max = answer l (Call.Command (request (Command.StepColorTemperature mode size time min max) o) onOff clock)
+  stepWith min max =
+      answer l (Call.Command (request (Command.StepColorTemperature mode size time min max) o) onOff clock)
 
   -- the answer to a step within low and high: 8 and 4, a step of 0, off, and then the task
   abbrev pub steppedWithin : ℕ → ℕ → Answer
@@ -29,7 +31,9 @@ module _ (l : Lamp) (mode : StepModeEnum) (size time : ℕ) (o : CommandOptions)
       let at : Lamp = atClock l clock in
       let target : ℕ = clamp low high (pos (l .color .mireds) +ℤ stepDelta mode size) in
       choose (cond (eqb (firstCause l clock) 0) (causeIf (eqb size 0) 2) (firstCause l clock)) l
-      (commandAccepted (cond (allowed l (request Command.StopMoveStep o) onOff) (giving at (temperatureTask target time)) (skip at)))
+      (commandAccepted
+      (cond (mayExecute onOff (l .options) (o .mask) (o .overrides)) (giving at (temperatureTask target time))
+      (skip at)))
 
   pub record StepLimits : Type 0 where
     -- "Every step with lo at or below hi is answered as before"

@@ -7,11 +7,11 @@ use Prim.Native.Nat.{ℕ, _≤_}
 use mathlib.Core.Bool.{true, false}
 use mathlib.Core.List.{List}
 use mathlib.Core.Path.{_≡_}
-use lib.Dec.{eqb}
 use lib.ListN.{length}
 use Rattle.matter.specs.declared.commands.Command.{Command}
 use Rattle.matter.specs.declared.commands.Request.{Request}
 use Rattle.matter.specs.declared.enums.OnOff.{OnOff}
+use Rattle.matter.specs.declared.limits.Bounds.{Bounds}
 use Rattle.notices.specs.Notices.{noted}
 use Rattle.tasks.specs.declared.Task.{Task}
 use Rattle.tasks.specs.Valid.{taskValid}
@@ -19,6 +19,7 @@ use Rattle.tasks.specs.Runs.{runs}
 use Rattle.lamp.specs.declared.Lamp.{Lamp}
 use Rattle.lamp.specs.declared.Answer.{Answer}
 use Rattle.lamp.specs.Answers.{badClock}
+use Rattle.lamp.specs.Making.{makingCause}
 use Rattle.lamp.specs.Valid.{lampValid}
 use Rattle.lamp.specs.declared.Call.{Call}
 use Rattle.commands.specs.Commands.{checks}
@@ -71,4 +72,5 @@ pub record TableOfCauses : Type 0 where
   pub most : (l : Lamp) (x : Call) → cause l x ≤ 8
   -- document 02, A.12: "Number 3 no longer occurs"
   pub no-3 : (l : Lamp) (x : Call) → answer l x .number ≡ 3 → ⊥
+  pub making-no-3 : (bounds : Bounds) (clock : ℕ) → makingCause bounds clock ≡ 3 → ⊥
   pub few : (l : Lamp) (x : Call) → Few (answer l x)

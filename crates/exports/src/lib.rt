@@ -71,7 +71,7 @@ pub extern "C" fn yemkruos_new(
 }
 
 // Sends the call (10 words) to the lamp (28 words), which is left as the call leaves it, and writes the answer (25
-// words). 0, or the number of the refusal: 1 to 4, 6 to 8, or 100 (no call), 101 (no lamp), 102 (the answer has not 25
+// words). 0, or the number of the refusal: 1, 2, 4, 6 to 8, or 100 (no call), 101 (no lamp), 102 (the answer has not 25
 // words); after those three nothing changes.
 #[no_mangle]
 pub extern "C" fn yemkruos_call(words: &mut [u64], call: &[u64], answer: &mut [u64]) -> u64

@@ -143,8 +143,12 @@ commands =
     ∷ gives (tenUp 0 153) (toMireds 153)
     ∷ gives (Command.StepColorTemperature StepModeEnum.Up 100 7 400 300) (toMireds 350)
     ∷ gives (Command.StepColorTemperature StepModeEnum.Down 10 7 0 100) (toMireds 240)
+    ∷ gives (Command.StepColorTemperature StepModeEnum.Up 100 7 600 300) (toMireds 350)
+    ∷ gives (Command.StepColorTemperature StepModeEnum.Down 90 7 200 100) (toMireds 160)
+    ∷ gives (tenUp 301 300) (toMireds 260)
     ∷ passes (tenUp 400 300)
     ∷ refuses (Command.StepColorTemperature StepModeEnum.Up 0 7 400 300) 2
+    ∷ refusesOff (Command.StepColorTemperature StepModeEnum.Up 0 7 400 300) 2
     -- Stop mode, before rate and off
     ∷ gives (Command.MoveHue MoveModeEnum.Stop 0 false) Task.Stop
     ∷ gives (Command.EnhancedMoveHue MoveModeEnum.Stop 0) Task.Stop
