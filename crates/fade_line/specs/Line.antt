@@ -11,7 +11,7 @@ use Rattle.matter.specs.Numbers.{directionFound}
 use Rattle.matter.specs.declared.enums.DirectionFound.{DirectionFound}
 use Rattle.fade_line.specs.declared.reader.Asked.{Asked}
 
--- "reads one line": what stands before the first newline, or all of the input
+-- "reads one line": the bytes before the first newline, or all of the input
 abbrev pub line : List ℕ → List ℕ
 line input = upTo 10 input
 

@@ -1,4 +1,4 @@
--- The words of a line: what stands at a place of one, and words that are the same.
+-- The words of a line: what is at a place of one, and words that are the same.
 use Prim.Native.Nat.{ℕ, zero, suc, _+_, _≤_, _<_}
 use native.Mathlib.Nat.{not-suc-le-zero, le-of-suc-le-suc, suc-add}
 use native.Mathlib.Omega.{arith}

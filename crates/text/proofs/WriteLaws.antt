@@ -34,7 +34,7 @@ pasted-none old at = simp (append-nil, add-zero, take-append-drop)
 pub wrote-none : (old : List ℕ) (at : ℕ) → Wrote old at [] old at
 wrote-none old at = (sym (add-zero at), sym (pasted-none old at))
 
--- up to its end, the slice is what stood before the text, and the text
+-- up to its end, the slice is what was before the text, and the text
 pub take-pasted : (old : List ℕ) (at : ℕ) (text : List ℕ) → at ≤ length old → take (at + length text) (pasted old at text) ≡ take at old ++ text
 unfolding pasted
 take-pasted old at text h = take-at (take at old ++ text) _ _ (head-length old at text h)

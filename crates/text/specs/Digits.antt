@@ -19,7 +19,7 @@ abbrev pub digitsAlone : List ℕ → Bool
 digitsAlone [] = true
 digitsAlone (b ∷ bs) = isDigit b && digitsAlone bs
 
--- the number that digits stand for, after digits of the number v
+-- the number that digits mean, after digits of the number v
 abbrev pub valueFrom : ℕ → List ℕ → ℕ
 valueFrom v [] = v
 valueFrom v (b ∷ bs) = valueFrom (v * 10 + (b - 48)) bs
@@ -31,7 +31,7 @@ value w = valueFrom 0 w
 unfoldable pub isNumber : ℕ → List ℕ → Bool
 isNumber most w = notEmpty w && digitsAlone w && leb (value w) most
 
--- a number with one digit more
+-- a number with one digit more, where the byte is a digit and the number is at most `most`
 unfoldable pub grown : ℕ → ℕ → ℕ → Grown
 grown v b most = cond (isDigit b && leb (v * 10 + (b - 48)) most) (Grown.To (v * 10 + (b - 48))) Grown.Refused
 

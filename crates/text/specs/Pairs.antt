@@ -18,11 +18,11 @@ bytesOf [] = []
 bytesOf (a ∷ []) = []
 bytesOf (a ∷ b ∷ w) = (hexValue a * 16 + hexValue b) ∷ bytesOf w
 
--- a pair at least, and no more bytes than there is room for
+-- one pair at least, and no more bytes than there is room for
 abbrev pub areBytes : ℕ → List ℕ → Bool
 areBytes room w = notEmpty w && isPairs w && leb (length (bytesOf w)) room
 
--- the bytes of the next word; none where it is not so
+-- the bytes of the next word; none where it has another form or too many
 unfoldable pub bytesTaken : List ℕ → ℕ → ℕ → List ℕ
 bytesTaken line at room =
     cond (areBytes room (wordAt line (startOf line at))) (bytesOf (wordAt line (startOf line at))) []

@@ -10,7 +10,7 @@ use Rattle.text.specs.Digits.{notEmpty}
 abbrev pub lost : ℕ
 lost = 18446744073709551615
 
--- what stands before the first such byte, or all
+-- the bytes before the first such byte, or all
 unfoldable pub upTo : ℕ → List ℕ → List ℕ
 upTo x [] = []
 upTo x (b ∷ bs) = cond (eqb b x) [] (b ∷ upTo x bs)

@@ -8,7 +8,7 @@ ghost use Rattle.text.specs.Words.{findFrom, inWord, startOf, endOf, isW
 
 pub const LOST: usize = usize::MAX;
 
-// The place of the next such byte from `from` on; the end where there is none.
+// The place of the next such byte from `from` on; the end where there is none, and `from` behind the end.
 pub fn find(bytes: &[u8], from: usize, byte: u8) -> usize
     ensures { λ r. ⌜ (r ≡ findFrom (now (bytes .entry)) from byte) × (from ≤ r) × (r ≤ max from (length (now (bytes .entry)))) ⌝ }
 {
