@@ -1,18 +1,16 @@
 -- The table of causes holds. Each line computes from the tests it names.
 use Prim.Native.Nat.{ℕ, _≤_}
 use mathlib.Core.Bool.{Bool, true, false, not, _&&_, _||_}
-use mathlib.Core.List.{List, []}
+use mathlib.Core.List.{[]}
 use mathlib.Core.Path.{_≡_, refl, sym, _∙_}
 use native.Mathlib.Omega.{arith}
 use lib.Dec.{eqb, ltb}
-use lib.ListN.{length}
 use Rattle.matter.specs.declared.commands.Command.{Command}
 use Rattle.matter.specs.declared.commands.Request.{Request}
 use Rattle.matter.specs.declared.enums.OnOff.{OnOff}
 use Rattle.matter.proofs.Laws.{cond-both}
 use Rattle.matter.specs.declared.limits.Bounds.{Bounds}
 use Rattle.matter.specs.Limits.{hueLimit, saturationLimit, clockLimit}
-use Rattle.notices.specs.Notices.{noted}
 use Rattle.tasks.specs.declared.Task.{Task}
 use Rattle.tasks.specs.Valid.{taskValid}
 use Rattle.tasks.specs.Runs.{runs}
@@ -25,7 +23,7 @@ use Rattle.lamp.specs.Calls.{started, stepped, startAnswer, stepAnswer, haltAns
 use Rattle.lamp.proofs.Kept.{started-few, stepped-few}
 use Rattle.lamp.specs.declared.Call.{Call}
 use Rattle.commands.specs.Commands.{causeIf, checks}
-use Rattle.commands.specs.Table.{StepCauses, HaltCauses, StartCauses, CommandCauses, Few, TableOfCauses}
+use Rattle.commands.specs.Table.{Few, TableOfCauses}
 use Rattle.commands.specs.Answers.{afterClock, commandCause, commandDone, commandAnswer, cause, answer}
 use Rattle.commands.proofs.Kept.{commands-few, number-is-cause}
 

@@ -2,20 +2,18 @@
 -- mireds are within the text's; and with InvalidCommand exactly the text's invalid ones, for every command.
 use Prim.Native.Nat.{ℕ, zero, suc, _≤_}
 use mathlib.Core.Bool.{Bool, true, false, not, cond, _&&_, _||_}
-use mathlib.Core.Path.{_≡_, refl, sym, ap, _∙_}
+use mathlib.Core.Path.{_≡_, refl, _∙_}
 use native.Mathlib.Omega.{arith}
 use lib.Dec.{leb, ltb, eqb}
-use borrow.Author.Tests.{leb-true, leb-false, le-leb, lt-ltb, le-ltb, eqb-true, ne-eqb}
+use borrow.Author.Tests.{leb-true, leb-false, le-leb, lt-ltb, le-ltb, ne-eqb}
 use Rattle.matter.specs.declared.commands.Command.{Command}
 use Rattle.matter.specs.declared.commands.Request.{Request}
 use Rattle.matter.specs.declared.commands.CommandOptions.{CommandOptions}
 use Rattle.matter.specs.declared.enums.DirectionEnum.{DirectionEnum}
 use Rattle.matter.specs.declared.enums.MoveModeEnum.{MoveModeEnum}
 use Rattle.matter.specs.declared.enums.StepModeEnum.{StepModeEnum}
-use Rattle.matter.specs.declared.enums.OnOff.{OnOff}
-use Rattle.lamp.specs.declared.Lamp.{Lamp}
 use Rattle.commands.specs.Commands.{isStop, checks}
-use Rattle.commands.specs.Answers.{allowed, afterClock}
+use Rattle.commands.specs.Answers.{afterClock}
 use Rattle.conformance.specs.Fields.{fieldsGood, invalidMove, invalid}
 
 -- ---- the fields that the port does not check are within the text's constraints

@@ -11,7 +11,6 @@ use lib.IntN.{pos, natAbs, _+ℤ_}
 use Rattle.matter.specs.declared.limits.Bounds.{Bounds}
 use Rattle.matter.specs.declared.commands.Command.{Command}
 use Rattle.matter.specs.declared.commands.Request.{Request}
-use Rattle.matter.specs.declared.commands.CommandOptions.{CommandOptions}
 use Rattle.matter.specs.declared.enums.DirectionEnum.{DirectionEnum}
 use Rattle.matter.specs.declared.enums.MoveModeEnum.{MoveModeEnum}
 use Rattle.matter.specs.declared.enums.OnOff.{OnOff}

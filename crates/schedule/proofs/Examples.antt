@@ -13,6 +13,7 @@ use Rattle.matter.specs.declared.commands.CommandOptions.{CommandOptions}
 use Rattle.matter.specs.declared.enums.DirectionEnum.{DirectionEnum}
 use Rattle.matter.specs.declared.enums.EnhancedColorModeEnum.{EnhancedColorModeEnum}
 use Rattle.matter.specs.declared.enums.MoveModeEnum.{MoveModeEnum}
+use Rattle.matter.specs.declared.enums.StepModeEnum.{StepModeEnum}
 use Rattle.matter.specs.declared.enums.OnOff.{OnOff}
 use Rattle.matter.specs.All.{allTrue}
 use Rattle.matter.specs.Flags.{hasFlag}
@@ -124,6 +125,8 @@ amongOthers =
           ∷ Call.Command (request (Command.ColorLoopSet 1 ColorLoopActionEnum.ActivateFromEnhancedCurrentHue ColorLoopDirectionEnum.Increment 25 0) plain) OnOff.On 5240
           -- accepted, and skipped
           ∷ Call.Command (request (Command.MoveToHue 254 DirectionEnum.Shortest 1) plain) OnOff.Off 5270
+          -- accepted: a mired step whose limits cross
+          ∷ Call.Command (request (Command.StepColorTemperature StepModeEnum.Up 10 1 400 300) plain) OnOff.On 5280
           -- refused: past the limit
           ∷ Call.Halt 1_099_511_627_777
           -- far behind the time
@@ -204,7 +207,7 @@ all-meet = (
   },
   record {
     others = meets _ (in-range-lamp 60000 (lit< tt))
-        (lit< tt, (lit< tt, ((in-range-plain _ (lit< tt, lit< tt), lit< tt), ((in-range-plain _ (lit< tt, lit< tt), lit< tt), ((record { delta = lit< tt; saturation = tt; ms = lit< tt }, lit< tt), (lit< tt, (lit< tt, ((in-range-plain _ (lit< tt, lit< tt), lit< tt), ((in-range-plain _ (lit< tt), lit< tt), ((tt, lit< tt), ((in-range-plain _ (lit< tt, lit< tt, lit< tt), lit< tt), ((in-range-plain _ (lit< tt, lit< tt), lit< tt), (lit< tt, (lit< tt, (lit< tt, tt)))))))))))))))
+        (lit< tt, (lit< tt, ((in-range-plain _ (lit< tt, lit< tt), lit< tt), ((in-range-plain _ (lit< tt, lit< tt), lit< tt), ((record { delta = lit< tt; saturation = tt; ms = lit< tt }, lit< tt), (lit< tt, (lit< tt, ((in-range-plain _ (lit< tt, lit< tt), lit< tt), ((in-range-plain _ (lit< tt), lit< tt), ((tt, lit< tt), ((in-range-plain _ (lit< tt, lit< tt, lit< tt), lit< tt), ((in-range-plain _ (lit< tt, lit< tt), lit< tt), ((in-range-plain _ (lit< tt, lit< tt, lit< tt, lit< tt), lit< tt), (lit< tt, (lit< tt, (lit< tt, tt))))))))))))))))
         refl refl refl refl refl;
     hue = refl;
   },
@@ -223,7 +226,7 @@ pub all-show : map shown examples ≡
     ∷ (seen 2560 0 true ∷ seen 2560 0 true ∷ [])
     ∷ (seen 1000 4 false ∷ seen 500 3 false ∷ seen 0 2 false ∷ seen 65036 1 false ∷ seen 64536 0 true ∷ [])
     ∷ (seen 60000 10 false ∷ seen 60653 9 false ∷ seen 60653 9 false ∷ seen 60653 9 false ∷ seen 60653 9 false ∷ seen 60653 9 false
-    ∷ seen 60653 9 false ∷ seen 60653 9 false ∷ seen 60653 9 false ∷ seen 1000 0 true ∷ seen 1000 0 true ∷ [])
+    ∷ seen 60653 9 false ∷ seen 60653 9 false ∷ seen 60653 9 false ∷ seen 60653 9 false ∷ seen 1000 0 true ∷ seen 1000 0 true ∷ [])
     ∷ []
 unfolding observations after answer commandCause commandAnswer firstCause lampValid allTrue colorValid runningValid moveToValid taskValid commandEffect startAnswer stepAnswer haltAnswer started stepped hueSaturationStart hueSaturationMoved timed hueSet permilleOf pathDelta distance movedHue hasFlag
 all-show = refl

@@ -1,6 +1,6 @@
 -- A lamp that fades as the schedule says: what holds between the two, over one call and at the start.
 use Prim.Native.Nat.{ℕ, _-_, _≤_, _<_, min}
-use mathlib.Core.Bool.{Bool, true, false, not, cond, _&&_, _||_, and-true, or-false}
+use mathlib.Core.Bool.{Bool, true, false, not, _&&_, _||_, and-true, or-false}
 use mathlib.Core.Logic.{inl, inr}
 use mathlib.Core.Path.{_≡_, refl, sym, _∙_, ap, subst}
 use native.Mathlib.Nat.{sub-self, zero-div, le-refl}

@@ -1,7 +1,7 @@
 -- Lists of calls, put together and taken apart, and what a whole list keeps of a lamp.
 use mathlib.Core.Bool.{true, not, _&&_}
 use mathlib.Core.List.{List, [], _∷_, _++_}
-use mathlib.Core.Path.{_≡_, refl, _∙_}
+use mathlib.Core.Path.{_≡_, refl}
 use Rattle.matter.proofs.Laws.{and-left, and-right}
 use Rattle.lamp.specs.declared.Lamp.{Lamp}
 use Rattle.lamp.specs.Valid.{lampValid}
