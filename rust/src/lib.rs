@@ -57,6 +57,24 @@
 //! # Ok(())
 //! # }
 //! ```
+//!
+//! # Limits that cross
+//!
+//! A step of the mireds whose minimum is above its maximum, as some remotes send it, is answered as if both were 0.
+//!
+//! ```
+//! use yemkruos::{ALL_FEATURES, Bounds, Command, NewLamp, OnOff, Refusal, StepModeEnum};
+//!
+//! # fn main() -> Result<(), Refusal> {
+//! let bounds = Bounds { min: 153, max: 500 };
+//! let lamp = NewLamp { bounds, features: ALL_FEATURES, options: 0, clock: 5000 }.make()?;
+//! let step = |min, max| Command::step_color_temperature(StepModeEnum::Up, 100, 0, min, max);
+//! let crossed = lamp.command(step(400, 300), OnOff::On, 5000)?;
+//! let free = lamp.command(step(0, 0), OnOff::On, 5000)?;
+//! assert_eq!(crossed, free);
+//! # Ok(())
+//! # }
+//! ```
 
 #![no_std]
 #![forbid(unsafe_code)]

@@ -135,7 +135,7 @@ pub fn cmd_move_color_temperature(
     with_options(lamp, command, options_mask, options_override, on_off, clock)
 }
 
-/// StepColorTemperature: by a step, within the caller's limits, where 0 is the physical one, unless they cross.
+/// StepColorTemperature: by a step, within the caller's limits, where 0 is the physical one; limits that cross count as 0.
 pub fn cmd_step_color_temperature(
     lamp: Lamp,
     step_mode: StepModeEnum,
