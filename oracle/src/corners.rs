@@ -31,6 +31,8 @@ struct Answer {
     silent: bool,
     /// How often 1 is among the notices.
     told: usize,
+    /// Whether 18 is the last of them.
+    tied: bool,
     task: Option<Task>,
     running: bool,
 }
@@ -705,6 +707,8 @@ impl Corners {
                     32_769 => "32,769 up",
                     _ => return,
                 };
+                let tied = name == "half-way" && (direction as usize) < 2;
+                assert_eq!(answer.ends_with(" 1"), tied);
                 let direction = DIRECTIONS[direction as usize];
                 self.met(TIES, &format!("delta, {direction}, {name}"));
             }
@@ -1119,6 +1123,8 @@ impl Corners {
             _ => return,
         };
         assert_eq!(way.abs(), if which == "equal" { 0 } else { 32_768 });
+        let chooses = !name.ends_with("Up") && !name.ends_with("Down");
+        assert_eq!(answer.tied, which == "half-way" && chooses);
         self.met(TIES, &format!("{name}, {which}"));
     }
 
@@ -1363,6 +1369,7 @@ fn answer_of(text: &str) -> Answer {
         });
     let notices = parts.next().unwrap_or("-");
     let told = notices.split(' ').filter(|n| *n == "1").count();
+    let tied = notices.ends_with("17 18");
     let task = parts.next().filter(|task| *task != "-").map(|task| {
         match read(format!("start {task} 0").as_bytes()) {
             Some(Call::Start(task, _)) => task,
@@ -1374,6 +1381,7 @@ fn answer_of(text: &str) -> Answer {
         fields,
         silent: notices == "-",
         told,
+        tied,
         task,
         running: parts.nth(1) == Some("running"),
     }

@@ -1,5 +1,6 @@
-//! The causes 4 to 8, which the Rust has not: written by hand from document 01's table,
-//! and looked at before the Rust is run. (1 and 2 are the Rust's own errors.)
+//! What the Rust has not, written by hand: the causes 4 to 8, from document 01's table, looked
+//! at before the Rust is run (1 and 2 are the Rust's own errors); and document 02's tie, which
+//! is put behind the Rust's answer.
 
 use crate::data::*;
 
@@ -8,6 +9,32 @@ pub const LIMIT: u64 = 1_099_511_627_776;
 /// A clock earlier than the lamp's, or above the limit.
 pub fn clock_refused(lamp: &Fields, clock: u64) -> bool {
     clock < lamp.clock || clock > LIMIT
+}
+
+/// The notice of a tie.
+pub const TIE: u8 = 18;
+
+/// A.6: Shortest or Longest was asked, and both distances are 32,768.
+pub fn is_tie(current: u16, target: u16, direction: DirectionEnum) -> bool {
+    let up = target.wrapping_sub(current);
+    let down = current.wrapping_sub(target);
+    let chooses = matches!(direction, DirectionEnum::Shortest | DirectionEnum::Longest);
+    chooses && up == 32_768 && down == 32_768
+}
+
+/// Whether a command is a move to a hue that is a tie. With saturation the Rust asks Shortest.
+pub fn command_ties(current: u16, command: &Command) -> bool {
+    match *command {
+        Command::MoveToHue(hue, direction, _) => is_tie(current, u16::from(hue) << 8, direction),
+        Command::EnhancedMoveToHue(hue, direction, _) => is_tie(current, hue, direction),
+        Command::MoveToHueAndSaturation(_, _, _, true, hue) => {
+            is_tie(current, hue, DirectionEnum::Shortest)
+        }
+        Command::MoveToHueAndSaturation(hue, _, _, false, _) => {
+            is_tie(current, u16::from(hue) << 8, DirectionEnum::Shortest)
+        }
+        _ => false,
+    }
 }
 
 fn time_in_form(ms: u32) -> bool {

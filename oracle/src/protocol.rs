@@ -59,7 +59,8 @@ pub enum Call {
 
 /// What a call is answered with.
 pub enum Reply {
-    Delta(i32),
+    /// The Rust's way, and the tie, which is not the Rust's.
+    Delta(i32, bool),
     Remaining(bool, u16),
     Leave(bool),
     ModeOf(ColorModeEnum),
@@ -144,7 +145,11 @@ impl Player {
 
     fn write(&self, reply: Reply, out: &mut Vec<u8>) {
         match reply {
-            Reply::Delta(delta) => signed(out, delta.into()),
+            Reply::Delta(delta, is_tie) => {
+                signed(out, delta.into());
+                out.push(b' ');
+                number(out, is_tie as u64);
+            }
             Reply::Remaining(told, new) => {
                 number(out, told as u64);
                 out.push(b' ');
@@ -165,7 +170,8 @@ impl Player {
     pub fn play(&mut self, call: Call) -> Reply {
         match call {
             Call::Delta(current, target, direction) => {
-                Reply::Delta(driver::leaf_delta(current, target, direction))
+                let delta = driver::leaf_delta(current, target, direction);
+                Reply::Delta(delta, guard::is_tie(current, target, direction))
             }
             Call::Remaining(old, ms, start) => {
                 let (told, new) = driver::leaf_remaining(old, ms, start);
@@ -310,6 +316,10 @@ impl Player {
                         ErrorCode::InvalidCommand => End::Refused(2),
                         _ => End::Broken,
                     };
+                }
+                // Document 02, A.6: 18 behind the Rust's 17.
+                if given.is_some() && guard::command_ties(lamp.fields.hue, &command) {
+                    recorder::notice(guard::TIE);
                 }
                 after.clock = clock;
                 lamp.fields = after;

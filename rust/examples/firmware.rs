@@ -61,6 +61,7 @@ impl Firmware {
                 Notice::MarkedDirty => println!("  store soon"),
                 Notice::ScenesNotified => println!("  scenes: no longer current"),
                 Notice::TaskGiven => {}
+                Notice::HueTie => println!("  tell the console: the other way is as long"),
                 attribute => println!("  report {attribute:?}"),
             }
         }

@@ -87,6 +87,7 @@ numbered! {
         DeviceHueSaturation = DEVICE_HUE_SATURATION: "the device is written: hue and saturation",
         DeviceMireds = DEVICE_MIREDS: "the device is written: mireds",
         TaskGiven = TASK_GIVEN: "a task is given",
+        HueTie = HUE_TIE: "the way of the task given is one of two equally long ones",
     }
 }
 

@@ -19,27 +19,41 @@ fn minus(n: u16) -> i32 {
     -(n as i32)
 }
 
-/// The signed way from `current` to `target`, in the direction asked for.
-pub fn hue_path_delta(current: u16, target: u16, direction: DirectionEnum) -> i32 {
+/// The way from one hue to another, signed. A tie: Shortest or Longest had to choose between two equally long ones.
+#[derive(Clone, Copy, Debug, PartialEq, Eq)]
+pub struct HuePath {
+    pub delta: i32,
+    pub is_tie: bool,
+}
+
+/// Half the circle.
+const HALF_TURN: u16 = 32768;
+
+/// The distance that `direction` chooses, with its sign.
+fn chosen_delta(up: u16, down: u16, direction: DirectionEnum) -> i32 {
+    match direction {
+        DirectionEnum::Up => plus(up),
+        DirectionEnum::Down => minus(down),
+        DirectionEnum::Shortest => { if up <= down { plus(up) } else { minus(down) } }
+        DirectionEnum::Longest => { if up > down { plus(up) } else { minus(down) } }
+    }
+}
+
+/// Whether `direction` had to choose, and both distances are half the circle.
+fn is_tie(up: u16, down: u16, direction: DirectionEnum) -> bool {
+    match direction {
+        DirectionEnum::Up | DirectionEnum::Down => false,
+        DirectionEnum::Shortest | DirectionEnum::Longest => { up == HALF_TURN && down == HALF_TURN }
+    }
+}
+
+/// The way from `current` to `target`, in the direction asked for.
+pub fn hue_path_delta(current: u16, target: u16, direction: DirectionEnum) -> HuePath {
     let up_distance = distance_up(current, target);
     let down_distance = distance_up(target, current);
-    match direction {
-        DirectionEnum::Up => plus(up_distance),
-        DirectionEnum::Down => minus(down_distance),
-        DirectionEnum::Shortest => {
-            if up_distance <= down_distance {
-                plus(up_distance)
-            } else {
-                minus(down_distance)
-            }
-        }
-        DirectionEnum::Longest => {
-            if up_distance > down_distance {
-                plus(up_distance)
-            } else {
-                minus(down_distance)
-            }
-        }
+    HuePath {
+        delta: chosen_delta(up_distance, down_distance, direction),
+        is_tie: is_tie(up_distance, down_distance, direction),
     }
 }
 

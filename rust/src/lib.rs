@@ -9,8 +9,8 @@
 //!
 //! # A fade
 //!
-//! From red to cyan in two tenths of a second, at clock 5000. Both ways round are equally long, and Shortest then goes
-//! up.
+//! From red to cyan in two tenths of a second, at clock 5000. Both ways round are equally long: Shortest then goes up,
+//! and the answer says so.
 //!
 //! ```
 //! use yemkruos::{ALL_FEATURES, Bounds, Command, DirectionEnum, NewLamp, Notice, OnOff, Refusal};
@@ -26,7 +26,7 @@
 //!
 //! let command = Command::move_to_hue(128, DirectionEnum::Shortest, 2);
 //! let answer = lamp.command(command, OnOff::On, 5000)?;
-//! assert!(answer.notices.iter().eq([Notice::TaskGiven]));
+//! assert!(answer.notices.iter().eq([Notice::TaskGiven, Notice::HueTie]));
 //! let task = answer.given_task().unwrap();
 //!
 //! // The start writes the device and asks for a step in 100 ms.

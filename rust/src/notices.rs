@@ -1,7 +1,7 @@
 // Made by rust/make from crates/notices/src/lib.rt: not to be edited.
 //! What a call reports, in the order in which it comes: a list of notice numbers in sixteen places, unused places 0.
 
-/// The numbers of the notices, as document 01 lists them.
+/// The numbers of the notices, as document 01 lists them, and after them document 02's.
 pub const REMAINING_TIME: u8 = 1;
 
 pub const CURRENT_HUE: u8 = 2;
@@ -35,6 +35,9 @@ pub const DEVICE_HUE_SATURATION: u8 = 15;
 pub const DEVICE_MIREDS: u8 = 16;
 
 pub const TASK_GIVEN: u8 = 17;
+
+/// Document 02's: a task given goes one of two equally long ways round.
+pub const HUE_TIE: u8 = 18;
 
 #[derive(Clone, Copy, Debug, PartialEq, Eq)]
 pub struct Notices {

@@ -24,7 +24,7 @@ fn numbers_and_names_agree() {
             .all(|(n, r)| Refusal::of_number(n) == Some(r))
     );
     let notices = Notice::ALL.iter().map(|n| (n.number(), *n));
-    assert!(notices.clone().map(|(n, _)| n).eq(1..=17));
+    assert!(notices.clone().map(|(n, _)| n).eq(1..=18));
     assert!(
         notices
             .into_iter()

@@ -28,7 +28,7 @@ impl Band {
 fn up(from: u16, to: u16) -> u16
     ensures { λ r. ⌜ r ≡ distance from to ⌝ }
 {
-    hue_path_delta(from, to, DirectionEnum::Up) as u16
+    hue_path_delta(from, to, DirectionEnum::Up).delta as u16
 }
 
 // Whether the hues from `from` up to `to` and those from `low` up to `high` have one in common: the first of one run
@@ -47,7 +47,7 @@ fn runs_meet(from: u16, to: u16, low: u16, high: u16) -> bool
 pub fn passes_through(found: u16, target: u16, direction: DirectionEnum, band: Band) -> bool
     ensures { λ r. ⌜ r ≡ passesThrough found target direction band ⌝ }
 {
-    if hue_path_delta(found, target, direction) >= 0 {
+    if hue_path_delta(found, target, direction).delta >= 0 {
         return runs_meet(found, target, band.low, band.high);
     }
     runs_meet(target, found, band.low, band.high)

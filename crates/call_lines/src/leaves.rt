@@ -122,8 +122,10 @@ fn bit(out: &mut [u8], at: usize, b: bool) -> usize {
 
 fn delta(asked: DeltaAsked, out: &mut [u8], at: usize) -> usize {
     let direction = asked.direction;
-    let way = hue::hue_path_delta(asked.current, asked.target, direction);
-    writer::signed(out, at, way as i64)
+    let path = hue::hue_path_delta(asked.current, asked.target, direction);
+    let a = writer::signed(out, at, path.delta as i64);
+    let b = writer::byte(out, a, b' ');
+    bit(out, b, path.is_tie)
 }
 
 fn remaining(asked: RemainingAsked, out: &mut [u8], at: usize) -> usize {

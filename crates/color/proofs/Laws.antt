@@ -10,7 +10,7 @@ use Rattle.notices.specs.declared.Numeral.{Numeral}
 use Rattle.notices.specs.Notices.{only}
 use Rattle.notices.specs.Numerals.{consed, inFront}
 use Rattle.notices.specs.Names.{EnhancedCurrentHue, ColorMode, EnhancedColorMode, markedDirty}
-use Rattle.notices.proofs.Numerals.{Bytes, none, more, bytes-append, bytes-only}
+use Rattle.notices.proofs.Numerals.{Below, none, more, below-append, below-only}
 use Rattle.color.specs.declared.Change.{Change}
 use Rattle.color.specs.Setters.{changeNotices, changeReported}
 
@@ -35,20 +35,21 @@ change-in-front false true true attribute l = refl
 change-in-front false true false attribute l = refl
 change-in-front false false enhanced attribute l = refl
 
-attribute-bytes : (enhanced : Bool) (attribute : ℕ) → attribute < 256 → Bytes (attribute ∷ only enhanced EnhancedCurrentHue)
-attribute-bytes enhanced attribute h = more h (bytes-only enhanced EnhancedCurrentHue (omega arith))
+-- a change's notices are below every bound that is above 14 and above the attribute
+module _ (bound : ℕ) (high : 14 < bound) where
+  attribute-below : (enhanced : Bool) (attribute : ℕ) → attribute < bound → Below bound (attribute ∷ only enhanced EnhancedCurrentHue)
+  attribute-below enhanced attribute h = more h (below-only enhanced EnhancedCurrentHue (omega arith))
 
-due-bytes : (d enhanced : Bool) (attribute : ℕ) → attribute < 256 →
-    Bytes (cond d ((attribute ∷ only enhanced EnhancedCurrentHue) ++ (ColorMode ∷ EnhancedColorMode ∷ [])) [])
-due-bytes true enhanced attribute h = bytes-append (attribute-bytes enhanced attribute h) (more (omega arith) (more (omega arith) none))
-due-bytes false enhanced attribute h = none
+  due-below : (d enhanced : Bool) (attribute : ℕ) → attribute < bound →
+      Below bound (cond d ((attribute ∷ only enhanced EnhancedCurrentHue) ++ (ColorMode ∷ EnhancedColorMode ∷ [])) [])
+  due-below true enhanced attribute h = below-append (attribute-below enhanced attribute h) (more (omega arith) (more (omega arith) none))
+  due-below false enhanced attribute h = none
 
-notices-bytes : (t d active enhanced : Bool) (attribute : ℕ) → attribute < 256 →
-    Bytes (cond t [] (changeNotices active d (attribute ∷ only enhanced EnhancedCurrentHue)))
-notices-bytes true d active enhanced attribute h = none
-notices-bytes false d active enhanced attribute h =
-    bytes-append (bytes-only (not active) markedDirty (omega arith)) (bytes-append (due-bytes d enhanced attribute h) (more (omega arith) none))
+  notices-below : (t d active enhanced : Bool) (attribute : ℕ) → attribute < bound →
+      Below bound (cond t [] (changeNotices active d (attribute ∷ only enhanced EnhancedCurrentHue)))
+  notices-below true d active enhanced attribute h = none
+  notices-below false d active enhanced attribute h =
+      below-append (below-only (not active) markedDirty (omega arith)) (below-append (due-below d enhanced attribute h) (more (omega arith) none))
 
--- a change's notices are bytes
-pub change-bytes : (change : Change) (active : Bool) → change .attribute < 256 → Bytes (changeReported change active)
-change-bytes change active h = notices-bytes (change .same) (change .due) active (change .enhanced) (change .attribute) h
+  pub change-below : (change : Change) (active : Bool) → change .attribute < bound → Below bound (changeReported change active)
+  change-below change active h = notices-below (change .same) (change .due) active (change .enhanced) (change .attribute) h

@@ -1,5 +1,5 @@
 -- A command's answer is built from the lamp and its outcome: no command changes the rest, and its list fits.
-use Prim.Native.Nat.{ℕ}
+use Prim.Native.Nat.{ℕ, _<_}
 use mathlib.Core.Bool.{Bool, true, false, cond}
 use mathlib.Core.List.{List, [], _∷_}
 use mathlib.Core.Path.{_≡_, refl}
@@ -8,15 +8,16 @@ use native.Mathlib.Omega.{arith}
 use lib.Dec.{eqb}
 use Rattle.matter.specs.declared.commands.Request.{Request}
 use Rattle.matter.specs.declared.enums.ColorLoopActionEnum.{ColorLoopActionEnum}
+use Rattle.matter.specs.declared.enums.ColorLoopDirectionEnum.{ColorLoopDirectionEnum}
 use Rattle.matter.specs.declared.enums.OnOff.{OnOff}
 use Rattle.matter.specs.Flags.{hasFlag, updateAction, updateDirection, updateTime, updateStartHue}
 use Rattle.matter.proofs.Laws.{cond-both}
 use Rattle.notices.specs.Notices.{noted}
 use Rattle.notices.specs.Numerals.{empty, inFront, placed}
-use Rattle.notices.proofs.Numerals.{Bytes, none, more, bytes-append, bytes-only, placed-noted}
+use Rattle.notices.proofs.Numerals.{Below, Bytes, none, more, below-append, below-only, placed-noted}
 use Rattle.color.specs.declared.Color.{Color}
 use Rattle.color.specs.Setters.{hueChange, hueReported}
-use Rattle.color.proofs.Laws.{change-bytes}
+use Rattle.color.proofs.Laws.{change-below}
 use Rattle.lamp.specs.declared.Answer.{Answer}
 use Rattle.lamp.specs.declared.Lamp.{Lamp}
 use Rattle.lamp.specs.Answers.{atClock}
@@ -26,47 +27,52 @@ use Rattle.commands.specs.Commands.{CommandEffect, withLoop, updatedRepo
 use Rattle.commands.specs.Outcomes.{outcomeOf}
 use Rattle.commands.proofs.Kept.{done-by, done-any, commands-few}
 
--- ---- a command reports bytes
+-- ---- a command reports bytes, and the colour loop's nothing from 18 on
 
-hue-bytes : (c : Color) (new : ℕ) (clock : ℕ) (active : Bool) → Bytes (hueReported c new true true clock active)
-hue-bytes c new clock active = change-bytes (hueChange c new true true clock) active (omega arith)
+module _ (bound : ℕ) (high : 17 < bound) where
+  hue-below : (c : Color) (new : ℕ) (clock : ℕ) (active : Bool) → Below bound (hueReported c new true true clock active)
+  hue-below c new clock active = change-below bound (omega arith) (hueChange c new true true clock) active (omega arith)
 
-updated-bytes : (flags : ℕ) → Bytes (updatedReported flags)
-updated-bytes flags =
-    bytes-append
-    (bytes-append (bytes-append (bytes-only (hasFlag flags updateDirection) 9 (omega arith)) (bytes-only (hasFlag flags updateTime) 10 (omega arith))) (bytes-only (hasFlag flags updateStartHue) 11 (omega arith)))
-    (more {x = 13} (omega arith) none)
+  updated-below : (flags : ℕ) → Below bound (updatedReported flags)
+  updated-below flags =
+      below-append
+      (below-append (below-append (below-only (hasFlag flags updateDirection) 9 (omega arith)) (below-only (hasFlag flags updateTime) 10 (omega arith))) (below-only (hasFlag flags updateStartHue) 11 (omega arith)))
+      (more {x = 13} (omega arith) none)
 
-stored-bytes : (active : Bool) → Bytes (cond active [] (12 ∷ 8 ∷ []))
-stored-bytes true = none
-stored-bytes false = more {x = 12} (omega arith) (more {x = 8} (omega arith) none)
+  stored-below : (active : Bool) → Below bound (cond active [] (12 ∷ 8 ∷ []))
+  stored-below true = none
+  stored-below false = more {x = 12} (omega arith) (more {x = 8} (omega arith) none)
 
-activated-bytes : (l : Lamp) (reported : List ℕ) (seed : ℕ) → Bytes reported → Bytes (activated l reported seed .reported)
-unfolding activated
-activated-bytes l reported seed b =
-    bytes-append
-    (bytes-append (bytes-append b (stored-bytes (l .looping .active))) (hue-bytes (l .color) seed (l .clock) true))
-    (more {x = 15} (omega arith) (more {x = 17} (omega arith) none))
+  activated-below : (l : Lamp) (reported : List ℕ) (seed : ℕ) → Below bound reported → Below bound (activated l reported seed .reported)
+  unfolding activated
+  activated-below l reported seed b =
+      below-append
+      (below-append (below-append b (stored-below (l .looping .active))) (hue-below (l .color) seed (l .clock) true))
+      (more {x = 15} (omega arith) (more {x = 17} (omega arith) none))
 
-acted-bytes : (l : Lamp) (reported : List ℕ) (action : ColorLoopActionEnum) → Bytes reported → Bytes (acted l reported action .reported)
-unfolding deactivated
-acted-bytes l reported ColorLoopActionEnum.Deactivate b =
-    cond-both (λ (e : CommandEffect). Bytes (e .reported)) (l .looping .active) _ _
-    (λ e. bytes-append
-    (bytes-append (bytes-append b (more {x = 17} (omega arith) (more {x = 8} (omega arith) none)))
-    (hue-bytes (l .color) (l .looping .stored) (l .clock) false))
-    (more {x = 15} (omega arith) none))
-    (λ e. b)
-acted-bytes l reported ColorLoopActionEnum.ActivateFromColorLoopStartEnhancedHue b = activated-bytes l reported (l .looping .start) b
-acted-bytes l reported ColorLoopActionEnum.ActivateFromEnhancedCurrentHue b = activated-bytes l reported (l .color .hue) b
+  acted-below : (l : Lamp) (reported : List ℕ) (action : ColorLoopActionEnum) → Below bound reported → Below bound (acted l reported action .reported)
+  unfolding deactivated
+  acted-below l reported ColorLoopActionEnum.Deactivate b =
+      cond-both (λ (e : CommandEffect). Below bound (e .reported)) (l .looping .active) _ _
+      (λ e. below-append
+      (below-append (below-append b (more {x = 17} (omega arith) (more {x = 8} (omega arith) none)))
+      (hue-below (l .color) (l .looping .stored) (l .clock) false))
+      (more {x = 15} (omega arith) none))
+      (λ e. b)
+  acted-below l reported ColorLoopActionEnum.ActivateFromColorLoopStartEnhancedHue b = activated-below l reported (l .looping .start) b
+  acted-below l reported ColorLoopActionEnum.ActivateFromEnhancedCurrentHue b = activated-below l reported (l .color .hue) b
+
+  pub loop-below : (l : Lamp) (flags : ℕ) (action : ColorLoopActionEnum) (direction : ColorLoopDirectionEnum) (time hue : ℕ) →
+      Below bound (loopSet l flags action direction time hue .reported)
+  unfolding loopSet
+  loop-below l flags action direction time hue =
+      cond-both (λ (e : CommandEffect). Below bound (e .reported)) (hasFlag flags updateAction) _ _
+      (λ a. acted-below _ _ action (updated-below flags)) (λ a. updated-below flags)
 
 commands-bytes : (l : Lamp) (r : Request) (onOff : OnOff) → Bytes (commandDone l r onOff .reported)
-unfolding loopSet
 commands-bytes l r onOff =
-    done-by l (λ (e : CommandEffect). Bytes (e .reported)) (λ t. more {x = 17} (omega arith) none) r onOff none
-    (λ flags action direction time hue e.
-    cond-both (λ (x : CommandEffect). Bytes (x .reported)) (hasFlag flags updateAction) _ _
-    (λ a. acted-bytes _ _ action (updated-bytes flags)) (λ a. updated-bytes flags))
+    done-by l (λ (e : CommandEffect). Bytes (e .reported)) (λ t tie. more {x = 17} (omega arith) (below-only tie 18 (omega arith))) r onOff none
+    (λ flags action direction time hue e. loop-below 256 (omega arith) l flags action direction time hue)
 
 -- ---- the answer
 

@@ -1,7 +1,7 @@
 -- Every call, refused ones too, keeps validity, widths, bounds and options; an accepted one sets the clock, and a command other than
 -- the colour loop's sets nothing else. The number of an answer is its cause. A command reports few notices.
 use Prim.Native.Nat.{ℕ, _≤_}
-use mathlib.Core.Bool.{true, false, cond, true≢false}
+use mathlib.Core.Bool.{Bool, true, false, cond, true≢false}
 use mathlib.Core.List.{List, [], _∷_}
 use mathlib.Core.Path.{_≡_, refl, sym, ap, _∙_}
 use native.Mathlib.Nat.{le-trans}
@@ -16,7 +16,8 @@ use Rattle.matter.specs.Flags.{hasFlag, updateAction, updateDirection, updateTi
 use Rattle.matter.proofs.Laws.{cond-both}
 use Rattle.matter.specs.InRange.{Short, InRangeCommand}
 use Rattle.notices.proofs.Laws.{only-one}
-use Rattle.notices.specs.Names.{ColorLoopActive, ColorLoopDirection, ColorLoopTime, ColorLoopStartEnhancedHue, ColorLoopStoredEnhancedHue}
+use Rattle.notices.specs.Names.{ColorLoopActive, ColorLoopDirection, ColorLoopTime, ColorLoopStartEnhancedHue, ColorLoopStoredEnhancedHue, hueTie}
+use Rattle.notices.specs.Notices.{only}
 use Rattle.color.specs.declared.Color.{Color}
 use Rattle.color.proofs.Kept.{hue-kept, hue-word, change-few}
 use Rattle.color.specs.Setters.{hueChange}
@@ -36,7 +37,8 @@ use Rattle.lamp.specs.declared.Call.{Call}
 use Rattle.lamp.specs.InRange.{InRangeLamp, InRangeCall}
 use Rattle.lamp.proofs.InRangeKept.{started-any, stepped-any, in-range-of, clock-in-range, changed-in-range, started-in-range, stepped-in-range}
 use Rattle.commands.specs.Answers.{afterClock, allowed, commandCause, commandDone, commandAnswer, cause, answer, granted, clockOf, isLoopSet}
-use Rattle.commands.specs.Commands.{CommandEffect, skip, giving, checks, withLoop, updated, updatedReported, acted, deactivated, activated, loopSet, commandEffect}
+use Rattle.commands.specs.Ties.{tieOf}
+use Rattle.commands.specs.Commands.{CommandEffect, skip, givingWith, checks, withLoop, updated, updatedReported, acted, deactivated, activated, loopSet, commandEffect}
 
 -- ---- an answer is a refusal with its cause, or what is granted where there is none
 
@@ -74,35 +76,36 @@ module _ (l : Lamp) where
 
 -- ---- what a command does: a task given, nothing, or the colour loop's
 
-module _ (l : Lamp) (P : CommandEffect → Type 0) (gives : (task : Task) → P (giving l task)) where
-  -- what holds of the first and the last holds of a command that runs
-  effect-by : (c : Command) → ((flags : ℕ) (action : ColorLoopActionEnum) (direction : ColorLoopDirectionEnum) (time hue : ℕ) → c ≡ Command.ColorLoopSet flags action direction time hue → P (loopSet l flags action direction time hue)) → P (commandEffect l c)
+module _ (l : Lamp) (P : CommandEffect → Type 0) where
+  -- what holds of the first, a tie's notice behind it where there is one, and of the last holds of a command that runs
+  pub effect-by : (c : Command) → ((task : Task) → P (givingWith l task (only (tieOf (l .color .hue) c) hueTie))) → ((flags : ℕ) (action : ColorLoopActionEnum) (direction : ColorLoopDirectionEnum) (time hue : ℕ) → c ≡ Command.ColorLoopSet flags action direction time hue → P (loopSet l flags action direction time hue)) → P (commandEffect l c)
   unfolding commandEffect
-  effect-by (Command.MoveToHue hue direction time) loops = gives _
-  effect-by (Command.MoveHue mode rate enhanced) loops = gives _
-  effect-by (Command.StepHue mode size time) loops = gives _
-  effect-by (Command.MoveToSaturation saturation time) loops = gives _
-  effect-by (Command.MoveSaturation mode rate) loops = gives _
-  effect-by (Command.StepSaturation mode size time) loops = gives _
-  effect-by (Command.MoveToHueAndSaturation hue saturation time enhanced enhancedHue) loops = gives _
-  effect-by (Command.EnhancedMoveToHue hue direction time) loops = gives _
-  effect-by (Command.EnhancedMoveHue mode rate) loops = gives _
-  effect-by (Command.EnhancedStepHue mode size time) loops = gives _
-  effect-by (Command.MoveToColorTemperature mireds time) loops = gives _
-  effect-by (Command.MoveColorTemperature mode rate min max) loops = gives _
-  effect-by (Command.StepColorTemperature mode size time min max) loops = gives _
-  effect-by (Command.ColorLoopSet flags action direction time hue) loops = loops flags action direction time hue refl
-  effect-by Command.StopMoveStep loops = gives _
+  effect-by (Command.MoveToHue hue direction time) gives loops = gives _
+  effect-by (Command.MoveHue mode rate enhanced) gives loops = gives _
+  effect-by (Command.StepHue mode size time) gives loops = gives _
+  effect-by (Command.MoveToSaturation saturation time) gives loops = gives _
+  effect-by (Command.MoveSaturation mode rate) gives loops = gives _
+  effect-by (Command.StepSaturation mode size time) gives loops = gives _
+  effect-by (Command.MoveToHueAndSaturation hue saturation time enhanced enhancedHue) gives loops = gives _
+  effect-by (Command.EnhancedMoveToHue hue direction time) gives loops = gives _
+  effect-by (Command.EnhancedMoveHue mode rate) gives loops = gives _
+  effect-by (Command.EnhancedStepHue mode size time) gives loops = gives _
+  effect-by (Command.MoveToColorTemperature mireds time) gives loops = gives _
+  effect-by (Command.MoveColorTemperature mode rate min max) gives loops = gives _
+  effect-by (Command.StepColorTemperature mode size time min max) gives loops = gives _
+  effect-by (Command.ColorLoopSet flags action direction time hue) gives loops = loops flags action direction time hue refl
+  effect-by Command.StopMoveStep gives loops = gives _
 
   -- and with the second, of any
-  pub done-by : (r : Request) (onOff : OnOff) → P (skip l) → ((flags : ℕ) (action : ColorLoopActionEnum) (direction : ColorLoopDirectionEnum) (time hue : ℕ) → r .command ≡ Command.ColorLoopSet flags action direction time hue → P (loopSet l flags action direction time hue)) → P (commandDone l r onOff)
-  done-by r onOff passes loops =
-      cond-both P (checks (r .command) .stop) _ _ (λ e. gives Task.Stop) (λ e. cond-both P (allowed l r onOff) _ _ (λ t. effect-by (r .command) loops) (λ t. passes))
+  pub done-by : ((task : Task) (tie : Bool) → P (givingWith l task (only tie hueTie))) → (r : Request) (onOff : OnOff) → P (skip l) → ((flags : ℕ) (action : ColorLoopActionEnum) (direction : ColorLoopDirectionEnum) (time hue : ℕ) → r .command ≡ Command.ColorLoopSet flags action direction time hue → P (loopSet l flags action direction time hue)) → P (commandDone l r onOff)
+  done-by gives r onOff passes loops =
+      cond-both P (checks (r .command) .stop) _ _ (λ e. gives Task.Stop false)
+      (λ e. cond-both P (allowed l r onOff) _ _ (λ t. effect-by (r .command) (λ task. gives task (tieOf (l .color .hue) (r .command))) loops) (λ t. passes))
 
 -- a command other than the colour loop's leaves the lamp
 quiet-done : (l : Lamp) (r : Request) (onOff : OnOff) → isLoopSet (r .command) ≡ false → commandDone l r onOff .lamp ≡ l
 quiet-done l r onOff h =
-    done-by l (λ (e : CommandEffect). e .lamp ≡ l) (λ t. refl) r onOff refl (λ flags action direction time hue e. absurd (true≢false (sym (ap isLoopSet e) ∙ h)))
+    done-by l (λ (e : CommandEffect). e .lamp ≡ l) (λ t tie. refl) r onOff refl (λ flags action direction time hue e. absurd (true≢false (sym (ap isLoopSet e) ∙ h)))
 
 -- accepted, it sets the clock alone
 pub quiet-command : (l : Lamp) (r : Request) (onOff : OnOff) (clock : ℕ) → isLoopSet (r .command) ≡ false → cause l (Call.Command r onOff clock) ≡ 0 → answer l (Call.Command r onOff clock) .lamp ≡ atClock l clock
@@ -135,20 +138,20 @@ module _ (l : Lamp) (Q : ℕ → Type 0) (hue : Q (l .color .hue)) (time : Q (l 
 -- what holds whatever colour and settings of the loop are left holds after any command
 pub done-any : (l : Lamp) (P : Lamp → Type 0) → ((c : Color) (s : LoopSettings) → P (withLoop l c s)) → (r : Request) (onOff : OnOff) → P (commandDone l r onOff .lamp)
 done-any l P any r onOff =
-    done-by l (λ (e : CommandEffect). P (e .lamp)) (λ t. any (l .color) (l .looping)) r onOff (any (l .color) (l .looping))
+    done-by l (λ (e : CommandEffect). P (e .lamp)) (λ t tie. any (l .color) (l .looping)) r onOff (any (l .color) (l .looping))
     (λ flags action direction time hue e. loop-by l (λ n. Unit) tt tt tt tt P (λ s t f u. any _ s) (λ new s n t f u. any _ s) flags action direction time hue tt tt)
 
 -- a command keeps validity
 done-valid : (l : Lamp) (r : Request) (onOff : OnOff) → lampValid l ≡ true → lampValid (commandDone l r onOff .lamp) ≡ true
 unfolding lampValid
 done-valid l r onOff validity =
-    done-by l (λ (e : CommandEffect). lampValid (e .lamp) ≡ true) (λ t. validity) r onOff validity
+    done-by l (λ (e : CommandEffect). lampValid (e .lamp) ≡ true) (λ t tie. validity) r onOff validity
     (λ flags action direction time hue e. loop-by l (λ n. Unit) tt tt tt tt (λ m. lampValid m ≡ true) (λ s t f u. validity) (λ new s n t f u. valid-of (withLoop l (hueSet (l .color) new true true (l .clock)) s) (valid-clock l validity) (hue-kept _ _ _ (valid-color l validity) new true true) (valid-running l validity)) flags action direction time hue tt tt)
 
 -- and widths
 done-in-range : (l : Lamp) (r : Request) (onOff : OnOff) → InRangeLamp l → InRangeCommand (r .command) → lampValid (commandDone l r onOff .lamp) ≡ true → InRangeLamp (commandDone l r onOff .lamp)
 done-in-range l r onOff inRange t =
-    done-by l (λ (e : CommandEffect). lampValid (e .lamp) ≡ true → InRangeLamp (e .lamp)) (λ task f. inRange) r onOff (λ f. inRange)
+    done-by l (λ (e : CommandEffect). lampValid (e .lamp) ≡ true → InRangeLamp (e .lamp)) (λ task tie f. inRange) r onOff (λ f. inRange)
     (λ flags action direction time hue e.
     let t' : InRangeCommand (Command.ColorLoopSet flags action direction time hue) = rw e at t in
     loop-by l Short (inRange .hue) (inRange .loopTime) (inRange .loopStart) (inRange .loopStored) (λ m. lampValid m ≡ true → InRangeLamp m)
@@ -241,5 +244,5 @@ loop-few l flags action direction time hue =
 -- and so does every command
 pub commands-few : (l : Lamp) (r : Request) (onOff : OnOff) → length (commandDone l r onOff .reported) ≤ 14
 commands-few l r onOff =
-    done-by l (λ (e : CommandEffect). length (e .reported) ≤ 14) (λ t. omega arith) r onOff (omega arith)
+    done-by l (λ (e : CommandEffect). length (e .reported) ≤ 14) (λ t tie. omega (arith, only-one tie hueTie)) r onOff (omega arith)
     (λ flags action direction time hue e. loop-few l flags action direction time hue)

@@ -6,3 +6,4 @@ pub mod Unchanged
 pub mod Built
 pub mod LoopLaws
 pub mod StepLimits
+pub mod Ties

@@ -17,8 +17,8 @@ use Rattle.matter.specs.Flags.{hasFlag, updateAction, updateDirection, updateTi
 use Rattle.matter.specs.Limits.{hueLimit, saturationLimit}
 use Rattle.notices.specs.Notices.{only}
 use Rattle.notices.specs.Names.{ColorLoopActive, ColorLoopDirection, ColorLoopTime, ColorLoopStartEnhancedHue}
-use Rattle.notices.specs.Names.{ColorLoopStoredEnhancedHue, markedDirty, deviceHueSaturation, taskGiven}
-use Rattle.hue.specs.Hue.{pathDelta}
+use Rattle.notices.specs.Names.{ColorLoopStoredEnhancedHue, markedDirty, deviceHueSaturation, taskGiven, hueTie}
+use Rattle.hue.specs.Hue.{pathDelta, isTie}
 use Rattle.progress.specs.Progress.{clamp}
 use Rattle.color.specs.declared.Color.{Color}
 use Rattle.color.specs.Setters.{hueSet, hueReported}
@@ -42,9 +42,12 @@ pub record CommandEffect : Type 0 where
 abbrev pub skip : Lamp → CommandEffect
 skip l = record { lamp = l; reported = []; task = GivenTask.Nothing }
 
--- a task given
+-- a task given, and what is reported behind it
+abbrev pub givingWith : Lamp → Task → List ℕ → CommandEffect
+givingWith l task more = record { lamp = l; reported = taskGiven ∷ more; task = GivenTask.Given task }
+
 abbrev pub giving : Lamp → Task → CommandEffect
-giving l task = record { lamp = l; reported = taskGiven ∷ []; task = GivenTask.Given task }
+giving l task = givingWith l task []
 
 -- ---- what is checked of a command by itself
 
@@ -123,6 +126,13 @@ hueTask way saturation tenths enhanced =
       ms = ms tenths;
       enhanced = enhanced;
     })
+
+-- a move to a hue. Document 02, A.6: "All move-to-hue commands, those with saturation too, pass a set mark on: notice
+-- 18 follows 17"
+abbrev pub givingHue : Lamp → ℕ → DirectionEnum → TargetSaturation → ℕ → Bool → CommandEffect
+givingHue l target direction saturation tenths enhanced =
+    givingWith l (hueTask (pathDelta (l .color .hue) target direction) saturation tenths enhanced)
+    (only (isTie (l .color .hue) target direction) hueTie)
 
 abbrev pub saturationTask : ℕ → ℕ → Task
 saturationTask saturation tenths =
@@ -239,7 +249,7 @@ loopSet l flags action direction time startHue =
 
 unfoldable pub commandEffect : Lamp → Command → CommandEffect
 commandEffect l (Command.MoveToHue hue direction time) =
-    giving l (hueTask (pathDelta (l .color .hue) (stored hue) direction) TargetSaturation.Keep time false)
+    givingHue l (stored hue) direction TargetSaturation.Keep time false
 commandEffect l (Command.MoveHue mode rate enhanced) =
     giving l (hueMoveTask mode (cond enhanced rate (stored rate)) enhanced)
 commandEffect l (Command.StepHue mode size time) =
@@ -250,11 +260,10 @@ commandEffect l (Command.MoveSaturation mode rate) =
 commandEffect l (Command.StepSaturation mode size time) =
     giving l (saturationTask (saturationStep mode (l .color .saturation) size) time)
 commandEffect l (Command.MoveToHueAndSaturation hue saturation time enhanced enhancedHue) =
-    giving l
-    (hueTask (pathDelta (l .color .hue) (cond enhanced enhancedHue (stored hue)) DirectionEnum.Shortest)
-    (TargetSaturation.To saturation) time enhanced)
+    givingHue l (cond enhanced enhancedHue (stored hue)) DirectionEnum.Shortest (TargetSaturation.To saturation) time
+    enhanced
 commandEffect l (Command.EnhancedMoveToHue hue direction time) =
-    giving l (hueTask (pathDelta (l .color .hue) hue direction) TargetSaturation.Keep time true)
+    givingHue l hue direction TargetSaturation.Keep time true
 commandEffect l (Command.EnhancedMoveHue mode rate) = giving l (hueMoveTask mode rate true)
 commandEffect l (Command.EnhancedStepHue mode size time) =
     giving l (hueTask (stepDelta mode size) TargetSaturation.Keep time true)

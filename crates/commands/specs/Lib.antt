@@ -4,3 +4,4 @@ pub mod Outcomes
 pub mod Table
 pub mod Unchanged
 pub mod StepLimits
+pub mod Ties

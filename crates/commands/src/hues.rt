@@ -2,6 +2,7 @@
 // Carried over from project-chip/rs-matter, commit 43f61585a4 (Apache-2.0, see NOTICE), and changed.
 use crate::outcomes::Outcome;
 use crate::outcomes::given;
+use crate::outcomes::given_with;
 use crate::with_options;
 use hue::hue_path_delta;
 use lamp::Answer;
@@ -19,9 +20,10 @@ use tasks::Task;
 ghost use mathlib.Core.Path.{_≡_};
 ghost use Rattle.matter.specs.Requests.{request, options};
 ghost use Rattle.commands.specs.Answers.{commandAnswer};
-ghost use mathlib.Core.Bool.{cond};
-ghost use Rattle.hue.specs.Hue.{pathDelta};
-ghost use Rattle.commands.specs.Commands.{giving, hueTask, hueMoveTask, stepDelta, stored};
+ghost use mathlib.Core.Bool.{false, cond};
+ghost use Rattle.notices.specs.Names.{hueTie};
+ghost use Rattle.notices.specs.Notices.{only};
+ghost use Rattle.commands.specs.Commands.{giving, givingWith, givingHue, hueTask, hueMoveTask, stepDelta, stored};
 ghost use Rattle.commands.specs.Outcomes.{acceptedOutcome};
 
 // A plain hue, or a plain step of it, on the stored circle.
@@ -56,11 +58,12 @@ pub(crate) fn step_delta(mode: StepModeEnum, size: u16) -> i64
 fn by_delta(
     lamp: Lamp,
     delta: i64,
+    is_tie: bool,
     saturation: TargetSaturation,
     tenths: u16,
     enhanced: bool,
 ) -> Outcome
-    ensures { λ r. ⌜ r ≡ acceptedOutcome (giving lamp (hueTask delta saturation tenths enhanced)) ⌝ }
+    ensures { λ r. ⌜ r ≡ acceptedOutcome (givingWith lamp (hueTask delta saturation tenths enhanced) (only «is_tie» hueTie)) ⌝ }
 {
     let task = HueSaturationMoveTo {
         delta: HueDelta::By(delta),
@@ -68,21 +71,43 @@ fn by_delta(
         ms: (tenths as u32) * 100,
         enhanced: enhanced,
     };
-    given(lamp, Task::HueSaturationMoveTo(task))
+    given_with(lamp, Task::HueSaturationMoveTo(task), is_tie)
 }
 
-// A move to a stored hue.
+// A move to a stored hue, with a saturation or without.
 pub(crate) fn to_hue(
     lamp: Lamp,
     hue: u16,
     direction: DirectionEnum,
+    saturation: TargetSaturation,
     tenths: u16,
     enhanced: bool,
 ) -> Outcome
-    ensures { λ r. ⌜ r ≡ acceptedOutcome (giving lamp (hueTask (pathDelta (lamp .color .hue) hue direction) TargetSaturation.Keep tenths enhanced)) ⌝ }
+    ensures { λ r. ⌜ r ≡ acceptedOutcome (givingHue lamp hue direction saturation tenths enhanced) ⌝ }
 {
-    let delta = hue_path_delta(lamp.color.hue, hue, direction) as i64;
-    by_delta(lamp, delta, TargetSaturation::Keep, tenths, enhanced)
+    let path = hue_path_delta(lamp.color.hue, hue, direction);
+    by_delta(
+        lamp,
+        path.delta as i64,
+        path.is_tie,
+        saturation,
+        tenths,
+        enhanced,
+    )
+}
+
+// A move to a plain hue.
+pub(crate) fn to_plain_hue(lamp: Lamp, hue: u8, direction: DirectionEnum, tenths: u16) -> Outcome
+    ensures { λ r. ⌜ r ≡ acceptedOutcome (givingHue lamp (stored hue) direction TargetSaturation.Keep tenths false) ⌝ }
+{
+    to_hue(
+        lamp,
+        stored_hue(hue),
+        direction,
+        TargetSaturation::Keep,
+        tenths,
+        false,
+    )
 }
 
 // The hue that a command with both means: the enhanced one, or the plain one on the stored circle.
@@ -105,13 +130,13 @@ pub(crate) fn to_both(
     is_enhanced: bool,
     enhanced_hue: u16,
 ) -> Outcome
-    ensures { λ r. ⌜ r ≡ acceptedOutcome (giving lamp (hueTask (pathDelta (lamp .color .hue) (cond «is_enhanced» «enhanced_hue» (stored hue)) DirectionEnum.Shortest) (TargetSaturation.To saturation) tenths «is_enhanced»)) ⌝ }
+    ensures { λ r. ⌜ r ≡ acceptedOutcome (givingHue lamp (cond «is_enhanced» «enhanced_hue» (stored hue)) DirectionEnum.Shortest (TargetSaturation.To saturation) tenths «is_enhanced») ⌝ }
 {
     let target = target_hue(hue, is_enhanced, enhanced_hue);
-    let delta = hue_path_delta(lamp.color.hue, target, DirectionEnum::Shortest) as i64;
-    by_delta(
+    to_hue(
         lamp,
-        delta,
+        target,
+        DirectionEnum::Shortest,
         TargetSaturation::To(saturation),
         tenths,
         is_enhanced,
@@ -131,6 +156,7 @@ pub(crate) fn step_hue(
     by_delta(
         lamp,
         step_delta(mode, size),
+        false,
         TargetSaturation::Keep,
         tenths,
         enhanced,

@@ -22,6 +22,7 @@ use hues::step_hue;
 use hues::stored_hue;
 use hues::to_both;
 use hues::to_hue;
+use hues::to_plain_hue;
 use lamp::Answer;
 use lamp::Call;
 use lamp::Lamp;
@@ -43,6 +44,7 @@ pub use saturations::cmd_step_saturation;
 use saturations::move_saturation;
 use saturations::step_saturation;
 use saturations::to_saturation;
+use tasks::TargetSaturation;
 use tasks::Task;
 pub use temperatures::cmd_move_color_temperature;
 pub use temperatures::cmd_move_to_color_temperature;
@@ -68,7 +70,7 @@ fn execute(lamp: Lamp, command: Command, clock: u64) -> Outcome
             hue,
             direction,
             time,
-        } => to_hue(lamp, stored_hue(hue), direction, time, false),
+        } => to_plain_hue(lamp, hue, direction, time),
         Command::MoveHue {
             mode,
             rate,
@@ -91,7 +93,7 @@ fn execute(lamp: Lamp, command: Command, clock: u64) -> Outcome
             hue,
             direction,
             time,
-        } => to_hue(lamp, hue, direction, time, true),
+        } => to_hue(lamp, hue, direction, TargetSaturation::Keep, time, true),
         Command::EnhancedMoveHue { mode, rate } => move_hue(lamp, mode, rate as u32, true),
         Command::EnhancedStepHue { mode, size, time } => step_hue(lamp, mode, size, time, true),
         Command::MoveToColorTemperature { mireds, time } => to_mireds(lamp, mireds, time),
@@ -114,14 +116,7 @@ fn execute(lamp: Lamp, command: Command, clock: u64) -> Outcome
             direction,
             time,
             start_hue,
-        } => set_loop(
-            lamp.at_clock(clock),
-            flags,
-            action,
-            direction,
-            time,
-            start_hue,
-        ),
+        } => set_loop(lamp, clock, flags, action, direction, time, start_hue),
         Command::StopMoveStep => given(lamp, Task::Stop),
     }
 }

@@ -24,6 +24,7 @@ ghost use mathlib.Core.Path.{_≡_};
 ghost use mathlib.Core.Bool.{cond};
 ghost use mathlib.Core.List.{[]};
 ghost use Rattle.notices.specs.Numerals.{inFront};
+ghost use Rattle.lamp.specs.Answers.{atClock};
 ghost use Rattle.commands.specs.Commands.{skip, updated, updatedReported, deactivated, activated, acted, loopSet};
 ghost use Rattle.matter.specs.Requests.{request, options};
 ghost use Rattle.commands.specs.Answers.{commandAnswer};
@@ -160,19 +161,22 @@ fn act(lamp: Lamp, acts: bool, action: ColorLoopActionEnum) -> Outcome
     }
 }
 
+// What the command does at its clock.
 pub(crate) fn set_loop(
     lamp: Lamp,
+    clock: u64,
     flags: u8,
     action: ColorLoopActionEnum,
     direction: ColorLoopDirectionEnum,
     time: u16,
     start_hue: u16,
 ) -> Outcome
-    ensures { λ r. ⌜ r ≡ acceptedOutcome (loopSet lamp flags action direction time «start_hue») ⌝ }
+    ensures { λ r. ⌜ r ≡ acceptedOutcome (loopSet (atClock lamp clock) flags action direction time «start_hue») ⌝ }
 {
     let old = lamp.looping;
     let updated = updated_settings(old, flags, direction, time, start_hue);
     let changed = Lamp {
+        clock: clock,
         looping: updated,
         ..lamp
     };

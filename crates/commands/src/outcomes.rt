@@ -3,12 +3,15 @@ use color::Color;
 use lamp::Lamp;
 use lamp::LoopSettings;
 use matter::ACCEPTED;
+use notices::HUE_TIE;
 use notices::Numeral;
 use notices::TASK_GIVEN;
 use tasks::GivenTask;
 use tasks::Task;
 ghost use mathlib.Core.Path.{_≡_};
-ghost use Rattle.commands.specs.Commands.{skip, giving};
+ghost use Rattle.notices.specs.Names.{hueTie};
+ghost use Rattle.notices.specs.Notices.{only};
+ghost use Rattle.commands.specs.Commands.{skip, giving, givingWith};
 ghost use Rattle.commands.specs.Outcomes.{acceptedOutcome, refusedOutcome};
 
 // 0 or the cause of a refusal, all of the lamp that a command can change but its clock, what it reports, and its task.
@@ -20,9 +23,9 @@ pub struct Outcome {
     pub task: GivenTask,
 }
 
-// A task given.
-pub(crate) fn given(lamp: Lamp, task: Task) -> Outcome
-    ensures { λ r. ⌜ r ≡ acceptedOutcome (giving lamp task) ⌝ }
+// A task given, for a way that may be a tie.
+pub(crate) fn given_with(lamp: Lamp, task: Task, is_tie: bool) -> Outcome
+    ensures { λ r. ⌜ r ≡ acceptedOutcome (givingWith lamp task (only «is_tie» hueTie)) ⌝ }
 {
     let color = lamp.color;
     let looping = lamp.looping;
@@ -30,9 +33,16 @@ pub(crate) fn given(lamp: Lamp, task: Task) -> Outcome
         number: ACCEPTED,
         color: color,
         looping: looping,
-        reported: Numeral::new().cons(TASK_GIVEN),
+        reported: Numeral::new().cons_if(is_tie, HUE_TIE).cons(TASK_GIVEN),
         task: GivenTask::Given(task),
     }
+}
+
+// A task given.
+pub(crate) fn given(lamp: Lamp, task: Task) -> Outcome
+    ensures { λ r. ⌜ r ≡ acceptedOutcome (giving lamp task) ⌝ }
+{
+    given_with(lamp, task, false)
 }
 
 // Nothing done.

@@ -15,7 +15,7 @@ use Rattle.matter.specs.All.{allTrue}
 use Rattle.matter.specs.Flags.{hasFlag}
 use Rattle.matter.specs.InRange.{InRangeOptions}
 use Rattle.matter.specs.Requests.{request}
-use Rattle.hue.specs.Hue.{distance, pathDelta, movedHue}
+use Rattle.hue.specs.Hue.{distance, pathDelta, isTie, movedHue}
 use Rattle.arc.specs.Arc.{meet, passesThrough}
 use Rattle.arc.proofs.Examples.{green}
 use Rattle.progress.specs.Progress.{permilleOf}
@@ -130,16 +130,16 @@ clocks e = stepClocks (begun e .lamp) (e .calls)
 
 -- 16,384 and 24,576 are green
 pub through-green : shown (redToCyan DirectionEnum.Shortest) ≡ seen 0 4 false ∷ seen 8192 3 false ∷ seen 16384 2 false ∷ seen 24576 1 false ∷ seen 32768 0 true ∷ []
-unfolding observations after answer commandCause commandAnswer firstCause lampValid allTrue colorValid runningValid moveToValid taskValid commandEffect startAnswer stepAnswer haltAnswer started stepped hueSaturationStart hueSaturationMoved timed hueSet permilleOf pathDelta distance movedHue hasFlag
+unfolding observations after answer commandCause commandAnswer firstCause lampValid allTrue colorValid runningValid moveToValid taskValid commandEffect startAnswer stepAnswer haltAnswer started stepped hueSaturationStart hueSaturationMoved timed hueSet permilleOf pathDelta isTie distance movedHue hasFlag
 through-green = refl
 
 pub never-green : shown (redToCyan DirectionEnum.Down) ≡ seen 0 4 false ∷ seen 57344 3 false ∷ seen 49152 2 false ∷ seen 40960 1 false ∷ seen 32768 0 true ∷ []
-unfolding observations after answer commandCause commandAnswer firstCause lampValid allTrue colorValid runningValid moveToValid taskValid commandEffect startAnswer stepAnswer haltAnswer started stepped hueSaturationStart hueSaturationMoved timed hueSet permilleOf pathDelta distance movedHue hasFlag
+unfolding observations after answer commandCause commandAnswer firstCause lampValid allTrue colorValid runningValid moveToValid taskValid commandEffect startAnswer stepAnswer haltAnswer started stepped hueSaturationStart hueSaturationMoved timed hueSet permilleOf pathDelta isTie distance movedHue hasFlag
 never-green = refl
 
 -- three steps of each lamp are accepted, at the same clocks, and after each they show the same
 pub same-clocks : (clocks alone ≡ 5200 ∷ 5450 ∷ 2_000_000 ∷ []) × (clocks among ≡ 5200 ∷ 5450 ∷ 2_000_000 ∷ [])
-unfolding stepClocks after answer commandCause commandAnswer firstCause lampValid allTrue colorValid runningValid moveToValid taskValid commandEffect startAnswer stepAnswer haltAnswer started stepped hueSaturationStart hueSaturationMoved timed hueSet permilleOf pathDelta distance movedHue hasFlag
+unfolding stepClocks after answer commandCause commandAnswer firstCause lampValid allTrue colorValid runningValid moveToValid taskValid commandEffect startAnswer stepAnswer haltAnswer started stepped hueSaturationStart hueSaturationMoved timed hueSet permilleOf pathDelta isTie distance movedHue hasFlag
 same-clocks = (refl, refl)
 
 pub same-shown : map shown (alone ∷ among ∷ []) ≡
@@ -147,12 +147,12 @@ pub same-shown : map shown (alone ∷ among ∷ []) ≡
     ∷ (seen 60000 10 false ∷ seen 60809 9 false ∷ seen 60809 9 false ∷ seen 60809 9 false ∷ seen 60809 9 false ∷ seen 62833 7 false
     ∷ seen 62833 7 false ∷ seen 2560 0 true ∷ seen 2560 0 true ∷ [])
     ∷ []
-unfolding observations after answer commandCause commandAnswer firstCause lampValid allTrue colorValid runningValid moveToValid taskValid commandEffect startAnswer stepAnswer haltAnswer started stepped hueSaturationStart hueSaturationMoved timed hueSet permilleOf pathDelta distance movedHue hasFlag
+unfolding observations after answer commandCause commandAnswer firstCause lampValid allTrue colorValid runningValid moveToValid taskValid commandEffect startAnswer stepAnswer haltAnswer started stepped hueSaturationStart hueSaturationMoved timed hueSet permilleOf pathDelta isTie distance movedHue hasFlag
 same-shown = refl
 
 -- 50 off the target, which is 1000
 pub off-by-50 : (movedBetween movedTo50 ≡ pos 50) × (shown movedTo50 ≡ seen 50 2 false ∷ seen 550 1 false ∷ seen 1050 0 true ∷ [])
-unfolding observations after answer commandCause commandAnswer firstCause lampValid allTrue colorValid runningValid moveToValid taskValid commandEffect startAnswer stepAnswer haltAnswer started stepped hueSaturationStart hueSaturationMoved timed hueSet permilleOf pathDelta distance movedHue hasFlag
+unfolding observations after answer commandCause commandAnswer firstCause lampValid allTrue colorValid runningValid moveToValid taskValid commandEffect startAnswer stepAnswer haltAnswer started stepped hueSaturationStart hueSaturationMoved timed hueSet permilleOf pathDelta isTie distance movedHue hasFlag
 off-by-50 = (refl, refl)
 
 -- ---- they meet the premises
@@ -165,7 +165,7 @@ in-range-whileOff : InRangeOptions whileOff
 in-range-whileOff = record { mask = lit< tt; overrides = lit< tt }
 
 pub premised : Premised (redToCyan DirectionEnum.Down) × Premised alone × Premised among
-unfolding quiet after answer commandCause commandAnswer firstCause lampValid allTrue colorValid runningValid moveToValid taskValid commandEffect startAnswer stepAnswer haltAnswer started stepped hueSaturationStart hueSaturationMoved timed hueSet permilleOf pathDelta distance movedHue hasFlag
+unfolding quiet after answer commandCause commandAnswer firstCause lampValid allTrue colorValid runningValid moveToValid taskValid commandEffect startAnswer stepAnswer haltAnswer started stepped hueSaturationStart hueSaturationMoved timed hueSet permilleOf pathDelta isTie distance movedHue hasFlag
 premised = (
   record {
     others = meets _ (in-range-lamp 0 (lit< tt))
@@ -189,7 +189,7 @@ premised = (
 
 -- all but the one of the hue
 pub premised-but-hue : PremisedButHue movedTo50
-unfolding quiet after answer commandCause commandAnswer firstCause lampValid allTrue colorValid runningValid moveToValid taskValid commandEffect startAnswer stepAnswer haltAnswer started stepped hueSaturationStart hueSaturationMoved timed hueSet permilleOf pathDelta distance movedHue hasFlag
+unfolding quiet after answer commandCause commandAnswer firstCause lampValid allTrue colorValid runningValid moveToValid taskValid commandEffect startAnswer stepAnswer haltAnswer started stepped hueSaturationStart hueSaturationMoved timed hueSet permilleOf pathDelta isTie distance movedHue hasFlag
 premised-but-hue =
     meets _ (in-range-lamp 0 (lit< tt))
     ((in-range-plain _ (lit< tt, lit< tt), lit< tt), ((record { delta = lit< tt; saturation = tt; ms = lit< tt }, lit< tt), ((record { delta = lit< tt; saturation = tt; ms = lit< tt }, lit< tt), (lit< tt, (lit< tt, tt)))))

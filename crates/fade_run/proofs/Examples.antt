@@ -5,7 +5,7 @@ use Rattle.matter.specs.All.{allTrue}
 use Rattle.matter.specs.Flags.{hasFlag}
 use Rattle.matter.specs.Rules.{defaultColorMode}
 use Rattle.notices.specs.Notices.{filled}
-use Rattle.hue.specs.Hue.{distance, pathDelta, movedHue}
+use Rattle.hue.specs.Hue.{distance, pathDelta, isTie, movedHue}
 use Rattle.progress.specs.Progress.{permilleOf, clamp}
 use Rattle.remaining_time.specs.RemainingTime.{reported}
 use Rattle.color.specs.Setters.{hueSet}
@@ -30,7 +30,7 @@ three-lines :
     (53 ∷ 48 ∷ 48 ∷ 48 ∷ 32 ∷ 48 ∷ 32 ∷ 50 ∷ 32 ∷ 49 ∷ 48 ∷ 48 ∷ 58 ∷ 32 ∷ 49 ∷ 53 ∷ 10 ∷ [])
     ++ (53 ∷ 49 ∷ 48 ∷ 48 ∷ 32 ∷ 49 ∷ 54 ∷ 51 ∷ 56 ∷ 52 ∷ 32 ∷ 49 ∷ 32 ∷ 49 ∷ 48 ∷ 48 ∷ 58 ∷ 32 ∷ 49 ∷ 51 ∷ 32 ∷ 50 ∷ 32 ∷ 54 ∷ 32 ∷ 55 ∷ 32 ∷ 49 ∷ 52 ∷ 32 ∷ 49 ∷ 53 ∷ 10 ∷ [])
     ++ (53 ∷ 50 ∷ 48 ∷ 48 ∷ 32 ∷ 51 ∷ 50 ∷ 55 ∷ 54 ∷ 56 ∷ 32 ∷ 48 ∷ 32 ∷ 48 ∷ 58 ∷ 32 ∷ 49 ∷ 51 ∷ 32 ∷ 50 ∷ 32 ∷ 54 ∷ 32 ∷ 55 ∷ 32 ∷ 49 ∷ 52 ∷ 32 ∷ 49 ∷ 53 ∷ 32 ∷ 49 ∷ 10 ∷ [])
-unfolding hasFlag defaultColorMode allTrue colorValid moveToValid taskValid runningValid lampValid firstCause clamp distance pathDelta movedHue permilleOf reported filled hueSet making commandEffect commandCause commandAnswer hueSaturationMoved timed hueSaturationStart started stepped startAnswer stepAnswer upTo words isNumber wanted askedByWords decimal decimalIn spaced spacedAll stateText lineText refusedText lineOf further fadeOf
+unfolding hasFlag defaultColorMode allTrue colorValid moveToValid taskValid runningValid lampValid firstCause clamp distance pathDelta isTie movedHue permilleOf reported filled hueSet making commandEffect commandCause commandAnswer hueSaturationMoved timed hueSaturationStart started stepped startAnswer stepAnswer upTo words isNumber wanted askedByWords decimal decimalIn spaced spacedAll stateText lineText refusedText lineOf further fadeOf
 three-lines = refl
 
 -- hue 255: `refused 1`

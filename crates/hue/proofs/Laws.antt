@@ -1,5 +1,5 @@
--- What follows from the definitions of hues: a hue moved up and down, the distance as one remainder, and that a way is small,
--- arrives, and is zero between equal hues alone. The sums of document 01 come first.
+-- What follows from the definitions of hues: a hue moved up and down, the distance as one remainder, that a way is small,
+-- arrives, and is zero between equal hues alone, and where it is a tie. The sums of document 01 come first.
 use mathlib.Core.Path.{_≡_, refl, ap}
 use mathlib.Core.Bool.{Bool, true, false, cond}
 use Prim.Native.Nat.{ℕ, zero, suc, _+_, _-_, _%_, _<_, _≤_}
@@ -7,20 +7,20 @@ use native.Mathlib.Omega.{arith}
 use lib.Dec.{leb, ltb}
 use lib.IntN.{ℤ, pos, negsuc, negℤ, natAbs, _+ℤ_, _-ℤ_}
 use lib.Signed.{remZ}
-use borrow.Author.Tests.{ltb-true, ltb-false}
+use borrow.Author.Tests.{ltb-true, ltb-false, ne-eqb}
 use Rattle.integers.proofs.Sizes.{abs-neg}
 use Rattle.matter.specs.declared.enums.DirectionEnum.{DirectionEnum}
-use Rattle.hue.specs.Hue.{modulo, distance, chosen, pathDelta, movedHue}
+use Rattle.hue.specs.Hue.{modulo, distance, chosen, pathDelta, bothHalf, isTie, huePath, movedHue}
 
 -- ---- sums of the document
 
--- K1, K2: half way round, up is Shortest and down is Longest
-k1 : pathDelta 0 32768 DirectionEnum.Shortest ≡ pos 32768
-unfolding pathDelta distance
+-- K1, K2: half way round, up is Shortest and down is Longest, and each is a tie
+k1 : huePath 0 32768 DirectionEnum.Shortest ≡ record { delta = pos 32768; «is_tie» = true }
+unfolding pathDelta isTie distance
 k1 = refl
 
-k2 : pathDelta 0 32768 DirectionEnum.Longest ≡ negℤ (pos 32768)
-unfolding pathDelta distance
+k2 : huePath 0 32768 DirectionEnum.Longest ≡ record { delta = negℤ (pos 32768); «is_tie» = true }
+unfolding pathDelta isTie distance
 k2 = refl
 
 -- past 65,535 to 0, and back
@@ -111,3 +111,39 @@ equal-no-way c d h = way-by (λ z. z ≡ pos 0) c c d (ap pos stays) (ap (λ (n 
   where
     stays : distance c c ≡ 0
     stays = omega (arith, distance-is c c h)
+
+-- ---- the tie
+
+-- one distance is half the circle exactly where the other is
+pub half-both : (c t : ℕ) → c < 65536 → t < 65536 → distance c t ≡ 32768 → distance t c ≡ 32768
+half-both c t hc ht e = omega (arith, distance-is c t hc, distance-is t c ht)
+
+-- so Shortest and Longest tie there
+pub half-tied : (c t : ℕ) → c < 65536 → t < 65536 → distance c t ≡ 32768 →
+    (isTie c t DirectionEnum.Shortest ≡ true) × (isTie c t DirectionEnum.Longest ≡ true)
+unfolding isTie
+half-tied c t hc ht e = (both, both)
+  where
+    both : bothHalf (distance c t) (distance t c) ≡ true
+    both = rw (e, half-both c t hc ht e)
+
+-- and no direction elsewhere
+pub no-half-no-tie : (c t : ℕ) (d : DirectionEnum) → (distance c t ≡ 32768 → ⊥) → isTie c t d ≡ false
+unfolding isTie
+no-half-no-tie c t DirectionEnum.Up n = refl
+no-half-no-tie c t DirectionEnum.Down n = refl
+no-half-no-tie c t DirectionEnum.Shortest n = rw (ne-eqb _ _ n)
+no-half-no-tie c t DirectionEnum.Longest n = rw (ne-eqb _ _ n)
+
+-- Up and Down never tie
+pub up-no-tie : (c t : ℕ) → isTie c t DirectionEnum.Up ≡ false
+unfolding isTie
+up-no-tie c t = refl
+
+pub down-no-tie : (c t : ℕ) → isTie c t DirectionEnum.Down ≡ false
+unfolding isTie
+down-no-tie c t = refl
+
+-- K3: equal hues are no tie
+pub equal-no-tie : (c : ℕ) (d : DirectionEnum) → c < 65536 → isTie c c d ≡ false
+equal-no-tie c d h = no-half-no-tie c c d (λ e. omega (arith, distance-is c c h))

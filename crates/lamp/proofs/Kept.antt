@@ -1,7 +1,8 @@
 -- Form is kept: by the clock that goes on, by every pass, start and step, and by the answers of starts, steps and halts.
--- A start or step reports few notices.
-use Prim.Native.Nat.{ℕ, zero, suc, _-_, _≤_, _<_, zero-le}
+-- A start or step reports few notices, none of them a command's.
+use Prim.Native.Nat.{ℕ, zero, suc, _-_, _≤_, _<_}
 use mathlib.Core.Bool.{Bool, true, false, cond, not, _||_, true≢false}
+use mathlib.Core.List.{List, [], _++_}
 use mathlib.Core.Path.{_≡_, refl, sym, ap}
 use native.Mathlib.Omega.{arith}
 use lib.Dec.{leb, ltb, eqb}
@@ -12,6 +13,7 @@ use Rattle.matter.specs.declared.limits.Bounds.{Bounds}
 use Rattle.matter.proofs.Laws.{and-left, and-right, cond-both, leb-later, each, all-of}
 use Rattle.matter.specs.Limits.{clockLimit, saturationLimit}
 use Rattle.notices.proofs.Laws.{only-one}
+use Rattle.notices.proofs.Numerals.{Below, none, below-append, below-only}
 use Rattle.notices.specs.Notices.{only}
 use Rattle.notices.specs.Names.{RemainingTime, EnhancedCurrentHue}
 use Rattle.remaining_time.specs.declared.RemainingTime.{RemainingTime as Remaining}
@@ -42,9 +44,10 @@ use Rattle.matter.specs.Bounds.{lower, upper}
 use Rattle.lamp.specs.Calls.{fullWritten, startPermille, hueSaturationStart, temperatureToStart, temperatureStart, started, stepped, choose, startCause, stepCause, startAnswer, stepAnswer, haltAnswer}
 use Rattle.lamp.specs.Valid.{lampValid}
 use Rattle.matter.specs.Rules.{signed}
+use Rattle.lamp.specs.declared.passes.Found.{Found}
 use Rattle.lamp.specs.declared.passes.Passed.{Passed}
-use Rattle.lamp.proofs.Passed.{pass-few}
-use Rattle.lamp.specs.Passes.{Effect, unless, foundWith, foundIn, leftBy, leftEffect, idled, hueSaturationPassed, temperatureToPassed, atEnd, saturationDone, miredsDone, hueMoved, saturationMoved, miredsNow, huePass, saturationPass, temperaturePass, loopPass, huePassed, hueSaturationMoved, loopPassed, saturationPassed, temperaturePassed, temperatureToMoved, timed}
+use Rattle.lamp.proofs.Passed.{pass-few, pass-below}
+use Rattle.lamp.specs.Passes.{Effect, unless, foundWith, foundIn, leftBy, leftEffect, idled, passReported, hueSaturationPassed, temperatureToPassed, atEnd, saturationDone, miredsDone, hueMoved, saturationMoved, miredsNow, huePass, saturationPass, temperaturePass, loopPass, huePassed, hueSaturationMoved, loopPassed, saturationPassed, temperaturePassed, temperatureToMoved, timed}
 
 -- ---- the parts of validity
 
@@ -326,42 +329,97 @@ module _ (l : Lamp) (clock : ℕ) (validity : lampValid l ≡ true) where
       (λ e. idled-valid (atClock l clock) (ready l clock e))
       (λ e. validity)
 
--- ---- a start or step reports few
+-- ---- what a start or step reports: few notices, none of them a command's
 
--- the saturation of a move-to is no enhanced hue
+-- a pass whose second change is of no enhanced hue, and whose attributes and device have numbers below 17
+record Plain (p : Passed) : Type 0 where
+  unenhanced : p .second .enhanced ≡ false
+  first : p .first .attribute < 17
+  second : p .second .attribute < 17
+  device : p .device < 17
+
+-- the hue's part of a move-to, and the saturation's
+hue-low : (c : Color) (d : HueDelta) (start permille : ℕ) (enhanced : Bool) (clock : ℕ) → hueMoved c d start permille enhanced clock .change .attribute < 17
+hue-low c HueDelta.Keep start permille enhanced clock = omega arith
+hue-low c (HueDelta.By way) start permille enhanced clock = omega arith
+
+saturation-low : (c : Color) (t : TargetSaturation) (start permille clock : ℕ) → saturationMoved c t start permille clock .change .attribute < 17
+saturation-low c TargetSaturation.Keep start permille clock = omega arith
+saturation-low c (TargetSaturation.To target) start permille clock = omega arith
+
 saturation-plain : (c : Color) (t : TargetSaturation) (start permille clock : ℕ) → saturationMoved c t start permille clock .change .enhanced ≡ false
 saturation-plain c TargetSaturation.Keep start permille clock = refl
 saturation-plain c (TargetSaturation.To target) start permille clock = refl
 
-module _ (l : Lamp) where
-  -- with the full time in front, 14 where the second change is of no enhanced hue
-  few : (full : Bool) (p : Passed) → p .second .enhanced ≡ false → length (leftEffect l (leftBy full p Running.Idle) .reported) ≤ 14
-  few full p e =
-      rw length-append
-      (omega (arith, only-one full RemainingTime, pass-few p (l .looping .active), ap (λ b. length (only b EnhancedCurrentHue)) e))
+both-plain : (f : Found) (run : HueSaturationRun) (permille : ℕ) → Plain (hueSaturationPassed f run permille)
+unfolding hueSaturationMoved timed
+both-plain f run permille =
+    record {
+      unenhanced = saturation-plain _ (run .task .saturation) _ _ _;
+      first = hue-low _ (run .task .delta) _ _ _ _;
+      second = saturation-low _ (run .task .saturation) _ _ _;
+      device = omega arith;
+    }
 
-  -- a start reports at most 14
-  pub started-few : (task : Task) → length (started l task .reported) ≤ 14
-  unfolding started hueSaturationStart hueSaturationMoved timed temperatureToStart temperatureToMoved temperatureStart temperaturePassed huePassed saturationPassed loopPassed
-  started-few (Task.HueSaturationMoveTo task) = few (fullWritten l (task .ms) .reported) (hueSaturationStart l task .passed) (saturation-plain _ (task .saturation) _ _ _)
-  started-few (Task.HueMove task) = few false (huePassed (foundIn l) (record { start = l .clock; hue = l .color .hue; task = task })) refl
-  started-few (Task.SaturationMove task) = few false (saturationPassed (foundIn l) (record { start = l .clock; saturation = l .color .saturation; task = task })) refl
-  started-few (Task.ColorTemperatureMoveTo task) = few (fullWritten l (task .ms) .reported) (temperatureToStart l task .passed) refl
-  started-few (Task.ColorTemperatureMove task) =
+-- what holds of no notices and of every such pass's, the full time in front or not, holds of what a start or step reports
+module _ (l : Lamp) (P : List ℕ → Type 0) (nothing : P []) (some : (full : Bool) (p : Passed) → Plain p → P (only full RemainingTime ++ passReported p (l .looping .active))) where
+  -- a pass of one change
+  one : (full : Bool) (p : Passed) → p .second .enhanced ≡ false → p .first .attribute < 17 → p .second .attribute < 17 → p .device < 17
+      → P (only full RemainingTime ++ passReported p (l .looping .active))
+  one full p e f s d = some full p (record { unenhanced = e; first = f; second = s; device = d })
+
+  started-by : (task : Task) → P (started l task .reported)
+  unfolding started hueSaturationStart timed temperatureToStart temperatureToMoved temperatureStart temperaturePassed huePassed saturationPassed loopPassed
+  started-by (Task.HueSaturationMoveTo task) = some (fullWritten l (task .ms) .reported) (hueSaturationStart l task .passed) (both-plain _ _ _)
+  started-by (Task.HueMove task) =
+      one false (huePassed (foundIn l) (record { start = l .clock; hue = l .color .hue; task = task })) refl (omega arith) (omega arith) (omega arith)
+  started-by (Task.SaturationMove task) =
+      one false (saturationPassed (foundIn l) (record { start = l .clock; saturation = l .color .saturation; task = task })) refl (omega arith) (omega arith) (omega arith)
+  started-by (Task.ColorTemperatureMoveTo task) =
+      one (fullWritten l (task .ms) .reported) (temperatureToStart l task .passed) refl (omega arith) (omega arith) (omega arith)
+  started-by (Task.ColorTemperatureMove task) =
       let lo : ℕ = lower (l .bounds) (task .min) in
       let hi : ℕ = upper (l .bounds) (task .max) in
-      cond-both (λ (e : Effect). length (e .reported) ≤ 14) (leb hi lo) _ _ (λ t. zero-le)
-      (λ t. few false (temperaturePassed (foundIn l) (record { start = l .clock; mireds = l .color .mireds; rate = task .rate; lo = lo; hi = hi })) refl)
-  started-few (Task.ColorLoop task) = few false (loopPassed (foundIn l) (record { start = l .clock; hue = l .color .hue; task = task })) refl
-  started-few Task.Stop = omega arith
+      cond-both (λ (e : Effect). P (e .reported)) (leb hi lo) _ _ (λ t. nothing)
+      (λ t. one false (temperaturePassed (foundIn l) (record { start = l .clock; mireds = l .color .mireds; rate = task .rate; lo = lo; hi = hi })) refl (omega arith) (omega arith) (omega arith))
+  started-by (Task.ColorLoop task) =
+      one false (loopPassed (foundIn l) (record { start = l .clock; hue = l .color .hue; task = task })) refl (omega arith) (omega arith) (omega arith)
+  started-by Task.Stop = nothing
 
-  -- and so does a step
+  stepped-by : (r : Running) → P (stepped l r .reported)
+  unfolding stepped timed temperatureToMoved temperaturePassed huePassed saturationPassed loopPassed
+  stepped-by Running.Idle = nothing
+  stepped-by (Running.HueSaturationMoveTo run) = some false (hueSaturationPassed (foundIn l) run _) (both-plain _ _ _)
+  stepped-by (Running.HueMove run) = one false (huePassed (foundIn l) run) refl (omega arith) (omega arith) (omega arith)
+  stepped-by (Running.SaturationMove run) = one false (saturationPassed (foundIn l) run) refl (omega arith) (omega arith) (omega arith)
+  stepped-by (Running.ColorTemperatureMoveTo run) =
+      one false (temperatureToPassed (foundIn l) run (permilleOf (l .clock - run .start) (run .task .ms))) refl (omega arith) (omega arith) (omega arith)
+  stepped-by (Running.ColorTemperatureMove run) = one false (temperaturePassed (foundIn l) run) refl (omega arith) (omega arith) (omega arith)
+  stepped-by (Running.ColorLoop direction hue seconds start) =
+      one false (loopPassed (foundIn l) (loopRun direction hue seconds start)) refl (omega arith) (omega arith) (omega arith)
+
+module _ (l : Lamp) where
+  -- with the full time in front, 14
+  few : (full : Bool) (p : Passed) → Plain p → length (only full RemainingTime ++ passReported p (l .looping .active)) ≤ 14
+  few full p plain =
+      rw length-append
+      (omega (arith, only-one full RemainingTime, pass-few p (l .looping .active), ap (λ b. length (only b EnhancedCurrentHue)) (plain .unenhanced)))
+
+  low : (full : Bool) (p : Passed) → Plain p → Below 17 (only full RemainingTime ++ passReported p (l .looping .active))
+  low full p plain =
+      below-append (below-only full RemainingTime (omega arith))
+      (pass-below 17 (omega arith) p (l .looping .active) (plain .first) (plain .second) (plain .device))
+
+  -- a start reports at most 14, and so does a step
+  pub started-few : (task : Task) → length (started l task .reported) ≤ 14
+  started-few = started-by l (λ xs. length xs ≤ 14) (omega arith) few
+
   pub stepped-few : (r : Running) → length (stepped l r .reported) ≤ 14
-  unfolding stepped hueSaturationMoved timed temperatureToMoved temperaturePassed huePassed saturationPassed loopPassed
-  stepped-few Running.Idle = omega arith
-  stepped-few (Running.HueSaturationMoveTo run) = few false (hueSaturationPassed (foundIn l) run _) (saturation-plain _ (run .task .saturation) _ _ _)
-  stepped-few (Running.HueMove run) = few false (huePassed (foundIn l) run) refl
-  stepped-few (Running.SaturationMove run) = few false (saturationPassed (foundIn l) run) refl
-  stepped-few (Running.ColorTemperatureMoveTo run) = few false (temperatureToPassed (foundIn l) run (permilleOf (l .clock - run .start) (run .task .ms))) refl
-  stepped-few (Running.ColorTemperatureMove run) = few false (temperaturePassed (foundIn l) run) refl
-  stepped-few (Running.ColorLoop direction hue seconds start) = few false (loopPassed (foundIn l) (loopRun direction hue seconds start)) refl
+  stepped-few = stepped-by l (λ xs. length xs ≤ 14) (omega arith) few
+
+  -- and none from 17 on
+  pub started-below : (task : Task) → Below 17 (started l task .reported)
+  started-below = started-by l (λ xs. Below 17 xs) none low
+
+  pub stepped-below : (r : Running) → Below 17 (stepped l r .reported)
+  stepped-below = stepped-by l (λ xs. Below 17 xs) none low

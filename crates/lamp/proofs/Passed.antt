@@ -11,10 +11,10 @@ use Rattle.notices.specs.Names.{RemainingTime, EnhancedCurrentHue}
 use Rattle.notices.specs.Notices.{only, noted}
 use Rattle.notices.proofs.Laws.{only-one}
 use Rattle.notices.specs.Numerals.{empty, inFront, placed}
-use Rattle.notices.proofs.Numerals.{Bytes, bytes-append, bytes-only, in-front-append, placed-noted}
+use Rattle.notices.proofs.Numerals.{Below, Bytes, below-append, below-only, in-front-append, placed-noted}
 use Rattle.color.specs.Setters.{changeReported}
 use Rattle.color.proofs.Kept.{change-few}
-use Rattle.color.proofs.Laws.{change-bytes}
+use Rattle.color.proofs.Laws.{change-below}
 use Rattle.lamp.specs.declared.passes.Passed.{Passed}
 use Rattle.lamp.specs.declared.Lamp.{Lamp}
 use Rattle.lamp.specs.Calls.{fullWritten}
@@ -36,13 +36,14 @@ pass-few p active =
     (omega
     (arith, change-few (p .first) active, only-one (p .first .enhanced) EnhancedCurrentHue, change-few (p .second) active, only-one (ltb 0 (p .device)) (p .device), only-one (p .time) RemainingTime))
 
--- which are bytes
-pub pass-bytes : (p : Passed) (active : Bool) → p .first .attribute < 256 → p .second .attribute < 256 → p .device < 256 → Bytes (passReported p active)
-pass-bytes p active h k d =
-    bytes-append (change-bytes (p .first) active h)
-    (bytes-append
-    (bytes-append (change-bytes (p .second) active k) (bytes-only (ltb 0 (p .device)) (p .device) d))
-    (bytes-only (p .time) RemainingTime (omega arith)))
+-- which are below every bound that is above 14, its attributes and its device
+pub pass-below : (bound : ℕ) → 14 < bound → (p : Passed) (active : Bool) → p .first .attribute < bound → p .second .attribute < bound
+    → p .device < bound → Below bound (passReported p active)
+pass-below bound high p active h k d =
+    below-append (change-below bound high (p .first) active h)
+    (below-append
+    (below-append (change-below bound high (p .second) active k) (below-only (ltb 0 (p .device)) (p .device) d))
+    (below-only (p .time) RemainingTime (omega arith)))
 
 -- the list of a start or a step, with the full time in front where it is reported
 pub left-placed : (p : Passed) (active : Bool) → Bytes (passReported p active) → (full : Bool) →
@@ -52,6 +53,6 @@ left-placed p active b full =
     ap (λ m. placed (inFront (only full RemainingTime) m)) (in-front-append (changeReported (p .first) active) (reportedBehind p active) empty)
     ∙ ap placed (in-front-append (only full RemainingTime) (passReported p active) empty)
     ∙ placed-noted (only full RemainingTime ++ passReported p active)
-    (bytes-append (bytes-only full RemainingTime (omega arith)) b)
+    (below-append (below-only full RemainingTime (omega arith)) b)
     (rw length-append
     (omega (arith, only-one full RemainingTime, pass-few p active, only-one (p .second .enhanced) EnhancedCurrentHue)))

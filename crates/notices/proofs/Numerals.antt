@@ -3,27 +3,51 @@ use Prim.Native.Nat.{ℕ, zero, suc, _+_, _-_, _*_, _%_, _/_, _≤_, _<_}
 use mathlib.Core.Bool.{Bool, true, false}
 use mathlib.Core.Path.{_≡_, refl, sym, ap, _∙_}
 use mathlib.Core.List.{List, [], _∷_, _++_}
-use native.Mathlib.Nat.{div-div-eq-div-mul, mod-eq-of-lt}
+use native.Mathlib.Nat.{div-div-eq-div-mul, mod-eq-of-lt, lt-of-lt-of-le}
 use native.Mathlib.Omega.{arith}
 use lib.Arith.{mod-mul}
-use lib.ListN.{length, replicate, take}
+use lib.ListN.{length, replicate, take, getD}
 use Rattle.notices.specs.declared.Notices.{Notices}
 use Rattle.notices.specs.declared.Numeral.{Numeral}
 use Rattle.notices.specs.Notices.{only, filled, noted}
 use Rattle.notices.specs.Numerals.{last, empty, consed, inFront, digits, placed}
 
+-- every number is below a bound
+pub data Below (bound : ℕ) : List ℕ → Type 0 where
+  none : Below bound []
+  more : {x : ℕ} {xs : List ℕ} → x < bound → Below bound xs → Below bound (x ∷ xs)
+
+pub below-later : {low high : ℕ} {xs : List ℕ} → low ≤ high → Below low xs → Below high xs
+below-later h none = none
+below-later h (more k b) = more (lt-of-lt-of-le k h) (below-later h b)
+
+module _ {bound : ℕ} where
+  pub below-append : {xs ys : List ℕ} → Below bound xs → Below bound ys → Below bound (xs ++ ys)
+  below-append none b = b
+  below-append (more h a) b = more h (below-append a b)
+
+  pub below-only : (test : Bool) (number : ℕ) → number < bound → Below bound (only test number)
+  below-only true number h = more h none
+  below-only false number h = none
+
+  -- so is every place of a list, and with zeros behind it
+  module _ (positive : 0 < bound) where
+    pub below-at : {xs : List ℕ} → Below bound xs → (place : ℕ) → getD xs place 0 < bound
+    below-at none place = positive
+    below-at (more h b) zero = h
+    below-at (more h b) (suc place) = below-at b place
+
+    below-zeros : (n : ℕ) → Below bound (replicate n 0)
+    below-zeros zero = none
+    below-zeros (suc n) = more positive (below-zeros n)
+
+    pub below-filled : {xs : List ℕ} → Below bound xs → Below bound (filled xs)
+    unfolding filled
+    below-filled {xs} b = below-append b (below-zeros (16 - length xs))
+
 -- every number is a byte
-pub data Bytes : List ℕ → Type 0 where
-  none : Bytes []
-  more : {x : ℕ} {xs : List ℕ} → x < 256 → Bytes xs → Bytes (x ∷ xs)
-
-pub bytes-append : {xs ys : List ℕ} → Bytes xs → Bytes ys → Bytes (xs ++ ys)
-bytes-append none b = b
-bytes-append (more h a) b = more h (bytes-append a b)
-
-pub bytes-only : (test : Bool) (number : ℕ) → number < 256 → Bytes (only test number)
-bytes-only true number h = more h none
-bytes-only false number h = none
+abbrev pub Bytes : List ℕ → Type 0
+Bytes xs = Below 256 xs
 
 -- one list in front of another is the two in front
 pub in-front-append : (xs ys : List ℕ) (l : Numeral) → inFront xs (inFront ys l) ≡ inFront (xs ++ ys) l

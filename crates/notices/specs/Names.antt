@@ -1,4 +1,4 @@
--- "Notice numbers, in decimal, one byte each": document 01's list, under the attributes' names.
+-- "Notice numbers, in decimal, one byte each": document 01's list, under the attributes' names, and document 02's.
 use Prim.Native.Nat.{ℕ}
 
 abbrev pub RemainingTime : ℕ
@@ -56,3 +56,7 @@ deviceMireds = 16
 -- a task given
 abbrev pub taskGiven : ℕ
 taskGiven = 17
+
+-- document 02, A.6: the task given goes one of two equally long ways round
+abbrev pub hueTie : ℕ
+hueTie = 18

@@ -5,7 +5,7 @@ ghost use mathlib.Core.List.{[]};
 ghost use Rattle.notices.specs.Notices.{only, noted};
 ghost use Rattle.notices.specs.Numerals.{empty, consed, inFront, placed};
 
-// The numbers of the notices, as document 01 lists them.
+// The numbers of the notices, as document 01 lists them, and after them document 02's.
 pub const REMAINING_TIME: u8 = 1;
 
 pub const CURRENT_HUE: u8 = 2;
@@ -39,6 +39,9 @@ pub const DEVICE_HUE_SATURATION: u8 = 15;
 pub const DEVICE_MIREDS: u8 = 16;
 
 pub const TASK_GIVEN: u8 = 17;
+
+// Document 02's: a task given goes one of two equally long ways round.
+pub const HUE_TIE: u8 = 18;
 
 pub struct Notices {
     pub places: [u8; 16],

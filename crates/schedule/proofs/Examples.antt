@@ -19,7 +19,7 @@ use Rattle.matter.specs.All.{allTrue}
 use Rattle.matter.specs.Flags.{hasFlag}
 use Rattle.matter.specs.InRange.{InRangeCommand, InRangeRequest}
 use Rattle.matter.specs.Requests.{request}
-use Rattle.hue.specs.Hue.{distance, pathDelta, movedHue}
+use Rattle.hue.specs.Hue.{distance, pathDelta, isTie, movedHue}
 use Rattle.progress.specs.Progress.{permilleOf}
 use Rattle.color.specs.Valid.{colorValid}
 use Rattle.color.specs.Setters.{hueSet}
@@ -179,7 +179,7 @@ meets e inRangeLamp inRangeCalls valid accepted mayExecute started undisturbed =
     }
 
 pub all-meet : Premised paceKept × Premised noDelta × Premised noTime × Premised pastZero × Premised amongOthers
-unfolding after quiet answer commandCause commandAnswer firstCause lampValid allTrue colorValid runningValid moveToValid taskValid commandEffect startAnswer stepAnswer haltAnswer started stepped hueSaturationStart hueSaturationMoved timed hueSet permilleOf pathDelta distance movedHue hasFlag
+unfolding after quiet answer commandCause commandAnswer firstCause lampValid allTrue colorValid runningValid moveToValid taskValid commandEffect startAnswer stepAnswer haltAnswer started stepped hueSaturationStart hueSaturationMoved timed hueSet permilleOf pathDelta isTie distance movedHue hasFlag
 all-meet = (
   record {
     others = meets _ (in-range-lamp 0 (lit< tt))
@@ -215,7 +215,7 @@ all-meet = (
 
 -- and each accepted step comes at or after the wait that was asked
 pub all-wait : map waitsKept examples ≡ true ∷ true ∷ true ∷ true ∷ true ∷ []
-unfolding paced after answer commandCause commandAnswer firstCause lampValid allTrue colorValid runningValid moveToValid taskValid commandEffect startAnswer stepAnswer haltAnswer started stepped hueSaturationStart hueSaturationMoved timed hueSet permilleOf pathDelta distance movedHue hasFlag
+unfolding paced after answer commandCause commandAnswer firstCause lampValid allTrue colorValid runningValid moveToValid taskValid commandEffect startAnswer stepAnswer haltAnswer started stepped hueSaturationStart hueSaturationMoved timed hueSet permilleOf pathDelta isTie distance movedHue hasFlag
 all-wait = refl
 
 -- ---- what their lamps show, from the start on
@@ -228,10 +228,10 @@ pub all-show : map shown examples ≡
     ∷ (seen 60000 10 false ∷ seen 60653 9 false ∷ seen 60653 9 false ∷ seen 60653 9 false ∷ seen 60653 9 false ∷ seen 60653 9 false
     ∷ seen 60653 9 false ∷ seen 60653 9 false ∷ seen 60653 9 false ∷ seen 60653 9 false ∷ seen 1000 0 true ∷ seen 1000 0 true ∷ [])
     ∷ []
-unfolding observations after answer commandCause commandAnswer firstCause lampValid allTrue colorValid runningValid moveToValid taskValid commandEffect startAnswer stepAnswer haltAnswer started stepped hueSaturationStart hueSaturationMoved timed hueSet permilleOf pathDelta distance movedHue hasFlag
+unfolding observations after answer commandCause commandAnswer firstCause lampValid allTrue colorValid runningValid moveToValid taskValid commandEffect startAnswer stepAnswer haltAnswer started stepped hueSaturationStart hueSaturationMoved timed hueSet permilleOf pathDelta isTie distance movedHue hasFlag
 all-show = refl
 
 -- as many steps as tenths, where each comes as soon as it may
 pub all-take : map stepsTaken examples ≡ 2 ∷ 0 ∷ 0 ∷ 4 ∷ 2 ∷ []
-unfolding steps after answer commandCause commandAnswer firstCause lampValid allTrue colorValid runningValid moveToValid taskValid commandEffect startAnswer stepAnswer haltAnswer started stepped hueSaturationStart hueSaturationMoved timed hueSet permilleOf pathDelta distance movedHue hasFlag
+unfolding steps after answer commandCause commandAnswer firstCause lampValid allTrue colorValid runningValid moveToValid taskValid commandEffect startAnswer stepAnswer haltAnswer started stepped hueSaturationStart hueSaturationMoved timed hueSet permilleOf pathDelta isTie distance movedHue hasFlag
 all-take = refl

@@ -1,3 +1,4 @@
+pub mod Ascii
 pub mod Written
 pub mod Digits
 pub mod Words

@@ -4,7 +4,7 @@ use Rattle.matter.specs.All.{allTrue}
 use Rattle.matter.specs.Flags.{hasFlag}
 use Rattle.matter.specs.Rules.{defaultColorMode}
 use Rattle.notices.specs.Notices.{filled}
-use Rattle.hue.specs.Hue.{distance, pathDelta, movedHue}
+use Rattle.hue.specs.Hue.{distance, pathDelta, isTie, movedHue}
 use Rattle.progress.specs.Progress.{permilleOf, clamp}
 use Rattle.remaining_time.specs.RemainingTime.{reported}
 use Rattle.color.specs.Setters.{hueSet, saturationSet}
@@ -20,7 +20,7 @@ use Rattle.worked_examples.specs.Cases.{next}
 use Rattle.worked_examples.specs.Answers.{CommandsReported, FlagReported}
 
 commands-reported : CommandsReported
-unfolding hasFlag defaultColorMode allTrue colorValid moveToValid taskValid runningValid lampValid firstCause clamp distance pathDelta movedHue permilleOf reported filled hueSet saturationSet hueSaturationMoved timed hueSaturationStart started stepped startAnswer stepAnswer activated loopSet commandEffect commandCause commandAnswer next
+unfolding hasFlag defaultColorMode allTrue colorValid moveToValid taskValid runningValid lampValid firstCause clamp distance pathDelta isTie movedHue permilleOf reported filled hueSet saturationSet hueSaturationMoved timed hueSaturationStart started stepped startAnswer stepAnswer activated loopSet commandEffect commandCause commandAnswer next
 commands-reported = (refl, refl)
 
 flag-reported : FlagReported

@@ -1,11 +1,11 @@
--- The cases marked K, K1 to K12, follow from the definitions: K3 by the law of equal hues, the others by computation.
+-- The cases marked K, K1 to K12, follow from the definitions: K3 by the laws of equal hues, the others by computation.
 use mathlib.Core.Path.{refl}
 use Rattle.matter.specs.All.{allTrue}
 use Rattle.matter.specs.Flags.{hasFlag}
 use Rattle.matter.specs.Rules.{defaultColorMode}
 use Rattle.notices.specs.Notices.{filled}
-use Rattle.hue.specs.Hue.{distance, pathDelta, movedHue}
-use Rattle.hue.proofs.Laws.{equal-no-way}
+use Rattle.hue.specs.Hue.{distance, pathDelta, isTie, movedHue}
+use Rattle.hue.proofs.Laws.{equal-no-way, equal-no-tie}
 use Rattle.progress.specs.Progress.{permilleOf, snapped, loopTurn, clamp}
 use Rattle.remaining_time.specs.RemainingTime.{reported}
 use Rattle.color.specs.Setters.{hueSet, saturationSet, miredsSet}
@@ -21,6 +21,6 @@ use Rattle.worked_examples.specs.Cases.{next, stepsAt, fades}
 use Rattle.worked_examples.specs.Claim.{Claim}
 
 worked-examples : Claim
-unfolding allTrue hasFlag defaultColorMode distance pathDelta movedHue permilleOf snapped loopTurn clamp reported filled hueSet saturationSet miredsSet colorValid moveToValid taskValid runningValid lampValid firstCause hueSaturationMoved timed temperatureToMoved temperaturePassed loopPassed hueSaturationStart temperatureToStart temperatureStart started stepped startAnswer stepAnswer activated loopSet commandEffect commandCause commandAnswer next stepsAt fades
+unfolding allTrue hasFlag defaultColorMode distance pathDelta isTie movedHue permilleOf snapped loopTurn clamp reported filled hueSet saturationSet miredsSet colorValid moveToValid taskValid runningValid lampValid firstCause hueSaturationMoved timed temperatureToMoved temperaturePassed loopPassed hueSaturationStart temperatureToStart temperatureStart started stepped startAnswer stepAnswer activated loopSet commandEffect commandCause commandAnswer next stepsAt fades
 worked-examples =
-    (refl, (refl, (equal-no-way, (refl, (refl, (refl, (refl, (refl, (refl, (refl, (refl, (refl, (refl, (refl, (refl, (refl, (refl, (refl, (refl, (refl, (refl, (refl, (refl, (refl, (refl, (refl, (refl, (refl, tt))))))))))))))))))))))))))))
+    (refl, (refl, (λ hue direction h. rw (equal-no-way hue direction h, equal-no-tie hue direction h), (refl, (refl, (refl, (refl, (refl, (refl, (refl, (refl, (refl, (refl, (refl, (refl, (refl, (refl, (refl, (refl, (refl, (refl, (refl, (refl, (refl, (refl, (refl, (refl, (refl, tt))))))))))))))))))))))))))))

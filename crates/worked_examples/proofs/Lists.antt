@@ -4,7 +4,7 @@ use Rattle.matter.specs.All.{allTrue}
 use Rattle.matter.specs.Flags.{hasFlag}
 use Rattle.matter.specs.Rules.{defaultColorMode}
 use Rattle.notices.specs.Notices.{filled}
-use Rattle.hue.specs.Hue.{distance, pathDelta, movedHue}
+use Rattle.hue.specs.Hue.{distance, pathDelta, isTie, movedHue}
 use Rattle.progress.specs.Progress.{permilleOf, clamp, snapped}
 use Rattle.remaining_time.specs.RemainingTime.{reported}
 use Rattle.color.specs.Setters.{hueSet, saturationSet}
@@ -20,15 +20,15 @@ use Rattle.worked_examples.specs.Cases.{next, stepsAt}
 use Rattle.worked_examples.specs.Lists.{FadeCommand, FadeReported, FadeWaits, StartReported, AtOnceReported, LoopReported, NoFlagReported, SnapAt}
 
 fade-command : FadeCommand
-unfolding hasFlag defaultColorMode allTrue colorValid runningValid lampValid firstCause clamp distance pathDelta commandEffect commandCause commandAnswer
+unfolding hasFlag defaultColorMode allTrue colorValid runningValid lampValid firstCause clamp distance pathDelta isTie commandEffect commandCause commandAnswer
 fade-command = refl
 
 fade-reported : FadeReported
-unfolding hasFlag defaultColorMode allTrue colorValid moveToValid taskValid runningValid lampValid firstCause clamp distance pathDelta movedHue permilleOf reported filled hueSet hueSaturationMoved timed hueSaturationStart started stepped startAnswer stepAnswer commandEffect commandCause commandAnswer next stepsAt
+unfolding hasFlag defaultColorMode allTrue colorValid moveToValid taskValid runningValid lampValid firstCause clamp distance pathDelta isTie movedHue permilleOf reported filled hueSet hueSaturationMoved timed hueSaturationStart started stepped startAnswer stepAnswer commandEffect commandCause commandAnswer next stepsAt
 fade-reported = refl
 
 fade-waits : FadeWaits
-unfolding hasFlag defaultColorMode allTrue colorValid moveToValid taskValid runningValid lampValid firstCause clamp distance pathDelta movedHue permilleOf reported filled hueSet hueSaturationMoved timed hueSaturationStart started stepped startAnswer stepAnswer commandEffect commandCause commandAnswer next stepsAt
+unfolding hasFlag defaultColorMode allTrue colorValid moveToValid taskValid runningValid lampValid firstCause clamp distance pathDelta isTie movedHue permilleOf reported filled hueSet hueSaturationMoved timed hueSaturationStart started stepped startAnswer stepAnswer commandEffect commandCause commandAnswer next stepsAt
 fade-waits = refl
 
 start-reported : StartReported

@@ -13,6 +13,7 @@ use Rattle.matter.specs.declared.enums.DirectionEnum.{DirectionEnum}
 use Rattle.matter.specs.declared.enums.MoveModeEnum.{MoveModeEnum}
 use Rattle.matter.specs.declared.enums.OnOff.{OnOff}
 use Rattle.matter.specs.declared.enums.StepModeEnum.{StepModeEnum}
+use Rattle.notices.specs.declared.Notices.{Notices}
 use Rattle.tasks.specs.declared.GivenTask.{GivenTask}
 use Rattle.tasks.specs.declared.HueDelta.{HueDelta}
 use Rattle.tasks.specs.declared.TargetSaturation.{TargetSaturation}
@@ -46,19 +47,25 @@ pub record Row : Type 0 where
   pub onOff : OnOff
   pub answer : Lamp → Answer
 
-abbrev pub gave : Task → Lamp → Answer
-gave task l =
-    record {
-      number = 0;
-      lamp = later l;
-      notices = record { places = 17 ∷ replicate 15 0; len = 1 };
-      task = GivenTask.Given task;
-      wait = 0;
-    }
+abbrev pub gaveWith : Notices → Task → Lamp → Answer
+gaveWith notices task l =
+    record { number = 0; lamp = later l; notices = notices; task = GivenTask.Given task; wait = 0 }
 
--- a task and 17; off, the same; off, skipped: no task, the clock set; refused: the lamp as it was
+abbrev pub gave : Task → Lamp → Answer
+gave task l = gaveWith (record { places = 17 ∷ replicate 15 0; len = 1 }) task l
+
+-- a task and 17; with a tie 18 behind it; off, the same; off, skipped: no task, the clock set; refused: the lamp as it
+-- was
 abbrev pub gives : Command → Task → Row
 gives c task = record { command = c; onOff = OnOff.On; answer = gave task }
+
+abbrev pub ties : Command → Task → Row
+ties c task =
+    record {
+      command = c;
+      onOff = OnOff.On;
+      answer = gaveWith (record { places = 17 ∷ 18 ∷ replicate 14 0; len = 2 }) task;
+    }
 
 abbrev pub givesOff : Command → Task → Row
 givesOff c task = record { command = c; onOff = OnOff.Off; answer = gave task }
@@ -126,6 +133,15 @@ commands =
     ∷ gives (Command.EnhancedMoveHue MoveModeEnum.Down 1000) (hueMove MoveModeEnum.Down 1000 true)
     ∷ gives (Command.EnhancedStepHue StepModeEnum.Up 1000 7) (toHue (pos 1000) true)
     ∷ gives Command.StopMoveStep Task.Stop
+    -- half way round: Shortest and Longest tie, whatever the saturation; Up, Down and steps never
+    ∷ ties (Command.MoveToHue 128 DirectionEnum.Shortest 7) (toHue (pos 32768) false)
+    ∷ ties (Command.MoveToHueAndSaturation 128 0 7 false 0) (toBoth (pos 32768) 0 false)
+    ∷ ties (Command.MoveToHueAndSaturation 0 77 7 true 32768) (toBoth (pos 32768) 77 true)
+    ∷ ties (Command.EnhancedMoveToHue 32768 DirectionEnum.Longest 7) (toHue (negℤ (pos 32768)) true)
+    ∷ gives (Command.EnhancedMoveToHue 32767 DirectionEnum.Shortest 7) (toHue (pos 32767) true)
+    ∷ gives (Command.MoveToHue 128 DirectionEnum.Up 7) (toHue (pos 32768) false)
+    ∷ gives (Command.MoveToHue 128 DirectionEnum.Down 7) (toHue (negℤ (pos 32768)) false)
+    ∷ gives (Command.StepHue StepModeEnum.Up 128 7) (toHue (pos 32768) false)
     -- the target clamped to the bounds; a move's own limits with only 0 replaced, crossed ones too
     ∷ gives (Command.MoveToColorTemperature 10 7) (toMireds 153)
     ∷ gives (Command.MoveToColorTemperature 600 7) (toMireds 500)

@@ -15,7 +15,8 @@ use Rattle.matter.specs.declared.enums.DirectionEnum.{DirectionEnum}
 use Rattle.matter.specs.declared.enums.MoveModeEnum.{MoveModeEnum}
 use Rattle.matter.specs.declared.enums.OnOff.{OnOff}
 use Rattle.matter.specs.Causes.{accepted, invalidTask}
-use Rattle.hue.specs.Hue.{pathDelta}
+use Rattle.hue.specs.declared.HuePath.{HuePath}
+use Rattle.hue.specs.Hue.{huePath}
 use Rattle.progress.specs.Progress.{permilleOf, partOf, tenthsOf}
 use Rattle.remaining_time.specs.RemainingTime.{reported}
 use Rattle.tasks.specs.declared.GivenTask.{GivenTask}
@@ -136,9 +137,9 @@ abbrev EndPoint : Type 0
 EndPoint = ℕ × ℕ × Bool
 
 pub data Case : Type 0 where
-  -- from one hue to another, in a direction: the way
-  way : ℕ → ℕ → DirectionEnum → ℤ → Case
-  -- "equal hues, any direction: 0"
+  -- from one hue to another, in a direction: the way, and whether it is a tie
+  way : ℕ → ℕ → DirectionEnum → ℤ → Bool → Case
+  -- "equal hues, any direction: 0"; document 02, A.6: and no tie
   equalHues : Case
   -- a plain move to a hue: the number of the answer
   moveToHue : ℕ → ℕ → Case
@@ -163,10 +164,14 @@ pub data Case : Type 0 where
 abbrev progressOf : ℤ → ℕ → ℕ → ℕ × ℤ
 progressOf w time elapsed = (permilleOf elapsed time, partOf w (permilleOf elapsed time))
 
+-- the answer of the distances
+abbrev path : ℤ → Bool → HuePath
+path delta tie = record { delta = delta; «is_tie» = tie }
+
 -- what a case says of the definitions
 abbrev pub Holds : Case → Type 0
-Holds (way from to direction answer) = pathDelta from to direction ≡ answer
-Holds equalHues = (hue : ℕ) (direction : DirectionEnum) → hue < 65536 → pathDelta hue hue direction ≡ pos 0
+Holds (way from to direction answer tie) = huePath from to direction ≡ path answer tie
+Holds equalHues = (hue : ℕ) (direction : DirectionEnum) → hue < 65536 → huePath hue hue direction ≡ path (pos 0) false
 Holds (moveToHue hue number) = given lamp (Command.MoveToHue hue DirectionEnum.Shortest 10) .number ≡ number
 Holds (progress w time elapsed permille part) = progressOf w time elapsed ≡ (permille, part)
 Holds (hues c start points) =
@@ -205,8 +210,8 @@ busy =
 abbrev pub cases : List Case
 cases =
     -- K1 and K2
-    way 0 32768 DirectionEnum.Shortest (pos 32768)
-    ∷ way 0 32768 DirectionEnum.Longest (negℤ (pos 32768))
+    way 0 32768 DirectionEnum.Shortest (pos 32768) true
+    ∷ way 0 32768 DirectionEnum.Longest (negℤ (pos 32768)) true
     -- K3
     ∷ equalHues
     -- K4

@@ -55,7 +55,7 @@ impl Both {
         use crate_side::Reply as Ours;
         use protocol::Reply as Theirs;
         match (theirs, ours) {
-            (Theirs::Delta(x), Ours::Delta(y)) => x == y,
+            (Theirs::Delta(x, t), Ours::Delta(y)) => *x == y.delta && *t == y.is_tie,
             (Theirs::Remaining(x, m), Ours::Remaining(y, n)) => x == y && m == n,
             (Theirs::Leave(x), Ours::Leave(y)) => x == y,
             (Theirs::ModeOf(x), Ours::ModeOf(y)) => x == y,

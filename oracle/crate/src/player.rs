@@ -3,7 +3,7 @@
 use oracle_lib::data;
 use oracle_lib::protocol::Call;
 use yemkruos::commands::{self, *};
-use yemkruos::hue::hue_path_delta;
+use yemkruos::hue::{HuePath, hue_path_delta};
 use yemkruos::lamp::{self, Answer, Lamp, Made};
 use yemkruos::matter::{Bounds, color_mode_of, should_continue};
 use yemkruos::remaining_time::RemainingTime;
@@ -17,7 +17,7 @@ use crate::setters::{Setter, set};
 // The answer is by far the most frequent.
 #[allow(clippy::large_enum_variant)]
 pub enum Reply {
-    Delta(i32),
+    Delta(HuePath),
     Remaining(bool, u16),
     Leave(bool),
     ModeOf(data::ColorModeEnum),

@@ -5,6 +5,7 @@
 
 use crate::commands::outcomes::Outcome;
 use crate::commands::outcomes::given;
+use crate::commands::outcomes::given_with;
 use crate::commands::with_options;
 use crate::hue::hue_path_delta;
 use crate::lamp::Answer;
@@ -46,6 +47,7 @@ pub(in crate::commands) fn step_delta(mode: StepModeEnum, size: u16) -> i64 {
 fn by_delta(
     lamp: Lamp,
     delta: i64,
+    is_tie: bool,
     saturation: TargetSaturation,
     tenths: u16,
     enhanced: bool,
@@ -56,19 +58,44 @@ fn by_delta(
         ms: (tenths as u32) * 100,
         enhanced: enhanced,
     };
-    given(lamp, Task::HueSaturationMoveTo(task))
+    given_with(lamp, Task::HueSaturationMoveTo(task), is_tie)
 }
 
-/// A move to a stored hue.
+/// A move to a stored hue, with a saturation or without.
 pub(in crate::commands) fn to_hue(
     lamp: Lamp,
     hue: u16,
     direction: DirectionEnum,
+    saturation: TargetSaturation,
     tenths: u16,
     enhanced: bool,
 ) -> Outcome {
-    let delta = hue_path_delta(lamp.color.hue, hue, direction) as i64;
-    by_delta(lamp, delta, TargetSaturation::Keep, tenths, enhanced)
+    let path = hue_path_delta(lamp.color.hue, hue, direction);
+    by_delta(
+        lamp,
+        path.delta as i64,
+        path.is_tie,
+        saturation,
+        tenths,
+        enhanced,
+    )
+}
+
+/// A move to a plain hue.
+pub(in crate::commands) fn to_plain_hue(
+    lamp: Lamp,
+    hue: u8,
+    direction: DirectionEnum,
+    tenths: u16,
+) -> Outcome {
+    to_hue(
+        lamp,
+        stored_hue(hue),
+        direction,
+        TargetSaturation::Keep,
+        tenths,
+        false,
+    )
 }
 
 /// The hue that a command with both means: the enhanced one, or the plain one on the stored circle.
@@ -90,10 +117,10 @@ pub(in crate::commands) fn to_both(
     enhanced_hue: u16,
 ) -> Outcome {
     let target = target_hue(hue, is_enhanced, enhanced_hue);
-    let delta = hue_path_delta(lamp.color.hue, target, DirectionEnum::Shortest) as i64;
-    by_delta(
+    to_hue(
         lamp,
-        delta,
+        target,
+        DirectionEnum::Shortest,
         TargetSaturation::To(saturation),
         tenths,
         is_enhanced,
@@ -111,6 +138,7 @@ pub(in crate::commands) fn step_hue(
     by_delta(
         lamp,
         step_delta(mode, size),
+        false,
         TargetSaturation::Keep,
         tenths,
         enhanced,

@@ -141,8 +141,10 @@ fn act(lamp: Lamp, acts: bool, action: ColorLoopActionEnum) -> Outcome {
     }
 }
 
+/// What the command does at its clock.
 pub(in crate::commands) fn set_loop(
     lamp: Lamp,
+    clock: u64,
     flags: u8,
     action: ColorLoopActionEnum,
     direction: ColorLoopDirectionEnum,
@@ -152,6 +154,7 @@ pub(in crate::commands) fn set_loop(
     let old = lamp.looping;
     let updated = updated_settings(old, flags, direction, time, start_hue);
     let changed = Lamp {
+        clock: clock,
         looping: updated,
         ..lamp
     };

@@ -5,6 +5,7 @@ use crate::color::Color;
 use crate::lamp::Lamp;
 use crate::lamp::LoopSettings;
 use crate::matter::ACCEPTED;
+use crate::notices::HUE_TIE;
 use crate::notices::Numeral;
 use crate::notices::TASK_GIVEN;
 use crate::tasks::GivenTask;
@@ -20,17 +21,22 @@ pub struct Outcome {
     pub task: GivenTask,
 }
 
-/// A task given.
-pub(in crate::commands) fn given(lamp: Lamp, task: Task) -> Outcome {
+/// A task given, for a way that may be a tie.
+pub(in crate::commands) fn given_with(lamp: Lamp, task: Task, is_tie: bool) -> Outcome {
     let color = lamp.color;
     let looping = lamp.looping;
     Outcome {
         number: ACCEPTED,
         color: color,
         looping: looping,
-        reported: Numeral::new().cons(TASK_GIVEN),
+        reported: Numeral::new().cons_if(is_tie, HUE_TIE).cons(TASK_GIVEN),
         task: GivenTask::Given(task),
     }
+}
+
+/// A task given.
+pub(in crate::commands) fn given(lamp: Lamp, task: Task) -> Outcome {
+    given_with(lamp, task, false)
 }
 
 /// Nothing done.

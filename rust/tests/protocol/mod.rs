@@ -57,7 +57,8 @@ impl Player {
     fn play(&mut self, line: Line) -> Option<String> {
         Some(match line {
             Line::Delta(current, target, direction) => {
-                hue_path_delta(current, target, direction).to_string()
+                let path = hue_path_delta(current, target, direction);
+                format!("{} {}", path.delta, path.is_tie as u8)
             }
             Line::Remaining(old, ms, is_start) => {
                 let mut remaining = RemainingTime { tenths: old };

@@ -1,17 +1,22 @@
 -- `arc::passes_through`: the sign of the way chooses the run.
-use mathlib.Core.Path.{_≡_, _∙_}
+use mathlib.Core.Path.{_≡_, ap, _∙_}
 use mir.Syntax.{w32}
 use mir.Val.{toZ, ofZ}
-use mir.ValLaws.{toZ-ofZ}
-use borrow.Author.Needs.{needs, sfits-of}
+use borrow.Author.Needs.{needs}
+use Rattle.hue.specs.declared.HuePath.{HuePath}
 use Rattle.hue.specs.Hue.{pathDelta}
 use Rattle.arc.specs.Arc.{passesThrough}
 use Rattle.arc.proofs.passes_through.Statement.{statement}
 use Rattle.arc.proofs.passes_through.Tie as tie
 
 -- what the machine reads back of the way
-read : (c : tie.After-hue-path-delta) → toZ w32 (ofZ w32 (c .hue-path-delta .result)) ≡ pathDelta (c .before .args .found) (c .before .args .target) (c .before .args .direction)
-read c = toZ-ofZ w32 _ (sfits-of (c .hue-path-delta .ok)) ∙ c .hue-path-delta .ensures
+module _ (c : tie.After-struct-told) where
+  plain : toZ w32 (ofZ w32 (c .before .before .hue-path-delta .result .delta)) ≡ c .before .before .hue-path-delta .result .delta
+  plain = search needs
+
+  read : toZ w32 (ofZ w32 (c .before .before .hue-path-delta .result .delta))
+      ≡ pathDelta (c .before .before .before .args .found) (c .before .before .before .args .target) (c .before .before .before .args .direction)
+  read = plain ∙ ap (λ (p : HuePath). p .delta) (c .before .before .hue-path-delta .ensures)
 
 hue-path-delta-requires : tie.Need-hue-path-delta-requires
 hue-path-delta-requires c κs = search needs

@@ -7,11 +7,8 @@ use Rattle.commands.proofs.execute.Tie as tie
 enum-known-command : tie.Need-enum-known-command
 enum-known-command c = search needs
 
-stored-hue-requires : tie.Need-stored-hue-requires
-stored-hue-requires c κs = search needs
-
-to-hue-requires : tie.Need-to-hue-requires
-to-hue-requires c κs = search needs
+to-plain-hue-requires : tie.Need-to-plain-hue-requires
+to-plain-hue-requires c κs = search needs
 
 enum-known-command-2 : tie.Need-enum-known-command-2
 enum-known-command-2 c = search needs
@@ -25,8 +22,8 @@ move-hue-requires c κs = search needs
 enum-known-command-3 : tie.Need-enum-known-command-3
 enum-known-command-3 c = search needs
 
-stored-hue-requires-2 : tie.Need-stored-hue-requires-2
-stored-hue-requires-2 c κs = search needs
+stored-hue-requires : tie.Need-stored-hue-requires
+stored-hue-requires c κs = search needs
 
 step-hue-requires : tie.Need-step-hue-requires
 step-hue-requires c κs = search needs
@@ -58,8 +55,8 @@ to-both-requires c κs = search needs
 enum-known-command-8 : tie.Need-enum-known-command-8
 enum-known-command-8 c = search needs
 
-to-hue-requires-2 : tie.Need-to-hue-requires-2
-to-hue-requires-2 c κs = search needs
+to-hue-requires : tie.Need-to-hue-requires
+to-hue-requires c κs = search needs
 
 enum-known-command-9 : tie.Need-enum-known-command-9
 enum-known-command-9 c = search needs
@@ -97,9 +94,6 @@ step-mireds-requires c κs = search needs
 enum-known-command-14 : tie.Need-enum-known-command-14
 enum-known-command-14 c = search needs
 
-at-clock-requires : tie.Need-at-clock-requires
-at-clock-requires c κs = search needs
-
 set-loop-requires : tie.Need-set-loop-requires
 set-loop-requires c κs = search needs
 
@@ -111,7 +105,7 @@ given-requires c κs = search needs
 
 returns : tie.Need-returns
 unfolding commandEffect
-returns c = simp (c .to-hue .ensures, c .before .stored-hue .ensures, c .before .before .before .command .given .1)
+returns c = simp (c .to-plain-hue .ensures, c .before .before .command .given .1)
 
 returns-2 : tie.Need-returns-2
 unfolding commandEffect
@@ -119,7 +113,7 @@ returns-2 c = simp (c .move-hue .ensures, c .before .enhanced-rate .ensures, c .
 
 returns-3 : tie.Need-returns-3
 unfolding commandEffect
-returns-3 c = simp (c .step-hue .ensures, c .before .stored-hue2 .ensures, c .before .before .before .command3 .given .1)
+returns-3 c = simp (c .step-hue .ensures, c .before .stored-hue .ensures, c .before .before .before .command3 .given .1)
 
 returns-4 : tie.Need-returns-4
 unfolding commandEffect
@@ -139,7 +133,7 @@ returns-7 c = simp (c .to-both .ensures, c .before .before .command7 .given .1)
 
 returns-8 : tie.Need-returns-8
 unfolding commandEffect
-returns-8 c = simp (c .to-hue2 .ensures, c .before .before .command8 .given .1)
+returns-8 c = simp (c .to-hue .ensures, c .before .before .command8 .given .1)
 
 returns-9 : tie.Need-returns-9
 unfolding commandEffect
@@ -163,7 +157,7 @@ returns-13 c = simp (c .step-mireds .ensures, c .before .before .command13 .give
 
 returns-14 : tie.Need-returns-14
 unfolding commandEffect
-returns-14 c = simp (c .set-loop .ensures, c .before .at-clock .ensures, c .before .before .before .command14 .given .1)
+returns-14 c = simp (c .set-loop .ensures, c .before .before .command14 .given .1)
 
 returns-15 : tie.Need-returns-15
 unfolding commandEffect
@@ -174,13 +168,12 @@ execute-spec =
     tie.close
     (tie.spec
     enum-known-command
-    stored-hue-requires
-    to-hue-requires
+    to-plain-hue-requires
     enum-known-command-2
     enhanced-rate-requires
     move-hue-requires
     enum-known-command-3
-    stored-hue-requires-2
+    stored-hue-requires
     step-hue-requires
     enum-known-command-4
     to-saturation-requires
@@ -191,7 +184,7 @@ execute-spec =
     enum-known-command-7
     to-both-requires
     enum-known-command-8
-    to-hue-requires-2
+    to-hue-requires
     enum-known-command-9
     cast-move-hue
     move-hue-requires-2
@@ -204,7 +197,6 @@ execute-spec =
     enum-known-command-13
     step-mireds-requires
     enum-known-command-14
-    at-clock-requires
     set-loop-requires
     enum-told
     given-requires

@@ -12,11 +12,17 @@ hue-path-delta-requires c κs = search needs
 
 cast-signed : tie.Need-cast-signed
 cast-signed c =
-    let fits : SFits w32 (c .before .hue-path-delta .result) = record { sfits = c .before .hue-path-delta .ok } in
+    let fits : SFits w32 (c .before .before .before .hue-path-delta .result .delta) = search needs in
     rw (toZ-ofZ w32 _ fits) (wider fits)
 
 signed-requires : tie.Need-signed-requires
 signed-requires c κs = search needs
+
+byte-requires : tie.Need-byte-requires
+byte-requires c κs = search needs
+
+bit-requires : tie.Need-bit-requires
+bit-requires c κs = search needs
 
 same-length : tie.Need-same-length
 same-length c = search needs
@@ -26,4 +32,12 @@ returns c = search needs
 
 pub delta-spec : {M : Type 1} → statement M
 delta-spec =
-    tie.close (tie.spec hue-path-delta-requires cast-signed signed-requires same-length returns)
+    tie.close
+    (tie.spec
+    hue-path-delta-requires
+    cast-signed
+    signed-requires
+    byte-requires
+    bit-requires
+    same-length
+    returns)

@@ -1,26 +1,15 @@
-use Rattle.integers.proofs.Sizes.{wider, read-wider}
-use mir.ValLaws.{toZ-ofZ}
-use mir.Syntax.{w32}
-use borrow.Author.Needs.{needs, sfits-of}
+use borrow.Author.Needs.{needs}
 use Rattle.commands.proofs.hues.to_both.Statement.{statement}
 use Rattle.commands.proofs.hues.to_both.Tie as tie
 
 target-hue-requires : tie.Need-target-hue-requires
 target-hue-requires c κs = search needs
 
-hue-path-delta-requires : tie.Need-hue-path-delta-requires
-hue-path-delta-requires c κs = search needs
-
-cast-delta : tie.Need-cast-delta
-cast-delta c = rw (toZ-ofZ w32 _ (sfits-of (c .hue-path-delta .ok))) (wider (sfits-of (c .hue-path-delta .ok)))
-
-by-delta-requires : tie.Need-by-delta-requires
-by-delta-requires c κs = search needs
+to-hue-requires : tie.Need-to-hue-requires
+to-hue-requires c κs = search needs
 
 returns : tie.Need-returns
-returns c =
-    simp (c .by-delta .ensures, read-wider (c .before .hue-path-delta .result) (sfits-of (c .before .hue-path-delta .ok)))
-    (simp (c .before .hue-path-delta .ensures, c .before .before .target-hue .ensures))
+returns c = simp (c .to-hue .ensures, c .before .target-hue .ensures)
 
 pub to-both-spec : {M : Type 1} → statement M
-to-both-spec = tie.close (tie.spec target-hue-requires hue-path-delta-requires cast-delta by-delta-requires returns)
+to-both-spec = tie.close (tie.spec target-hue-requires to-hue-requires returns)

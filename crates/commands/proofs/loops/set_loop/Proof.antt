@@ -1,6 +1,7 @@
 -- The flags first, then the action where its flag is set.
 use Rattle.matter.specs.Flags.{hasFlag, updateAction}
 use Rattle.lamp.specs.declared.Lamp.{Lamp}
+use Rattle.lamp.specs.Answers.{atClock}
 use Rattle.commands.specs.Commands.{withLoop, updated, updatedReported, loopSet}
 use Rattle.commands.proofs.LoopLaws.{done-fronted}
 use borrow.Author.Needs.{needs}
@@ -25,7 +26,7 @@ returns c =
     let at-act = c .before .before .before .before in
     let at-settings = at-act .before .before .before .before .before in
     let args = at-settings .before .before .args in
-    let changed : Lamp = withLoop (args .lamp) (args .lamp .color) (updated (args .lamp .looping) (args .flags) (args .direction) (args .time) (args .start-hue)) in
+    let changed : Lamp = withLoop (atClock (args .lamp) (args .clock)) (args .lamp .color) (updated (args .lamp .looping) (args .flags) (args .direction) (args .time) (args .start-hue)) in
     rw (c .before .before .cons-updated .ensures, at-act .act .ensures, at-act .before .contains .ensures, at-settings .updated-settings .ensures)
     (done-fronted changed (updatedReported (args .flags)) (hasFlag (args .flags) updateAction) (args .action))
 

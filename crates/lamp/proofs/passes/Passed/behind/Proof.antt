@@ -1,6 +1,7 @@
 -- The notices of each part are put in front of those behind it. The attributes and the device are bytes.
 use Prim.Native.Nat.{_<_}
-use Rattle.lamp.proofs.Passed.{behind-in-front, pass-bytes}
+use native.Mathlib.Omega.{arith}
+use Rattle.lamp.proofs.Passed.{behind-in-front, pass-below}
 use borrow.Author.Needs.{needs}
 use Rattle.lamp.proofs.passes.Passed.behind.Statement.{statement}
 use Rattle.lamp.proofs.passes.Passed.behind.Tie as tie
@@ -28,7 +29,7 @@ returns c =
     let start = k3 .before .before in
     let bytes = attributes start in (
       rw (c .cons .ensures, k1 .cons-if2 .ensures, k2 .cons-if .ensures, k3 .new .ensures) (behind-in-front _ _ _),
-      pass-bytes (start .args .self) (start .args .loop-active) (bytes .0) (bytes .1) (bytes .2),
+      pass-below 256 (omega arith) (start .args .self) (start .args .loop-active) (bytes .0) (bytes .1) (bytes .2),
     )
 
 pub behind-spec : {M : Type 1} → statement M
