@@ -7,4 +7,3 @@ pub mod Calls
 pub mod Answers
 pub mod Exported
 pub mod RoundTrips
-pub mod Examples
