@@ -73,11 +73,20 @@ pub fn all() -> Vec<Row> {
     let turns = [StepModeEnum::Up, StepModeEnum::Down];
     let byte = |r: &mut Random| r.below(254) as u8 + 1;
     let word = |r: &mut Random| r.below(65_535) as u16 + 1;
+    // A target half-way round from hue 0 is a tie, which the Rust does not report.
+    let plain_hue = |r: &mut Random| match byte(r) {
+        128 => 127,
+        hue => hue,
+    };
+    let enhanced_hue = |r: &mut Random| match word(r) {
+        32_768 => 32_767,
+        hue => hue,
+    };
     let mireds = |r: &mut Random| 153 + r.below(348) as u16;
     vec![
         list("harness alone", CALLS, 70, |_| Call::Nothing),
         command("move_to_hue", |r| {
-            Command::MoveToHue(byte(r), pick(r, &directions), word(r))
+            Command::MoveToHue(plain_hue(r), pick(r, &directions), word(r))
         }),
         command("move_hue", |r| {
             Command::MoveHue(pick(r, &moves), byte(r), r.below(2) == 1)
@@ -95,10 +104,16 @@ pub fn all() -> Vec<Row> {
             Command::StepSaturation(pick(r, &turns), byte(r), word(r))
         }),
         command("move_to_hue_and_saturation", |r| {
-            Command::MoveToHueAndSaturation(byte(r), byte(r), word(r), r.below(2) == 1, word(r))
+            Command::MoveToHueAndSaturation(
+                plain_hue(r),
+                byte(r),
+                word(r),
+                r.below(2) == 1,
+                enhanced_hue(r),
+            )
         }),
         command("enhanced_move_to_hue", |r| {
-            Command::EnhancedMoveToHue(word(r), pick(r, &directions), word(r))
+            Command::EnhancedMoveToHue(enhanced_hue(r), pick(r, &directions), word(r))
         }),
         command("enhanced_move_hue", |r| {
             Command::EnhancedMoveHue(pick(r, &moves), word(r))

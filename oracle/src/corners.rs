@@ -31,7 +31,7 @@ struct Answer {
     silent: bool,
     /// How often 1 is among the notices.
     told: usize,
-    /// Whether 18 is the last of them.
+    /// Whether the list ends with 17 and 18.
     tied: bool,
     task: Option<Task>,
     running: bool,
@@ -127,7 +127,7 @@ const RECORD_WAYS: [&str; 20] = [
 
 const ENDS: &str = "ends";
 const LOOPS: &str = "snaps and whole turns";
-const TIES: &str = "ties";
+const TIES: &str = "half-way and equal hues";
 const CROSSED: &str = "crossed bounds";
 const CLAMPS: &str = "clamps of commands and starts";
 const MAKINGS: &str = "makings";

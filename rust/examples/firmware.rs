@@ -96,7 +96,7 @@ fn main() -> Result<(), Refusal> {
 
     println!("6000 MoveToHue, then StopMoveStep");
     firmware.command(
-        Command::move_to_hue(0, DirectionEnum::Up, 20),
+        Command::move_to_hue(0, DirectionEnum::Shortest, 20),
         OnOff::On,
         6000,
     )?;

@@ -26,7 +26,7 @@ macro_rules! numbered {
             /// All of them, by their numbers.
             pub const ALL: &'static [Self] = &[$(Self::$case),*];
 
-            /// The number of document 01.
+            /// The number of documents 01 and 02.
             pub const fn number(self) -> u8 {
                 match self {
                     $(Self::$case => $source::$number,)*
@@ -68,7 +68,8 @@ numbered! {
 impl Error for Refusal {}
 
 numbered! {
-    /// What a call asks its caller to do: report an attribute, store the state, write the device, take a task.
+    /// What a call asks its caller to do: report an attribute, store the state, write the device, take a task,
+    /// know of a tie.
     Notice of notices {
         RemainingTime = REMAINING_TIME: "RemainingTime is reported",
         CurrentHue = CURRENT_HUE: "CurrentHue is reported",
@@ -87,7 +88,7 @@ numbered! {
         DeviceHueSaturation = DEVICE_HUE_SATURATION: "the device is written: hue and saturation",
         DeviceMireds = DEVICE_MIREDS: "the device is written: mireds",
         TaskGiven = TASK_GIVEN: "a task is given",
-        HueTie = HUE_TIE: "the way of the task given is one of two equally long ones",
+        HueTie = HUE_TIE: "the hue of the task given goes half the circle, and the other way round is as long",
     }
 }
 

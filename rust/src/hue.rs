@@ -19,7 +19,7 @@ fn minus(n: u16) -> i32 {
     -(n as i32)
 }
 
-/// The way from one hue to another, signed. A tie: Shortest or Longest had to choose between two equally long ones.
+/// The signed delta from one hue to another. A tie: Shortest or Longest was asked, and both distances are 32,768.
 #[derive(Clone, Copy, Debug, PartialEq, Eq)]
 pub struct HuePath {
     pub delta: i32,
@@ -39,7 +39,7 @@ fn chosen_delta(up: u16, down: u16, direction: DirectionEnum) -> i32 {
     }
 }
 
-/// Whether `direction` had to choose, and both distances are half the circle.
+/// Whether Shortest or Longest is asked, and both distances are half the circle.
 fn is_tie(up: u16, down: u16, direction: DirectionEnum) -> bool {
     match direction {
         DirectionEnum::Up | DirectionEnum::Down => false,
@@ -47,7 +47,7 @@ fn is_tie(up: u16, down: u16, direction: DirectionEnum) -> bool {
     }
 }
 
-/// The way from `current` to `target`, in the direction asked for.
+/// The delta from `current` to `target`, in the direction asked for.
 pub fn hue_path_delta(current: u16, target: u16, direction: DirectionEnum) -> HuePath {
     let up_distance = distance_up(current, target);
     let down_distance = distance_up(target, current);

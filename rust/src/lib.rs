@@ -9,8 +9,8 @@
 //!
 //! # A fade
 //!
-//! From red to cyan in two tenths of a second, at clock 5000. Both ways round are equally long: Shortest then goes up,
-//! and the answer says so.
+//! From red to cyan in two tenths of a second, at clock 5000. Both ways round are equally long, which
+//! the answer reports ([`Notice::HueTie`]); Shortest then goes up.
 //!
 //! ```
 //! use yemkruos::{ALL_FEATURES, Bounds, Command, DirectionEnum, NewLamp, Notice, OnOff, Refusal};

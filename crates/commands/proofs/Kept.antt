@@ -37,7 +37,7 @@ use Rattle.lamp.specs.declared.Call.{Call}
 use Rattle.lamp.specs.InRange.{InRangeLamp, InRangeCall}
 use Rattle.lamp.proofs.InRangeKept.{started-any, stepped-any, in-range-of, clock-in-range, changed-in-range, started-in-range, stepped-in-range}
 use Rattle.commands.specs.Answers.{afterClock, allowed, commandCause, commandDone, commandAnswer, cause, answer, granted, clockOf, isLoopSet}
-use Rattle.commands.specs.Ties.{tieOf}
+use Rattle.commands.specs.Ties.{aimOf, aimTies}
 use Rattle.commands.specs.Commands.{CommandEffect, skip, givingWith, checks, withLoop, updated, updatedReported, acted, deactivated, activated, loopSet, commandEffect}
 
 -- ---- an answer is a refusal with its cause, or what is granted where there is none
@@ -78,7 +78,7 @@ module _ (l : Lamp) where
 
 module _ (l : Lamp) (P : CommandEffect → Type 0) where
   -- what holds of the first, a tie's notice behind it where there is one, and of the last holds of a command that runs
-  pub effect-by : (c : Command) → ((task : Task) → P (givingWith l task (only (tieOf (l .color .hue) c) hueTie))) → ((flags : ℕ) (action : ColorLoopActionEnum) (direction : ColorLoopDirectionEnum) (time hue : ℕ) → c ≡ Command.ColorLoopSet flags action direction time hue → P (loopSet l flags action direction time hue)) → P (commandEffect l c)
+  pub effect-by : (c : Command) → ((task : Task) → P (givingWith l task (only (aimTies (l .color .hue) (aimOf c)) hueTie))) → ((flags : ℕ) (action : ColorLoopActionEnum) (direction : ColorLoopDirectionEnum) (time hue : ℕ) → c ≡ Command.ColorLoopSet flags action direction time hue → P (loopSet l flags action direction time hue)) → P (commandEffect l c)
   unfolding commandEffect
   effect-by (Command.MoveToHue hue direction time) gives loops = gives _
   effect-by (Command.MoveHue mode rate enhanced) gives loops = gives _
@@ -100,7 +100,7 @@ module _ (l : Lamp) (P : CommandEffect → Type 0) where
   pub done-by : ((task : Task) (tie : Bool) → P (givingWith l task (only tie hueTie))) → (r : Request) (onOff : OnOff) → P (skip l) → ((flags : ℕ) (action : ColorLoopActionEnum) (direction : ColorLoopDirectionEnum) (time hue : ℕ) → r .command ≡ Command.ColorLoopSet flags action direction time hue → P (loopSet l flags action direction time hue)) → P (commandDone l r onOff)
   done-by gives r onOff passes loops =
       cond-both P (checks (r .command) .stop) _ _ (λ e. gives Task.Stop false)
-      (λ e. cond-both P (allowed l r onOff) _ _ (λ t. effect-by (r .command) (λ task. gives task (tieOf (l .color .hue) (r .command))) loops) (λ t. passes))
+      (λ e. cond-both P (allowed l r onOff) _ _ (λ t. effect-by (r .command) (λ task. gives task (aimTies (l .color .hue) (aimOf (r .command)))) loops) (λ t. passes))
 
 -- a command other than the colour loop's leaves the lamp
 quiet-done : (l : Lamp) (r : Request) (onOff : OnOff) → isLoopSet (r .command) ≡ false → commandDone l r onOff .lamp ≡ l

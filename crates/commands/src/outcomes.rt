@@ -23,7 +23,7 @@ pub struct Outcome {
     pub task: GivenTask,
 }
 
-// A task given, for a way that may be a tie.
+// A task given, and its tie reported where there is one.
 pub(crate) fn given_with(lamp: Lamp, task: Task, is_tie: bool) -> Outcome
     ensures { λ r. ⌜ r ≡ acceptedOutcome (givingWith lamp task (only «is_tie» hueTie)) ⌝ }
 {

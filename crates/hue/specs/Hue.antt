@@ -24,7 +24,7 @@ chosen DirectionEnum.Down up down = negℤ (pos down)
 chosen DirectionEnum.Shortest up down = cond (leb up down) (pos up) (negℤ (pos down))
 chosen DirectionEnum.Longest up down = cond (ltb down up) (pos up) (negℤ (pos down))
 
--- the way from current to target
+-- the delta from current to target
 unfoldable pub pathDelta : ℕ → ℕ → DirectionEnum → ℤ
 pathDelta current target direction = chosen direction (distance current target) (distance target current)
 

@@ -25,7 +25,7 @@ fn minus(n: u16) -> i32
     -(n as i32)
 }
 
-// The way from one hue to another, signed. A tie: Shortest or Longest had to choose between two equally long ones.
+// The signed delta from one hue to another. A tie: Shortest or Longest was asked, and both distances are 32,768.
 pub struct HuePath {
     pub delta: i32,
     pub is_tie: bool,
@@ -46,7 +46,7 @@ fn chosen_delta(up: u16, down: u16, direction: DirectionEnum) -> i32
     }
 }
 
-// Whether `direction` had to choose, and both distances are half the circle.
+// Whether Shortest or Longest is asked, and both distances are half the circle.
 fn is_tie(up: u16, down: u16, direction: DirectionEnum) -> bool
     ensures { λ r. ⌜ r ≡ tied direction up down ⌝ }
 {
@@ -56,7 +56,7 @@ fn is_tie(up: u16, down: u16, direction: DirectionEnum) -> bool
     }
 }
 
-// The way from `current` to `target`, in the direction asked for.
+// The delta from `current` to `target`, in the direction asked for.
 pub fn hue_path_delta(current: u16, target: u16, direction: DirectionEnum) -> HuePath
     ensures { λ r. ⌜ r ≡ huePath current target direction ⌝ }
 {

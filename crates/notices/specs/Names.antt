@@ -57,6 +57,6 @@ deviceMireds = 16
 abbrev pub taskGiven : ℕ
 taskGiven = 17
 
--- document 02, A.6: the task given goes one of two equally long ways round
+-- document 02, A.6: the hue of the task given goes half the circle, and the other way round is as long
 abbrev pub hueTie : ℕ
 hueTie = 18

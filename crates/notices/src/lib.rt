@@ -40,7 +40,7 @@ pub const DEVICE_MIREDS: u8 = 16;
 
 pub const TASK_GIVEN: u8 = 17;
 
-// Document 02's: a task given goes one of two equally long ways round.
+// Document 02's: the hue of the task given goes half the circle, and the other way round is as long.
 pub const HUE_TIE: u8 = 18;
 
 pub struct Notices {

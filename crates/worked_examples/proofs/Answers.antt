@@ -70,8 +70,8 @@ gaveWith notices task l =
 abbrev pub gave : Task → Lamp → Answer
 gave task l = gaveWith (record { places = 17 ∷ replicate 15 0; len = 1 }) task l
 
--- a task and 17; with a tie 18 behind it; off, the same; off, skipped: no task, the clock set; refused: the lamp as it
--- was
+-- `gives`: a task and 17; `ties`: and 18 behind it; `givesOff`: as `gives`, off; `passes`: off and skipped, no task, the
+-- clock set; `refuses`, `refusesOff`: the lamp as it was
 abbrev pub gives : Command → Task → Row
 gives c task = record { command = c; onOff = OnOff.On; answer = gave task }
 
@@ -201,6 +201,8 @@ abbrev pub busyCommands : List Row
 busyCommands =
     gives (Command.MoveToHue 0 DirectionEnum.Shortest 7) (toHue (negℤ (pos 16384)) false)
     ∷ gives (Command.EnhancedMoveToHue 0 DirectionEnum.Longest 7) (toHue (pos 49152) true)
+    ∷ ties (Command.EnhancedMoveToHue 49152 DirectionEnum.Shortest 7) (toHue (pos 32768) true)
+    ∷ gives (Command.MoveToHue 128 DirectionEnum.Shortest 7) (toHue (pos 16384) false)
     ∷ gives (Command.StepSaturation StepModeEnum.Up 40 7) (toSaturation 90)
     ∷ gives (Command.StepSaturation StepModeEnum.Up 205 7) (toSaturation 254)
     ∷ gives (Command.StepSaturation StepModeEnum.Down 40 7) (toSaturation 10)

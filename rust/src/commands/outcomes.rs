@@ -21,7 +21,7 @@ pub struct Outcome {
     pub task: GivenTask,
 }
 
-/// A task given, for a way that may be a tie.
+/// A task given, and its tie reported where there is one.
 pub(in crate::commands) fn given_with(lamp: Lamp, task: Task, is_tie: bool) -> Outcome {
     let color = lamp.color;
     let looping = lamp.looping;
