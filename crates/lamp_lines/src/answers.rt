@@ -1,8 +1,6 @@
 // Writing answers. As in `text`, what does not fit is left out; the caller makes room before a line.
-use color::Color;
 use lamp::Answer;
 use lamp::Lamp;
-use lamp::LoopSettings;
 use notices::Notices;
 use tasks::ColorLoop;
 use tasks::ColorTemperatureMove;
@@ -19,76 +17,98 @@ use text::writer::byte;
 use text::writer::decimal;
 use text::writer::signed;
 use text::writer::text;
+ghost use mathlib.Core.Path.{_≡_};
+ghost use mathlib.Core.List.{_++_};
+ghost use Rattle.text.specs.Ascii.{ascii};
+ghost use Rattle.text.specs.Written.{Written};
+ghost use Rattle.lamp_lines.specs.Answers.{numberText, signedText, numbersText, bit, lampNumbers, noticesText, deltaText, targetText, taskText, givenText, statusText, refusedText, runningText, reportedText, answerText};
 
-fn bar(out: &mut [u8], at: usize) -> usize {
+fn bar(out: &mut [u8], at: usize) -> usize
+    ensures { λ r. ⌜ Written (now (out .entry)) at (ascii " |") (now (out .exit)) r ⌝ }
+{
     text(out, at, b" |")
 }
 
 // A number after a blank.
-fn long(out: &mut [u8], at: usize, n: u64) -> usize {
+fn number(out: &mut [u8], at: usize, n: u64) -> usize
+    ensures { λ r. ⌜ Written (now (out .entry)) at (numberText n) (now (out .exit)) r ⌝ }
+{
     let next = byte(out, at, b' ');
     decimal(out, next, n)
 }
 
-fn word(out: &mut [u8], at: usize, n: u32) -> usize {
-    long(out, at, n as u64)
+// The same of a signed number.
+fn signed_number(out: &mut [u8], at: usize, n: i64) -> usize
+    ensures { λ r. ⌜ Written (now (out .entry)) at (signedText n) (now (out .exit)) r ⌝ }
+{
+    let next = byte(out, at, b' ');
+    signed(out, next, n)
 }
 
-fn short(out: &mut [u8], at: usize, n: u16) -> usize {
-    long(out, at, n as u64)
+fn flag(b: bool) -> u64
+    ensures { λ r. ⌜ r ≡ bit b ⌝ }
+{
+    if b { 1 } else { 0 }
 }
 
-fn octet(out: &mut [u8], at: usize, n: u8) -> usize {
-    long(out, at, n as u64)
-}
-
-fn flag(out: &mut [u8], at: usize, b: bool) -> usize {
-    if b {
-        long(out, at, 1)
-    } else {
-        long(out, at, 0)
+fn numbers(out: &mut [u8], at: usize, list: &[u64]) -> usize
+    ensures { λ r. ⌜ Written (now (out .entry)) at (numbersText (now (list .entry))) (now (out .exit)) r ⌝ }
+{
+    let mut end = at;
+    let mut i = 0;
+    while i < list.len() {
+        end = number(out, end, list[i]);
+        i += 1;
     }
+    end
 }
 
-fn color(out: &mut [u8], at: usize, color: Color) -> usize {
+// A name, and numbers after it.
+fn named(out: &mut [u8], at: usize, name: &[u8], list: &[u64]) -> usize
+    ensures { λ r. ⌜ Written (now (out .entry)) at (now (name .entry) ++ numbersText (now (list .entry))) (now (out .exit)) r ⌝ }
+{
+    let next = text(out, at, name);
+    numbers(out, next, list)
+}
+
+fn fields(out: &mut [u8], at: usize, lamp: Lamp) -> usize
+    ensures { λ r. ⌜ Written (now (out .entry)) at (numbersText (lampNumbers lamp)) (now (out .exit)) r ⌝ }
+{
+    let bounds = lamp.bounds;
+    let remaining = lamp.remaining;
+    let color = lamp.color;
     let stamps = color.stamps;
     let mode = color.mode;
     let emode = color.emode;
-    let a = long(out, at, stamps.hue);
-    let b = long(out, a, stamps.saturation);
-    let c = long(out, b, stamps.mireds);
-    let d = short(out, c, color.hue);
-    let e = octet(out, d, color.saturation);
-    let f = short(out, e, color.mireds);
-    let g = octet(out, f, mode.number());
-    octet(out, g, emode.number())
-}
-
-fn loop_settings(out: &mut [u8], at: usize, settings: LoopSettings) -> usize {
-    let direction = settings.direction;
-    let a = flag(out, at, settings.active);
-    let b = octet(out, a, direction.number());
-    let c = short(out, b, settings.time);
-    let d = short(out, c, settings.start);
-    short(out, d, settings.stored)
-}
-
-fn fields(out: &mut [u8], at: usize, lamp: Lamp) -> usize {
-    let bounds = lamp.bounds;
-    let remaining = lamp.remaining;
-    let shade = lamp.color;
     let looping = lamp.looping;
-    let a = short(out, at, bounds.min);
-    let b = short(out, a, bounds.max);
-    let c = long(out, b, lamp.clock);
-    let d = octet(out, c, lamp.options);
-    let e = short(out, d, remaining.tenths);
-    let f = color(out, e, shade);
-    loop_settings(out, f, looping)
+    let direction = looping.direction;
+    let list = [
+        bounds.min as u64,
+        bounds.max as u64,
+        lamp.clock,
+        lamp.options as u64,
+        remaining.tenths as u64,
+        stamps.hue,
+        stamps.saturation,
+        stamps.mireds,
+        color.hue as u64,
+        color.saturation as u64,
+        color.mireds as u64,
+        mode.number() as u64,
+        emode.number() as u64,
+        flag(looping.active),
+        direction.number() as u64,
+        looping.time as u64,
+        looping.start as u64,
+        looping.stored as u64,
+    ];
+    numbers(out, at, &list)
 }
 
 // The notices in their order; `-` where there is none.
-fn notices(out: &mut [u8], at: usize, list: Notices) -> usize {
+fn notices(out: &mut [u8], at: usize, list: Notices) -> usize
+    ensures { λ r. ⌜ Written (now (out .entry)) at (noticesText list) (now (out .exit)) r ⌝ }
+{
     let places = list.places;
     let len = list.len;
     if len == 0 {
@@ -100,75 +120,94 @@ fn notices(out: &mut [u8], at: usize, list: Notices) -> usize {
         if len <= i {
             break;
         }
-        end = octet(out, end, places[i]);
+        end = number(out, end, places[i] as u64);
         i += 1;
     }
     end
 }
 
-fn way(out: &mut [u8], at: usize, delta: HueDelta) -> usize {
+fn delta(out: &mut [u8], at: usize, delta: HueDelta) -> usize
+    ensures { λ r. ⌜ Written (now (out .entry)) at (deltaText delta) (now (out .exit)) r ⌝ }
+{
     match delta {
         HueDelta::Keep => text(out, at, b" -"),
-        HueDelta::By(way) => {
-            let next = byte(out, at, b' ');
-            signed(out, next, way)
-        }
+        HueDelta::By(delta) => signed_number(out, at, delta),
     }
 }
 
-fn target(out: &mut [u8], at: usize, saturation: TargetSaturation) -> usize {
-    match saturation {
+fn target(out: &mut [u8], at: usize, target: TargetSaturation) -> usize
+    ensures { λ r. ⌜ Written (now (out .entry)) at (targetText target) (now (out .exit)) r ⌝ }
+{
+    match target {
         TargetSaturation::Keep => text(out, at, b" -"),
-        TargetSaturation::To(target) => octet(out, at, target),
+        TargetSaturation::To(saturation) => number(out, at, saturation as u64),
     }
 }
 
-fn move_to(out: &mut [u8], at: usize, task: HueSaturationMoveTo) -> usize {
-    let delta = task.delta;
+fn move_to(out: &mut [u8], at: usize, task: HueSaturationMoveTo) -> usize
+    ensures { λ r. ⌜ Written (now (out .entry)) at (taskText (Task.HueSaturationMoveTo task)) (now (out .exit)) r ⌝ }
+{
+    let hue = task.delta;
     let saturation = task.saturation;
     let a = text(out, at, b" move_to");
-    let b = way(out, a, delta);
+    let b = delta(out, a, hue);
     let c = target(out, b, saturation);
-    let d = word(out, c, task.ms);
-    flag(out, d, task.enhanced)
+    numbers(out, c, &[task.ms as u64, flag(task.enhanced)])
 }
 
-fn hue_move(out: &mut [u8], at: usize, task: HueMove) -> usize {
+fn hue_move(out: &mut [u8], at: usize, task: HueMove) -> usize
+    ensures { λ r. ⌜ Written (now (out .entry)) at (taskText (Task.HueMove task)) (now (out .exit)) r ⌝ }
+{
     let direction = task.direction;
-    let a = text(out, at, b" hue_move");
-    let b = octet(out, a, direction.number());
-    let c = word(out, b, task.rate);
-    flag(out, c, task.enhanced)
+    let list = [
+        direction.number() as u64,
+        task.rate as u64,
+        flag(task.enhanced),
+    ];
+    named(out, at, b" hue_move", &list)
 }
 
-fn saturation_move(out: &mut [u8], at: usize, task: SaturationMove) -> usize {
+fn saturation_move(out: &mut [u8], at: usize, task: SaturationMove) -> usize
+    ensures { λ r. ⌜ Written (now (out .entry)) at (taskText (Task.SaturationMove task)) (now (out .exit)) r ⌝ }
+{
     let direction = task.direction;
-    let a = text(out, at, b" sat_move");
-    let b = octet(out, a, direction.number());
-    word(out, b, task.rate)
+    named(
+        out,
+        at,
+        b" sat_move",
+        &[direction.number() as u64, task.rate as u64],
+    )
 }
 
-fn mireds_to(out: &mut [u8], at: usize, task: ColorTemperatureMoveTo) -> usize {
-    let a = text(out, at, b" ct_to");
-    let b = short(out, a, task.target);
-    word(out, b, task.ms)
+fn mireds_to(out: &mut [u8], at: usize, task: ColorTemperatureMoveTo) -> usize
+    ensures { λ r. ⌜ Written (now (out .entry)) at (taskText (Task.ColorTemperatureMoveTo task)) (now (out .exit)) r ⌝ }
+{
+    named(out, at, b" ct_to", &[task.target as u64, task.ms as u64])
 }
 
-fn mireds_move(out: &mut [u8], at: usize, task: ColorTemperatureMove) -> usize {
-    let a = text(out, at, b" ct_move ");
-    let b = signed(out, a, task.rate);
-    let c = short(out, b, task.min);
-    short(out, c, task.max)
+fn mireds_move(out: &mut [u8], at: usize, task: ColorTemperatureMove) -> usize
+    ensures { λ r. ⌜ Written (now (out .entry)) at (taskText (Task.ColorTemperatureMove task)) (now (out .exit)) r ⌝ }
+{
+    let a = text(out, at, b" ct_move");
+    let b = signed_number(out, a, task.rate);
+    numbers(out, b, &[task.min as u64, task.max as u64])
 }
 
-fn color_loop(out: &mut [u8], at: usize, task: ColorLoop) -> usize {
+fn color_loop(out: &mut [u8], at: usize, task: ColorLoop) -> usize
+    ensures { λ r. ⌜ Written (now (out .entry)) at (taskText (Task.ColorLoop task)) (now (out .exit)) r ⌝ }
+{
     let direction = task.direction;
-    let a = text(out, at, b" loop");
-    let b = octet(out, a, direction.number());
-    short(out, b, task.seconds)
+    named(
+        out,
+        at,
+        b" loop",
+        &[direction.number() as u64, task.seconds as u64],
+    )
 }
 
-fn task(out: &mut [u8], at: usize, task: Task) -> usize {
+fn task(out: &mut [u8], at: usize, task: Task) -> usize
+    ensures { λ r. ⌜ Written (now (out .entry)) at (taskText task) (now (out .exit)) r ⌝ }
+{
     match task {
         Task::HueSaturationMoveTo(t) => move_to(out, at, t),
         Task::HueMove(t) => hue_move(out, at, t),
@@ -180,28 +219,35 @@ fn task(out: &mut [u8], at: usize, task: Task) -> usize {
     }
 }
 
-fn given(out: &mut [u8], at: usize, given: GivenTask) -> usize {
+fn given(out: &mut [u8], at: usize, given: GivenTask) -> usize
+    ensures { λ r. ⌜ Written (now (out .entry)) at (givenText given) (now (out .exit)) r ⌝ }
+{
     match given {
         GivenTask::Nothing => text(out, at, b" -"),
         GivenTask::Given(t) => task(out, at, t),
     }
 }
 
-fn status(out: &mut [u8], at: usize, number: u8) -> usize {
+fn status(out: &mut [u8], at: usize, number: u8) -> usize
+    ensures { λ r. ⌜ Written (now (out .entry)) at (statusText number) (now (out .exit)) r ⌝ }
+{
     if number == 0 {
         return text(out, at, b"ok");
     }
-    let next = text(out, at, b"refused");
-    octet(out, next, number)
+    named(out, at, b"refused", &[number as u64])
 }
 
 // A refusal that has no lamp.
-pub fn refused(out: &mut [u8], at: usize, number: u8) -> usize {
+pub fn refused(out: &mut [u8], at: usize, number: u8) -> usize
+    ensures { λ r. ⌜ Written (now (out .entry)) at (refusedText number) (now (out .exit)) r ⌝ }
+{
     let a = status(out, at, number);
     byte(out, a, b'\n')
 }
 
-fn ending(out: &mut [u8], at: usize, running: Running) -> usize {
+fn ending(out: &mut [u8], at: usize, running: Running) -> usize
+    ensures { λ r. ⌜ Written (now (out .entry)) at (runningText running) (now (out .exit)) r ⌝ }
+{
     if running.is_running() {
         text(out, at, b" running\n")
     } else {
@@ -210,16 +256,20 @@ fn ending(out: &mut [u8], at: usize, running: Running) -> usize {
 }
 
 // The notices, the task given and the wait.
-fn reported(out: &mut [u8], at: usize, list: Notices, task: GivenTask, wait: u64) -> usize {
+fn reported(out: &mut [u8], at: usize, list: Notices, task: GivenTask, wait: u64) -> usize
+    ensures { λ r. ⌜ Written (now (out .entry)) at (reportedText list task wait) (now (out .exit)) r ⌝ }
+{
     let a = bar(out, at);
     let b = notices(out, a, list);
     let c = bar(out, b);
     let d = given(out, c, task);
     let e = bar(out, d);
-    long(out, e, wait)
+    number(out, e, wait)
 }
 
-pub fn answer(out: &mut [u8], at: usize, answer: Answer) -> usize {
+pub fn answer(out: &mut [u8], at: usize, answer: Answer) -> usize
+    ensures { λ r. ⌜ Written (now (out .entry)) at (answerText answer) (now (out .exit)) r ⌝ }
+{
     let lamp = answer.lamp;
     let running = lamp.running;
     let list = answer.notices;

@@ -17,6 +17,9 @@ use matter::StepModeFound;
 use text::numbers;
 use text::words;
 use text::words::LOST;
+ghost use mathlib.Core.Path.{_≡_};
+ghost use Rattle.text.specs.Readers.{Reads};
+ghost use Rattle.lamp_lines.specs.Enums.{directionAt, moveModeAt, stepModeAt, loopActionAt, loopDirectionAt, colorModeAt, enhancedModeAt, onOffAt};
 
 pub struct DirectionRead {
     pub value: DirectionEnum,
@@ -58,7 +61,9 @@ pub struct OnOffRead {
     pub at: usize,
 }
 
-pub fn path_direction(line: &[u8], at: usize) -> DirectionRead {
+pub fn path_direction(line: &[u8], at: usize) -> DirectionRead
+    ensures { λ r. ⌜ Reads (directionAt (now (line .entry)) at) (r .value) (r .at) ⌝ }
+{
     let n = numbers::number_8(line, at);
     match DirectionEnum::of_number(n.value) {
         DirectionFound::Known(direction) => DirectionRead {
@@ -72,7 +77,9 @@ pub fn path_direction(line: &[u8], at: usize) -> DirectionRead {
     }
 }
 
-pub fn move_mode(line: &[u8], at: usize) -> MoveModeRead {
+pub fn move_mode(line: &[u8], at: usize) -> MoveModeRead
+    ensures { λ r. ⌜ Reads (moveModeAt (now (line .entry)) at) (r .value) (r .at) ⌝ }
+{
     let n = numbers::number_8(line, at);
     match MoveModeEnum::of_number(n.value) {
         MoveModeFound::Known(mode) => MoveModeRead {
@@ -86,7 +93,9 @@ pub fn move_mode(line: &[u8], at: usize) -> MoveModeRead {
     }
 }
 
-pub fn step_mode(line: &[u8], at: usize) -> StepModeRead {
+pub fn step_mode(line: &[u8], at: usize) -> StepModeRead
+    ensures { λ r. ⌜ Reads (stepModeAt (now (line .entry)) at) (r .value) (r .at) ⌝ }
+{
     let n = numbers::number_8(line, at);
     match StepModeEnum::of_number(n.value) {
         StepModeFound::Known(mode) => StepModeRead {
@@ -100,7 +109,9 @@ pub fn step_mode(line: &[u8], at: usize) -> StepModeRead {
     }
 }
 
-pub fn loop_action(line: &[u8], at: usize) -> LoopActionRead {
+pub fn loop_action(line: &[u8], at: usize) -> LoopActionRead
+    ensures { λ r. ⌜ Reads (loopActionAt (now (line .entry)) at) (r .value) (r .at) ⌝ }
+{
     let n = numbers::number_8(line, at);
     match ColorLoopActionEnum::of_number(n.value) {
         ColorLoopActionFound::Known(action) => LoopActionRead {
@@ -114,7 +125,9 @@ pub fn loop_action(line: &[u8], at: usize) -> LoopActionRead {
     }
 }
 
-pub fn loop_direction(line: &[u8], at: usize) -> LoopDirectionRead {
+pub fn loop_direction(line: &[u8], at: usize) -> LoopDirectionRead
+    ensures { λ r. ⌜ Reads (loopDirectionAt (now (line .entry)) at) (r .value) (r .at) ⌝ }
+{
     let n = numbers::number_8(line, at);
     match ColorLoopDirectionEnum::of_number(n.value) {
         ColorLoopDirectionFound::Known(direction) => LoopDirectionRead {
@@ -128,7 +141,9 @@ pub fn loop_direction(line: &[u8], at: usize) -> LoopDirectionRead {
     }
 }
 
-pub fn color_mode(line: &[u8], at: usize) -> ModeRead {
+pub fn color_mode(line: &[u8], at: usize) -> ModeRead
+    ensures { λ r. ⌜ Reads (colorModeAt (now (line .entry)) at) (r .value) (r .at) ⌝ }
+{
     let n = numbers::number_8(line, at);
     match ColorModeEnum::of_number(n.value) {
         ColorModeFound::Known(mode) => ModeRead {
@@ -142,7 +157,9 @@ pub fn color_mode(line: &[u8], at: usize) -> ModeRead {
     }
 }
 
-pub fn enhanced_mode(line: &[u8], at: usize) -> EnhancedModeRead {
+pub fn enhanced_mode(line: &[u8], at: usize) -> EnhancedModeRead
+    ensures { λ r. ⌜ Reads (enhancedModeAt (now (line .entry)) at) (r .value) (r .at) ⌝ }
+{
     let n = numbers::number_8(line, at);
     match EnhancedColorModeEnum::of_number(n.value) {
         EnhancedColorModeFound::Known(mode) => EnhancedModeRead {
@@ -157,23 +174,31 @@ pub fn enhanced_mode(line: &[u8], at: usize) -> EnhancedModeRead {
 }
 
 // `on`, `off`, or `none` where there is no on/off handler.
-pub fn on_off(line: &[u8], at: usize) -> OnOffRead {
-    let on = words::after(line, at, b"on");
-    if on != LOST {
+pub fn on_off(line: &[u8], at: usize) -> OnOffRead
+    ensures { λ r. ⌜ Reads (onOffAt (now (line .entry)) at) (r .value) (r .at) ⌝ }
+{
+    let name = words::start(line, at);
+    let end = words::end(line, name);
+    if words::is(line, name, b"on") {
         return OnOffRead {
             value: OnOff::On,
-            at: on,
+            at: end,
         };
     }
-    let off = words::after(line, at, b"off");
-    if off != LOST {
+    if words::is(line, name, b"off") {
         return OnOffRead {
             value: OnOff::Off,
-            at: off,
+            at: end,
+        };
+    }
+    if words::is(line, name, b"none") {
+        return OnOffRead {
+            value: OnOff::NoHandler,
+            at: end,
         };
     }
     OnOffRead {
         value: OnOff::NoHandler,
-        at: words::after(line, at, b"none"),
+        at: LOST,
     }
 }

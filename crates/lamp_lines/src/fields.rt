@@ -8,6 +8,9 @@ use matter::Bounds;
 use remaining_time::RemainingTime;
 use tasks::Running;
 use text::numbers;
+ghost use mathlib.Core.Path.{_≡_};
+ghost use Rattle.text.specs.Readers.{Reads};
+ghost use Rattle.lamp_lines.specs.Fields.{boundsAt, stampsAt, colorAt, loopSettingsAt, idleLampAt};
 
 pub struct BoundsRead {
     pub value: Bounds,
@@ -34,7 +37,9 @@ pub struct LampRead {
     pub at: usize,
 }
 
-pub fn bounds(line: &[u8], at: usize) -> BoundsRead {
+pub fn bounds(line: &[u8], at: usize) -> BoundsRead
+    ensures { λ r. ⌜ Reads (boundsAt (now (line .entry)) at) (r .value) (r .at) ⌝ }
+{
     let min = numbers::number_16(line, at);
     let max = numbers::number_16(line, min.at);
     BoundsRead {
@@ -46,7 +51,9 @@ pub fn bounds(line: &[u8], at: usize) -> BoundsRead {
     }
 }
 
-fn stamps(line: &[u8], at: usize) -> StampsRead {
+fn stamps(line: &[u8], at: usize) -> StampsRead
+    ensures { λ r. ⌜ Reads (stampsAt (now (line .entry)) at) (r .value) (r .at) ⌝ }
+{
     let hue = numbers::number_64(line, at);
     let saturation = numbers::number_64(line, hue.at);
     let mireds = numbers::number_64(line, saturation.at);
@@ -60,7 +67,9 @@ fn stamps(line: &[u8], at: usize) -> StampsRead {
     }
 }
 
-fn color(line: &[u8], at: usize) -> ColorRead {
+fn color(line: &[u8], at: usize) -> ColorRead
+    ensures { λ r. ⌜ Reads (colorAt (now (line .entry)) at) (r .value) (r .at) ⌝ }
+{
     let reported = stamps(line, at);
     let stamps = reported.value;
     let hue = numbers::number_16(line, reported.at);
@@ -83,7 +92,9 @@ fn color(line: &[u8], at: usize) -> ColorRead {
     }
 }
 
-fn loop_settings(line: &[u8], at: usize) -> LoopRead {
+fn loop_settings(line: &[u8], at: usize) -> LoopRead
+    ensures { λ r. ⌜ Reads (loopSettingsAt (now (line .entry)) at) (r .value) (r .at) ⌝ }
+{
     let active = numbers::flag(line, at);
     let way = enums::loop_direction(line, active.at);
     let direction = way.value;
@@ -103,7 +114,9 @@ fn loop_settings(line: &[u8], at: usize) -> LoopRead {
 }
 
 // An idle lamp with the fields that follow.
-pub fn idle_lamp(line: &[u8], at: usize) -> LampRead {
+pub fn idle_lamp(line: &[u8], at: usize) -> LampRead
+    ensures { λ r. ⌜ Reads (idleLampAt (now (line .entry)) at) (r .value) (r .at) ⌝ }
+{
     let limits = bounds(line, at);
     let bounds = limits.value;
     let clock = numbers::number_64(line, limits.at);

@@ -12,6 +12,9 @@ use tasks::Task;
 use text::numbers;
 use text::words;
 use text::words::LOST;
+ghost use mathlib.Core.Path.{_≡_};
+ghost use Rattle.text.specs.Readers.{Reads};
+ghost use Rattle.lamp_lines.specs.Moves.{deltaAt, targetAt, moveToAt, hueMoveAt, saturationMoveAt, miredsToAt, miredsMoveAt, colorLoopAt, taskAt};
 
 struct DeltaRead {
     value: HueDelta,
@@ -29,12 +32,14 @@ pub struct TaskRead {
 }
 
 // A way, or `-` for none.
-fn delta(line: &[u8], at: usize) -> DeltaRead {
-    let none = words::after(line, at, b"-");
-    if none != LOST {
+fn delta(line: &[u8], at: usize) -> DeltaRead
+    ensures { λ r. ⌜ Reads (deltaAt (now (line .entry)) at) (r .value) (r .at) ⌝ }
+{
+    let name = words::start(line, at);
+    if words::is(line, name, b"-") {
         return DeltaRead {
             value: HueDelta::Keep,
-            at: none,
+            at: words::end(line, name),
         };
     }
     let way = numbers::signed(line, at);
@@ -45,12 +50,14 @@ fn delta(line: &[u8], at: usize) -> DeltaRead {
 }
 
 // A saturation, or `-` for none.
-fn target(line: &[u8], at: usize) -> TargetRead {
-    let none = words::after(line, at, b"-");
-    if none != LOST {
+fn target(line: &[u8], at: usize) -> TargetRead
+    ensures { λ r. ⌜ Reads (targetAt (now (line .entry)) at) (r .value) (r .at) ⌝ }
+{
+    let name = words::start(line, at);
+    if words::is(line, name, b"-") {
         return TargetRead {
             value: TargetSaturation::Keep,
-            at: none,
+            at: words::end(line, name),
         };
     }
     let saturation = numbers::number_8(line, at);
@@ -60,7 +67,9 @@ fn target(line: &[u8], at: usize) -> TargetRead {
     }
 }
 
-fn move_to(line: &[u8], at: usize) -> TaskRead {
+fn move_to(line: &[u8], at: usize) -> TaskRead
+    ensures { λ r. ⌜ Reads (moveToAt (now (line .entry)) at) (r .value) (r .at) ⌝ }
+{
     let ways = delta(line, at);
     let delta = ways.value;
     let targets = target(line, ways.at);
@@ -78,7 +87,9 @@ fn move_to(line: &[u8], at: usize) -> TaskRead {
     }
 }
 
-fn hue_move(line: &[u8], at: usize) -> TaskRead {
+fn hue_move(line: &[u8], at: usize) -> TaskRead
+    ensures { λ r. ⌜ Reads (hueMoveAt (now (line .entry)) at) (r .value) (r .at) ⌝ }
+{
     let modes = enums::move_mode(line, at);
     let direction = modes.value;
     let rate = numbers::number_32(line, modes.at);
@@ -93,7 +104,9 @@ fn hue_move(line: &[u8], at: usize) -> TaskRead {
     }
 }
 
-fn saturation_move(line: &[u8], at: usize) -> TaskRead {
+fn saturation_move(line: &[u8], at: usize) -> TaskRead
+    ensures { λ r. ⌜ Reads (saturationMoveAt (now (line .entry)) at) (r .value) (r .at) ⌝ }
+{
     let modes = enums::move_mode(line, at);
     let direction = modes.value;
     let rate = numbers::number_32(line, modes.at);
@@ -106,7 +119,9 @@ fn saturation_move(line: &[u8], at: usize) -> TaskRead {
     }
 }
 
-fn mireds_to(line: &[u8], at: usize) -> TaskRead {
+fn mireds_to(line: &[u8], at: usize) -> TaskRead
+    ensures { λ r. ⌜ Reads (miredsToAt (now (line .entry)) at) (r .value) (r .at) ⌝ }
+{
     let target = numbers::number_16(line, at);
     let ms = numbers::number_32(line, target.at);
     TaskRead {
@@ -118,7 +133,9 @@ fn mireds_to(line: &[u8], at: usize) -> TaskRead {
     }
 }
 
-fn mireds_move(line: &[u8], at: usize) -> TaskRead {
+fn mireds_move(line: &[u8], at: usize) -> TaskRead
+    ensures { λ r. ⌜ Reads (miredsMoveAt (now (line .entry)) at) (r .value) (r .at) ⌝ }
+{
     let rate = numbers::signed(line, at);
     let min = numbers::number_16(line, rate.at);
     let max = numbers::number_16(line, min.at);
@@ -132,7 +149,9 @@ fn mireds_move(line: &[u8], at: usize) -> TaskRead {
     }
 }
 
-fn color_loop(line: &[u8], at: usize) -> TaskRead {
+fn color_loop(line: &[u8], at: usize) -> TaskRead
+    ensures { λ r. ⌜ Reads (colorLoopAt (now (line .entry)) at) (r .value) (r .at) ⌝ }
+{
     let ways = enums::loop_direction(line, at);
     let direction = ways.value;
     let seconds = numbers::number_16(line, ways.at);
@@ -146,7 +165,9 @@ fn color_loop(line: &[u8], at: usize) -> TaskRead {
 }
 
 // The task whose name begins at `name`, with its numbers from `at` on.
-pub fn task(line: &[u8], name: usize, at: usize) -> TaskRead {
+pub fn task(line: &[u8], name: usize, at: usize) -> TaskRead
+    ensures { λ r. ⌜ Reads (taskAt (now (line .entry)) name at) (r .value) (r .at) ⌝ }
+{
     if words::is(line, name, b"move_to") {
         return move_to(line, at);
     }
@@ -165,9 +186,14 @@ pub fn task(line: &[u8], name: usize, at: usize) -> TaskRead {
     if words::is(line, name, b"loop") {
         return color_loop(line, at);
     }
-    let known = words::is(line, name, b"stop");
+    if words::is(line, name, b"stop") {
+        return TaskRead {
+            value: Task::Stop,
+            at,
+        };
+    }
     TaskRead {
         value: Task::Stop,
-        at: if known { at } else { LOST },
+        at: LOST,
     }
 }

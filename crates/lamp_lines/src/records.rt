@@ -10,6 +10,9 @@ use tasks::Task;
 use text::numbers;
 use text::words;
 use text::words::LOST;
+ghost use mathlib.Core.Path.{_≡_};
+ghost use Rattle.text.specs.Readers.{Reads};
+ghost use Rattle.lamp_lines.specs.Records.{atStart, recordOf, valuesOf, runningAt};
 
 pub struct RecordRead {
     pub value: Running,
@@ -24,7 +27,9 @@ struct Initial {
     at: usize,
 }
 
-fn initial_values(line: &[u8], name: usize, at: usize) -> Initial {
+fn initial_values(line: &[u8], name: usize, at: usize) -> Initial
+    ensures { λ r. ⌜ Reads (atStart (now (line .entry)) name at) (valuesOf r) (r .at) ⌝ }
+{
     let clock = numbers::number_64(line, at);
     if words::is(line, name, b"sat_move") {
         let saturation = numbers::number_8(line, clock.at);
@@ -54,7 +59,9 @@ fn initial_values(line: &[u8], name: usize, at: usize) -> Initial {
 }
 
 // The record of a task: the limits of a move of the color temperature stand where its task has the caller's.
-fn record(initial: Initial, task: Task) -> Running {
+fn record(initial: Initial, task: Task) -> Running
+    ensures { λ r. ⌜ r ≡ recordOf (valuesOf initial) task ⌝ }
+{
     let start = initial.start;
     let number = initial.number;
     let saturation = initial.saturation;
@@ -102,7 +109,9 @@ fn record(initial: Initial, task: Task) -> Running {
     }
 }
 
-pub fn running(line: &[u8], at: usize) -> RecordRead {
+pub fn running(line: &[u8], at: usize) -> RecordRead
+    ensures { λ r. ⌜ Reads (runningAt (now (line .entry)) at) (r .value) (r .at) ⌝ }
+{
     let name = words::start(line, at);
     let end = words::end(line, name);
     if words::is(line, name, b"idle") {

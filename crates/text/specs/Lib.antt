@@ -4,3 +4,4 @@ pub mod Digits
 pub mod Words
 pub mod Numbers
 pub mod Pairs
+pub mod Readers

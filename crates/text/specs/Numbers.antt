@@ -40,6 +40,9 @@ read16 line at = record { value = numberRead line at 65535 .value; at = numberRe
 abbrev pub read32 : List ℕ → ℕ → Read32
 read32 line at = record { value = numberRead line at 4294967295 .value; at = numberRead line at 4294967295 .at }
 
+abbrev pub read64 : List ℕ → ℕ → Read64
+read64 line at = numberRead line at 18446744073709551615
+
 abbrev pub negated : Read64 → SignedRead
 negated n = record { value = negℤ (pos (n .value)); at = n .at }
 

@@ -43,7 +43,3 @@ same (x ∷ xs) (y ∷ ys) = eqb x y && same xs ys
 
 abbrev pub isWord : List ℕ → ℕ → List ℕ → Bool
 isWord line from text = same (wordAt line from) text
-
--- the end of the next word, where it is a text
-abbrev pub afterOf : List ℕ → ℕ → List ℕ → ℕ
-afterOf line at text = cond (isWord line (startOf line at) text) (endOf line (startOf line at)) lost

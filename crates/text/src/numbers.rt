@@ -9,7 +9,7 @@ ghost use Prim.Native.Nat.{_≤_};
 ghost use lib.Dec.{eqb};
 ghost use lib.IntN.{pos, negℤ};
 ghost use lib.ListN.{getD};
-ghost use Rattle.text.specs.Numbers.{noNumber, numberFrom, numberRead, flagRead, read8, read16, read32, signedRead};
+ghost use Rattle.text.specs.Numbers.{noNumber, numberFrom, numberRead, flagRead, read8, read16, read32, read64, signedRead};
 
 const MOST_8: u64 = 255;
 
@@ -128,7 +128,7 @@ pub fn number_32(line: &[u8], at: usize) -> Read32
 }
 
 pub fn number_64(line: &[u8], at: usize) -> Read64
-    ensures { λ r. ⌜ r ≡ numberRead (now (line .entry)) at 18446744073709551615 ⌝ }
+    ensures { λ r. ⌜ r ≡ read64 (now (line .entry)) at ⌝ }
 {
     number(line, at, MOST_64)
 }

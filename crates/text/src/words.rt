@@ -4,7 +4,7 @@
 ghost use mathlib.Core.Path.{_≡_};
 ghost use Prim.Native.Nat.{_≤_, max};
 ghost use lib.ListN.{length};
-ghost use Rattle.text.specs.Words.{findFrom, inWord, startOf, endOf, isWord, afterOf};
+ghost use Rattle.text.specs.Words.{findFrom, inWord, startOf, endOf, isWord};
 
 pub const LOST: usize = usize::MAX;
 
@@ -64,15 +64,4 @@ pub fn is(line: &[u8], from: usize, text: &[u8]) -> bool
         i += 1;
     }
     !in_word(line, at)
-}
-
-// The end of the next word, where that word is `text`.
-pub fn after(line: &[u8], at: usize, text: &[u8]) -> usize
-    ensures { λ r. ⌜ r ≡ afterOf (now (line .entry)) at (now (text .entry)) ⌝ }
-{
-    let from = start(line, at);
-    if is(line, from, text) {
-        return end(line, from);
-    }
-    LOST
 }

@@ -1,0 +1,5 @@
+pub mod Enums
+pub mod Fields
+pub mod Moves
+pub mod Records
+pub mod Answers
