@@ -8,6 +8,10 @@ use matter::Request;
 use text::numbers;
 use text::words;
 use text::words::LOST;
+ghost use mathlib.Core.Path.{_≡_};
+ghost use Rattle.text.specs.Readers.{Reads};
+ghost use Rattle.call_lines.specs.Commands.{moveToHueAt, moveHueAt, stepHueAt, enhancedMoveToHueAt, enhancedMoveHueAt, enhancedStepHueAt, moveToSaturationAt, moveSaturationAt, stepSaturationAt, moveToHueAndSaturationAt, moveToColorTemperatureAt, moveColorTemperatureAt, stepColorTemperatureAt, colorLoopSetAt, optionsAt, otherCommandAt, commandAt};
+ghost use Rattle.call_lines.specs.Calls.{invokeAt, beginAt, stepAt, haltAt};
 
 struct CommandRead {
     value: Command,
@@ -24,7 +28,9 @@ pub struct CallRead {
     pub at: usize,
 }
 
-fn move_to_hue(line: &[u8], at: usize) -> CommandRead {
+fn move_to_hue(line: &[u8], at: usize) -> CommandRead
+    ensures { λ r. ⌜ Reads (moveToHueAt (now (line .entry)) at) (r .value) (r .at) ⌝ }
+{
     let hue = numbers::number_8(line, at);
     let ways = enums::path_direction(line, hue.at);
     let direction = ways.value;
@@ -39,7 +45,9 @@ fn move_to_hue(line: &[u8], at: usize) -> CommandRead {
     }
 }
 
-fn move_hue(line: &[u8], at: usize) -> CommandRead {
+fn move_hue(line: &[u8], at: usize) -> CommandRead
+    ensures { λ r. ⌜ Reads (moveHueAt (now (line .entry)) at) (r .value) (r .at) ⌝ }
+{
     let modes = enums::move_mode(line, at);
     let mode = modes.value;
     let rate = numbers::number_8(line, modes.at);
@@ -54,7 +62,9 @@ fn move_hue(line: &[u8], at: usize) -> CommandRead {
     }
 }
 
-fn step_hue(line: &[u8], at: usize) -> CommandRead {
+fn step_hue(line: &[u8], at: usize) -> CommandRead
+    ensures { λ r. ⌜ Reads (stepHueAt (now (line .entry)) at) (r .value) (r .at) ⌝ }
+{
     let modes = enums::step_mode(line, at);
     let mode = modes.value;
     let size = numbers::number_8(line, modes.at);
@@ -69,7 +79,9 @@ fn step_hue(line: &[u8], at: usize) -> CommandRead {
     }
 }
 
-fn enhanced_move_to_hue(line: &[u8], at: usize) -> CommandRead {
+fn enhanced_move_to_hue(line: &[u8], at: usize) -> CommandRead
+    ensures { λ r. ⌜ Reads (enhancedMoveToHueAt (now (line .entry)) at) (r .value) (r .at) ⌝ }
+{
     let hue = numbers::number_16(line, at);
     let ways = enums::path_direction(line, hue.at);
     let direction = ways.value;
@@ -84,7 +96,9 @@ fn enhanced_move_to_hue(line: &[u8], at: usize) -> CommandRead {
     }
 }
 
-fn enhanced_move_hue(line: &[u8], at: usize) -> CommandRead {
+fn enhanced_move_hue(line: &[u8], at: usize) -> CommandRead
+    ensures { λ r. ⌜ Reads (enhancedMoveHueAt (now (line .entry)) at) (r .value) (r .at) ⌝ }
+{
     let modes = enums::move_mode(line, at);
     let mode = modes.value;
     let rate = numbers::number_16(line, modes.at);
@@ -97,7 +111,9 @@ fn enhanced_move_hue(line: &[u8], at: usize) -> CommandRead {
     }
 }
 
-fn enhanced_step_hue(line: &[u8], at: usize) -> CommandRead {
+fn enhanced_step_hue(line: &[u8], at: usize) -> CommandRead
+    ensures { λ r. ⌜ Reads (enhancedStepHueAt (now (line .entry)) at) (r .value) (r .at) ⌝ }
+{
     let modes = enums::step_mode(line, at);
     let mode = modes.value;
     let size = numbers::number_16(line, modes.at);
@@ -112,7 +128,9 @@ fn enhanced_step_hue(line: &[u8], at: usize) -> CommandRead {
     }
 }
 
-fn move_to_saturation(line: &[u8], at: usize) -> CommandRead {
+fn move_to_saturation(line: &[u8], at: usize) -> CommandRead
+    ensures { λ r. ⌜ Reads (moveToSaturationAt (now (line .entry)) at) (r .value) (r .at) ⌝ }
+{
     let saturation = numbers::number_8(line, at);
     let tenths = numbers::number_16(line, saturation.at);
     CommandRead {
@@ -124,7 +142,9 @@ fn move_to_saturation(line: &[u8], at: usize) -> CommandRead {
     }
 }
 
-fn move_saturation(line: &[u8], at: usize) -> CommandRead {
+fn move_saturation(line: &[u8], at: usize) -> CommandRead
+    ensures { λ r. ⌜ Reads (moveSaturationAt (now (line .entry)) at) (r .value) (r .at) ⌝ }
+{
     let modes = enums::move_mode(line, at);
     let mode = modes.value;
     let rate = numbers::number_8(line, modes.at);
@@ -137,7 +157,9 @@ fn move_saturation(line: &[u8], at: usize) -> CommandRead {
     }
 }
 
-fn step_saturation(line: &[u8], at: usize) -> CommandRead {
+fn step_saturation(line: &[u8], at: usize) -> CommandRead
+    ensures { λ r. ⌜ Reads (stepSaturationAt (now (line .entry)) at) (r .value) (r .at) ⌝ }
+{
     let modes = enums::step_mode(line, at);
     let mode = modes.value;
     let size = numbers::number_8(line, modes.at);
@@ -152,7 +174,9 @@ fn step_saturation(line: &[u8], at: usize) -> CommandRead {
     }
 }
 
-fn move_to_hue_and_saturation(line: &[u8], at: usize) -> CommandRead {
+fn move_to_hue_and_saturation(line: &[u8], at: usize) -> CommandRead
+    ensures { λ r. ⌜ Reads (moveToHueAndSaturationAt (now (line .entry)) at) (r .value) (r .at) ⌝ }
+{
     let hue = numbers::number_8(line, at);
     let saturation = numbers::number_8(line, hue.at);
     let tenths = numbers::number_16(line, saturation.at);
@@ -170,7 +194,9 @@ fn move_to_hue_and_saturation(line: &[u8], at: usize) -> CommandRead {
     }
 }
 
-fn move_to_color_temperature(line: &[u8], at: usize) -> CommandRead {
+fn move_to_color_temperature(line: &[u8], at: usize) -> CommandRead
+    ensures { λ r. ⌜ Reads (moveToColorTemperatureAt (now (line .entry)) at) (r .value) (r .at) ⌝ }
+{
     let mireds = numbers::number_16(line, at);
     let tenths = numbers::number_16(line, mireds.at);
     CommandRead {
@@ -182,7 +208,9 @@ fn move_to_color_temperature(line: &[u8], at: usize) -> CommandRead {
     }
 }
 
-fn move_color_temperature(line: &[u8], at: usize) -> CommandRead {
+fn move_color_temperature(line: &[u8], at: usize) -> CommandRead
+    ensures { λ r. ⌜ Reads (moveColorTemperatureAt (now (line .entry)) at) (r .value) (r .at) ⌝ }
+{
     let modes = enums::move_mode(line, at);
     let mode = modes.value;
     let rate = numbers::number_16(line, modes.at);
@@ -199,7 +227,9 @@ fn move_color_temperature(line: &[u8], at: usize) -> CommandRead {
     }
 }
 
-fn step_color_temperature(line: &[u8], at: usize) -> CommandRead {
+fn step_color_temperature(line: &[u8], at: usize) -> CommandRead
+    ensures { λ r. ⌜ Reads (stepColorTemperatureAt (now (line .entry)) at) (r .value) (r .at) ⌝ }
+{
     let modes = enums::step_mode(line, at);
     let mode = modes.value;
     let size = numbers::number_16(line, modes.at);
@@ -218,7 +248,9 @@ fn step_color_temperature(line: &[u8], at: usize) -> CommandRead {
     }
 }
 
-fn color_loop_set(line: &[u8], at: usize) -> CommandRead {
+fn color_loop_set(line: &[u8], at: usize) -> CommandRead
+    ensures { λ r. ⌜ Reads (colorLoopSetAt (now (line .entry)) at) (r .value) (r .at) ⌝ }
+{
     let flags = numbers::number_8(line, at);
     let actions = enums::loop_action(line, flags.at);
     let action = actions.value;
@@ -239,7 +271,9 @@ fn color_loop_set(line: &[u8], at: usize) -> CommandRead {
 }
 
 // Those of saturation and color temperature, the color loop and StopMoveStep.
-fn other_command(line: &[u8], name: usize, at: usize) -> CommandRead {
+fn other_command(line: &[u8], name: usize, at: usize) -> CommandRead
+    ensures { λ r. ⌜ Reads (otherCommandAt (now (line .entry)) name at) (r .value) (r .at) ⌝ }
+{
     if words::is(line, name, b"move_to_saturation") {
         return move_to_saturation(line, at);
     }
@@ -261,15 +295,22 @@ fn other_command(line: &[u8], name: usize, at: usize) -> CommandRead {
     if words::is(line, name, b"color_loop_set") {
         return color_loop_set(line, at);
     }
-    let known = words::is(line, name, b"stop_move_step");
+    if words::is(line, name, b"stop_move_step") {
+        return CommandRead {
+            value: Command::StopMoveStep,
+            at,
+        };
+    }
     CommandRead {
         value: Command::StopMoveStep,
-        at: if known { at } else { LOST },
+        at: LOST,
     }
 }
 
 // The command whose name begins at `name`, with its arguments from `at` on.
-fn command(line: &[u8], name: usize, at: usize) -> CommandRead {
+fn command(line: &[u8], name: usize, at: usize) -> CommandRead
+    ensures { λ r. ⌜ Reads (commandAt (now (line .entry)) name at) (r .value) (r .at) ⌝ }
+{
     if words::is(line, name, b"move_to_hue") {
         return move_to_hue(line, at);
     }
@@ -295,7 +336,9 @@ fn command(line: &[u8], name: usize, at: usize) -> CommandRead {
 }
 
 // The mask and the override.
-pub(crate) fn options(line: &[u8], at: usize) -> OptionsRead {
+pub(crate) fn options(line: &[u8], at: usize) -> OptionsRead
+    ensures { λ r. ⌜ Reads (optionsAt (now (line .entry)) at) (r .value) (r .at) ⌝ }
+{
     let mask = numbers::number_8(line, at);
     let overrides = numbers::number_8(line, mask.at);
     OptionsRead {
@@ -308,7 +351,9 @@ pub(crate) fn options(line: &[u8], at: usize) -> OptionsRead {
 }
 
 // A command's name, the on/off word, its arguments, its options and the clock.
-pub(crate) fn invoke(line: &[u8], at: usize) -> CallRead {
+pub(crate) fn invoke(line: &[u8], at: usize) -> CallRead
+    ensures { λ r. ⌜ Reads (invokeAt (now (line .entry)) at) (r .value) (r .at) ⌝ }
+{
     let name = words::start(line, at);
     let switch = enums::on_off(line, words::end(line, name));
     let on_off = switch.value;
@@ -327,7 +372,9 @@ pub(crate) fn invoke(line: &[u8], at: usize) -> CallRead {
     }
 }
 
-pub(crate) fn begin(line: &[u8], at: usize) -> CallRead {
+pub(crate) fn begin(line: &[u8], at: usize) -> CallRead
+    ensures { λ r. ⌜ Reads (beginAt (now (line .entry)) at) (r .value) (r .at) ⌝ }
+{
     let name = words::start(line, at);
     let read = moves::task(line, name, words::end(line, name));
     let task = read.value;
@@ -341,7 +388,9 @@ pub(crate) fn begin(line: &[u8], at: usize) -> CallRead {
     }
 }
 
-pub(crate) fn step(line: &[u8], at: usize) -> CallRead {
+pub(crate) fn step(line: &[u8], at: usize) -> CallRead
+    ensures { λ r. ⌜ Reads (stepAt (now (line .entry)) at) (r .value) (r .at) ⌝ }
+{
     let clock = numbers::number_64(line, at);
     CallRead {
         value: Call::Step { clock: clock.value },
@@ -349,7 +398,9 @@ pub(crate) fn step(line: &[u8], at: usize) -> CallRead {
     }
 }
 
-pub(crate) fn halt(line: &[u8], at: usize) -> CallRead {
+pub(crate) fn halt(line: &[u8], at: usize) -> CallRead
+    ensures { λ r. ⌜ Reads (haltAt (now (line .entry)) at) (r .value) (r .at) ⌝ }
+{
     let clock = numbers::number_64(line, at);
     CallRead {
         value: Call::Halt { clock: clock.value },

@@ -10,6 +10,10 @@ use text::numbers;
 use text::words;
 use text::words::LOST;
 use text::writer;
+ghost use mathlib.Core.Path.{_≡_};
+ghost use Rattle.text.specs.Readers.{Reads};
+ghost use Rattle.text.specs.Written.{Written};
+ghost use Rattle.call_lines.specs.Leaves.{deltaAskedAt, remainingAskedAt, leaveAskedAt, modeOfAskedAt, leafAt, bitText, deltaText, remainingText, leaveText, modeOfText, leafText};
 
 pub struct DeltaAsked {
     pub current: u16,
@@ -41,7 +45,9 @@ pub struct LeafRead {
     pub at: usize,
 }
 
-fn delta_read(line: &[u8], at: usize) -> LeafRead {
+fn delta_read(line: &[u8], at: usize) -> LeafRead
+    ensures { λ r. ⌜ Reads (deltaAskedAt (now (line .entry)) at) (r .value) (r .at) ⌝ }
+{
     let current = numbers::number_16(line, at);
     let target = numbers::number_16(line, current.at);
     let read = enums::path_direction(line, target.at);
@@ -56,7 +62,9 @@ fn delta_read(line: &[u8], at: usize) -> LeafRead {
     }
 }
 
-fn remaining_read(line: &[u8], at: usize) -> LeafRead {
+fn remaining_read(line: &[u8], at: usize) -> LeafRead
+    ensures { λ r. ⌜ Reads (remainingAskedAt (now (line .entry)) at) (r .value) (r .at) ⌝ }
+{
     let old = numbers::number_16(line, at);
     let ms = numbers::number_64(line, old.at);
     let is_start = numbers::flag(line, ms.at);
@@ -70,7 +78,9 @@ fn remaining_read(line: &[u8], at: usize) -> LeafRead {
     }
 }
 
-fn leave_read(line: &[u8], at: usize) -> LeafRead {
+fn leave_read(line: &[u8], at: usize) -> LeafRead
+    ensures { λ r. ⌜ Reads (leaveAskedAt (now (line .entry)) at) (r .value) (r .at) ⌝ }
+{
     let switch = enums::on_off(line, at);
     let on_off = switch.value;
     let options = numbers::number_8(line, switch.at);
@@ -86,7 +96,9 @@ fn leave_read(line: &[u8], at: usize) -> LeafRead {
     }
 }
 
-fn mode_of_read(line: &[u8], at: usize) -> LeafRead {
+fn mode_of_read(line: &[u8], at: usize) -> LeafRead
+    ensures { λ r. ⌜ Reads (modeOfAskedAt (now (line .entry)) at) (r .value) (r .at) ⌝ }
+{
     let read = enums::enhanced_mode(line, at);
     let mode = read.value;
     LeafRead {
@@ -96,7 +108,9 @@ fn mode_of_read(line: &[u8], at: usize) -> LeafRead {
 }
 
 // The leaf's name and what it is asked.
-pub fn read(line: &[u8], at: usize) -> LeafRead {
+pub fn read(line: &[u8], at: usize) -> LeafRead
+    ensures { λ r. ⌜ Reads (leafAt (now (line .entry)) at) (r .value) (r .at) ⌝ }
+{
     let name = words::start(line, at);
     let end = words::end(line, name);
     if words::is(line, name, b"delta") {
@@ -108,11 +122,18 @@ pub fn read(line: &[u8], at: usize) -> LeafRead {
     if words::is(line, name, b"leave") {
         return leave_read(line, end);
     }
-    let known = words::is(line, name, b"mode_of");
-    mode_of_read(line, if known { end } else { LOST })
+    if words::is(line, name, b"mode_of") {
+        return mode_of_read(line, end);
+    }
+    LeafRead {
+        value: Leaf::ModeOf(EnhancedColorModeEnum::CurrentXAndCurrentY),
+        at: LOST,
+    }
 }
 
-fn bit(out: &mut [u8], at: usize, b: bool) -> usize {
+fn bit(out: &mut [u8], at: usize, b: bool) -> usize
+    ensures { λ r. ⌜ Written (now (out .entry)) at (bitText b) (now (out .exit)) r ⌝ }
+{
     if b {
         writer::byte(out, at, b'1')
     } else {
@@ -120,7 +141,9 @@ fn bit(out: &mut [u8], at: usize, b: bool) -> usize {
     }
 }
 
-fn delta(asked: DeltaAsked, out: &mut [u8], at: usize) -> usize {
+fn delta(asked: DeltaAsked, out: &mut [u8], at: usize) -> usize
+    ensures { λ r. ⌜ Written (now (out .entry)) at (deltaText asked) (now (out .exit)) r ⌝ }
+{
     let direction = asked.direction;
     let path = hue::hue_path_delta(asked.current, asked.target, direction);
     let a = writer::signed(out, at, path.delta as i64);
@@ -128,7 +151,9 @@ fn delta(asked: DeltaAsked, out: &mut [u8], at: usize) -> usize {
     bit(out, b, path.is_tie)
 }
 
-fn remaining(asked: RemainingAsked, out: &mut [u8], at: usize) -> usize {
+fn remaining(asked: RemainingAsked, out: &mut [u8], at: usize) -> usize
+    ensures { λ r. ⌜ Written (now (out .entry)) at (remainingText asked) (now (out .exit)) r ⌝ }
+{
     let old = RemainingTime { tenths: asked.old };
     let written = old.write_remaining_time_quietly(asked.ms, asked.is_start);
     let now = written.remaining;
@@ -137,21 +162,27 @@ fn remaining(asked: RemainingAsked, out: &mut [u8], at: usize) -> usize {
     writer::decimal(out, b, now.tenths as u64)
 }
 
-fn may_execute(asked: LeaveAsked, out: &mut [u8], at: usize) -> usize {
+fn may_execute(asked: LeaveAsked, out: &mut [u8], at: usize) -> usize
+    ensures { λ r. ⌜ Written (now (out .entry)) at (leaveText asked) (now (out .exit)) r ⌝ }
+{
     let on_off = asked.on_off;
     let given = asked.given;
     let may = matter::should_continue(on_off, asked.options, given.mask, given.overrides);
     bit(out, at, may)
 }
 
-fn mode_of(emode: EnhancedColorModeEnum, out: &mut [u8], at: usize) -> usize {
+fn mode_of(emode: EnhancedColorModeEnum, out: &mut [u8], at: usize) -> usize
+    ensures { λ r. ⌜ Written (now (out .entry)) at (modeOfText emode) (now (out .exit)) r ⌝ }
+{
     let mode = matter::color_mode_of(emode);
     let number = mode.number();
     writer::decimal(out, at, number as u64)
 }
 
 // Writes the answer, without a newline.
-pub fn ask(leaf: Leaf, out: &mut [u8], at: usize) -> usize {
+pub fn ask(leaf: Leaf, out: &mut [u8], at: usize) -> usize
+    ensures { λ r. ⌜ Written (now (out .entry)) at (leafText leaf) (now (out .exit)) r ⌝ }
+{
     match leaf {
         Leaf::Delta(asked) => delta(asked, out, at),
         Leaf::Remaining(asked) => remaining(asked, out, at),

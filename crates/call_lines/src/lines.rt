@@ -17,6 +17,13 @@ use tasks::Running;
 use text::numbers;
 use text::words;
 use text::words::LOST;
+ghost use mathlib.Core.Path.{_≡_};
+ghost use Rattle.text.specs.Readers.{Reads, give, _then_, number64};
+ghost use Rattle.lamp_lines.specs.Fields.{idleLampAt};
+ghost use Rattle.lamp_lines.specs.Records.{runningAt};
+ghost use Rattle.call_lines.specs.Leaves.{leafAt};
+ghost use Rattle.call_lines.specs.Setters.{settingAt};
+ghost use Rattle.call_lines.specs.Lines.{callLine, pokeLine, recordLine, setLine, makingAt, singleWordAt, otherLineAt, lineAt, lineRead, made, shownAnswer, withRecord, onLamp};
 
 pub struct Making {
     pub bounds: Bounds,
@@ -49,7 +56,9 @@ struct LineRead {
     at: usize,
 }
 
-fn call_line(read: CallRead) -> LineRead {
+fn call_line(read: CallRead) -> LineRead
+    ensures { λ r. ⌜ (r .value ≡ callLine (read .value)) × (r .at ≡ read .at) ⌝ }
+{
     let call = read.value;
     LineRead {
         value: Line::OnLamp(OnLamp::Call(call)),
@@ -57,7 +66,9 @@ fn call_line(read: CallRead) -> LineRead {
     }
 }
 
-fn lamp_line(line: &[u8], at: usize) -> LineRead {
+fn lamp_line(line: &[u8], at: usize) -> LineRead
+    ensures { λ r. ⌜ Reads ((give Line.Lamp then idleLampAt) (now (line .entry)) at) (r .value) (r .at) ⌝ }
+{
     let read = fields::idle_lamp(line, at);
     let lamp = read.value;
     LineRead {
@@ -66,7 +77,9 @@ fn lamp_line(line: &[u8], at: usize) -> LineRead {
     }
 }
 
-fn poke_line(line: &[u8], at: usize) -> LineRead {
+fn poke_line(line: &[u8], at: usize) -> LineRead
+    ensures { λ r. ⌜ Reads ((give pokeLine then idleLampAt) (now (line .entry)) at) (r .value) (r .at) ⌝ }
+{
     let read = fields::idle_lamp(line, at);
     let fields = read.value;
     LineRead {
@@ -75,7 +88,9 @@ fn poke_line(line: &[u8], at: usize) -> LineRead {
     }
 }
 
-fn making_line(line: &[u8], at: usize) -> LineRead {
+fn making_line(line: &[u8], at: usize) -> LineRead
+    ensures { λ r. ⌜ Reads (makingAt (now (line .entry)) at) (r .value) (r .at) ⌝ }
+{
     let limits = fields::bounds(line, at);
     let bounds = limits.value;
     let features = numbers::number_32(line, limits.at);
@@ -92,7 +107,9 @@ fn making_line(line: &[u8], at: usize) -> LineRead {
     }
 }
 
-fn record_line(line: &[u8], at: usize) -> LineRead {
+fn record_line(line: &[u8], at: usize) -> LineRead
+    ensures { λ r. ⌜ Reads ((give recordLine then runningAt) (now (line .entry)) at) (r .value) (r .at) ⌝ }
+{
     let read = records::running(line, at);
     let running = read.value;
     LineRead {
@@ -101,7 +118,9 @@ fn record_line(line: &[u8], at: usize) -> LineRead {
     }
 }
 
-fn start_last_line(line: &[u8], at: usize) -> LineRead {
+fn start_last_line(line: &[u8], at: usize) -> LineRead
+    ensures { λ r. ⌜ Reads ((give Line.StartLast then number64) (now (line .entry)) at) (r .value) (r .at) ⌝ }
+{
     let clock = numbers::number_64(line, at);
     LineRead {
         value: Line::StartLast(clock.value),
@@ -109,7 +128,9 @@ fn start_last_line(line: &[u8], at: usize) -> LineRead {
     }
 }
 
-fn set_line(line: &[u8], at: usize) -> LineRead {
+fn set_line(line: &[u8], at: usize) -> LineRead
+    ensures { λ r. ⌜ Reads ((give setLine then settingAt) (now (line .entry)) at) (r .value) (r .at) ⌝ }
+{
     let read = setters::read(line, at);
     let setting = read.value;
     LineRead {
@@ -118,7 +139,9 @@ fn set_line(line: &[u8], at: usize) -> LineRead {
     }
 }
 
-fn leaf_line(line: &[u8], at: usize) -> LineRead {
+fn leaf_line(line: &[u8], at: usize) -> LineRead
+    ensures { λ r. ⌜ Reads ((give Line.Ask then leafAt) (now (line .entry)) at) (r .value) (r .at) ⌝ }
+{
     let read = leaves::read(line, at);
     let leaf = read.value;
     LineRead {
@@ -128,7 +151,9 @@ fn leaf_line(line: &[u8], at: usize) -> LineRead {
 }
 
 // A line of one word, or an unreadable one.
-fn single_word(line: &[u8], at: usize) -> LineRead {
+fn single_word(line: &[u8], at: usize) -> LineRead
+    ensures { λ r. ⌜ Reads (singleWordAt (now (line .entry)) at) (r .value) (r .at) ⌝ }
+{
     if words::is(line, 0, b"show") {
         return LineRead {
             value: Line::OnLamp(OnLamp::Show),
@@ -148,7 +173,9 @@ fn single_word(line: &[u8], at: usize) -> LineRead {
 }
 
 // The lines that make a lamp, check something on its own, or change the lamp by hand.
-fn other_line(line: &[u8], at: usize) -> LineRead {
+fn other_line(line: &[u8], at: usize) -> LineRead
+    ensures { λ r. ⌜ Reads (otherLineAt (now (line .entry)) at) (r .value) (r .at) ⌝ }
+{
     if words::is(line, 0, b"leaf") {
         return leaf_line(line, at);
     }
@@ -170,9 +197,10 @@ fn other_line(line: &[u8], at: usize) -> LineRead {
     single_word(line, at)
 }
 
-// The line by its first word.
-fn any_line(line: &[u8]) -> LineRead {
-    let at = words::end(line, 0);
+// The line by its first word, which ends at `at`.
+fn any_line(line: &[u8], at: usize) -> LineRead
+    ensures { λ r. ⌜ Reads (lineAt (now (line .entry)) at) (r .value) (r .at) ⌝ }
+{
     if words::is(line, 0, b"cmd") {
         return call_line(invocations::invoke(line, at));
     }
@@ -191,8 +219,10 @@ fn any_line(line: &[u8]) -> LineRead {
     other_line(line, at)
 }
 
-pub fn read(line: &[u8]) -> Line {
-    let read = any_line(line);
+pub fn read(line: &[u8]) -> Line
+    ensures { λ r. ⌜ r ≡ lineRead (now (line .entry)) ⌝ }
+{
+    let read = any_line(line, words::end(line, 0));
     if read.at != line.len() {
         return Line::Unreadable;
     }
@@ -200,18 +230,24 @@ pub fn read(line: &[u8]) -> Line {
     found
 }
 
-pub fn make(making: Making) -> Made {
+pub fn make(making: Making) -> Made
+    ensures { λ r. ⌜ r ≡ made making ⌝ }
+{
     let bounds = making.bounds;
     Lamp::new(bounds, making.features, making.options, making.clock)
 }
 
 // A lamp that was put in place or checked.
-pub fn shown(lamp: Lamp) -> Answer {
+pub fn shown(lamp: Lamp) -> Answer
+    ensures { λ r. ⌜ r ≡ shownAnswer lamp ⌝ }
+{
     lamp.refused(ACCEPTED)
 }
 
 // The fields anew, with the record that there is.
-fn poked(lamp: Lamp, fields: Lamp) -> Answer {
+fn poked(lamp: Lamp, fields: Lamp) -> Answer
+    ensures { λ r. ⌜ r ≡ shownAnswer (withRecord fields (lamp .running)) ⌝ }
+{
     let running = lamp.running;
     shown(Lamp {
         running: running,
@@ -219,14 +255,18 @@ fn poked(lamp: Lamp, fields: Lamp) -> Answer {
     })
 }
 
-fn recorded(lamp: Lamp, running: Running) -> Answer {
+fn recorded(lamp: Lamp, running: Running) -> Answer
+    ensures { λ r. ⌜ r ≡ shownAnswer (withRecord lamp running) ⌝ }
+{
     shown(Lamp {
         running: running,
         ..lamp
     })
 }
 
-pub fn on_lamp(lamp: Lamp, what: OnLamp) -> Answer {
+pub fn on_lamp(lamp: Lamp, what: OnLamp) -> Answer
+    ensures { λ r. ⌜ r ≡ onLamp lamp what ⌝ }
+{
     match what {
         OnLamp::Call(call) => commands::call(lamp, call),
         OnLamp::Poke(fields) => poked(lamp, fields),

@@ -9,6 +9,9 @@ use tasks::GivenTask;
 use text::numbers;
 use text::words;
 use text::words::LOST;
+ghost use mathlib.Core.Path.{_≡_};
+ghost use Rattle.text.specs.Readers.{Reads, give, _then_, number64};
+ghost use Rattle.call_lines.specs.Setters.{settingOf, hueSettingAt, saturationSettingAt, miredsSettingAt, settingAt, settingSet, settingAnswer};
 
 pub enum NewValue {
     Hue { hue: u16, is_enhanced: bool },
@@ -28,7 +31,9 @@ pub struct SettingRead {
 }
 
 // What ends each line: the clock.
-fn at_clock(line: &[u8], at: usize, value: NewValue, is_end: bool) -> SettingRead {
+fn at_clock(line: &[u8], at: usize, value: NewValue, is_end: bool) -> SettingRead
+    ensures { λ r. ⌜ Reads ((give (settingOf value «is_end») then number64) (now (line .entry)) at) (r .value) (r .at) ⌝ }
+{
     let clock = numbers::number_64(line, at);
     SettingRead {
         value: Setting {
@@ -40,7 +45,9 @@ fn at_clock(line: &[u8], at: usize, value: NewValue, is_end: bool) -> SettingRea
     }
 }
 
-fn hue(line: &[u8], at: usize) -> SettingRead {
+fn hue(line: &[u8], at: usize) -> SettingRead
+    ensures { λ r. ⌜ Reads (hueSettingAt (now (line .entry)) at) (r .value) (r .at) ⌝ }
+{
     let hue = numbers::number_16(line, at);
     let is_end = numbers::flag(line, hue.at);
     let is_enhanced = numbers::flag(line, is_end.at);
@@ -51,14 +58,18 @@ fn hue(line: &[u8], at: usize) -> SettingRead {
     at_clock(line, is_enhanced.at, value, is_end.value)
 }
 
-fn saturation(line: &[u8], at: usize) -> SettingRead {
+fn saturation(line: &[u8], at: usize) -> SettingRead
+    ensures { λ r. ⌜ Reads (saturationSettingAt (now (line .entry)) at) (r .value) (r .at) ⌝ }
+{
     let saturation = numbers::number_8(line, at);
     let is_end = numbers::flag(line, saturation.at);
     let value = NewValue::Saturation(saturation.value);
     at_clock(line, is_end.at, value, is_end.value)
 }
 
-fn mireds(line: &[u8], at: usize) -> SettingRead {
+fn mireds(line: &[u8], at: usize) -> SettingRead
+    ensures { λ r. ⌜ Reads (miredsSettingAt (now (line .entry)) at) (r .value) (r .at) ⌝ }
+{
     let mireds = numbers::number_16(line, at);
     let is_end = numbers::flag(line, mireds.at);
     let value = NewValue::Mireds(mireds.value);
@@ -66,7 +77,9 @@ fn mireds(line: &[u8], at: usize) -> SettingRead {
 }
 
 // The setter's name and its numbers.
-pub fn read(line: &[u8], at: usize) -> SettingRead {
+pub fn read(line: &[u8], at: usize) -> SettingRead
+    ensures { λ r. ⌜ Reads (settingAt (now (line .entry)) at) (r .value) (r .at) ⌝ }
+{
     let name = words::start(line, at);
     let end = words::end(line, name);
     if words::is(line, name, b"hue") {
@@ -75,11 +88,22 @@ pub fn read(line: &[u8], at: usize) -> SettingRead {
     if words::is(line, name, b"sat") {
         return saturation(line, end);
     }
-    let known = words::is(line, name, b"ct");
-    mireds(line, if known { end } else { LOST })
+    if words::is(line, name, b"ct") {
+        return mireds(line, end);
+    }
+    SettingRead {
+        value: Setting {
+            value: NewValue::Mireds(0),
+            is_end: false,
+            clock: 0,
+        },
+        at: LOST,
+    }
 }
 
-fn set_color(color: Color, setting: Setting) -> ColorSet {
+fn set_color(color: Color, setting: Setting) -> ColorSet
+    ensures { λ r. ⌜ r ≡ settingSet color setting ⌝ }
+{
     let value = setting.value;
     match value {
         NewValue::Hue { hue, is_enhanced } => {
@@ -95,7 +119,9 @@ fn set_color(color: Color, setting: Setting) -> ColorSet {
 }
 
 // Refused with 8 or 4, as a halt is.
-pub fn set(lamp: Lamp, setting: Setting) -> Answer {
+pub fn set(lamp: Lamp, setting: Setting) -> Answer
+    ensures { λ r. ⌜ r ≡ settingAnswer lamp setting ⌝ }
+{
     let number = lamp.first_cause(setting.clock);
     if number != ACCEPTED {
         return lamp.refused(number);

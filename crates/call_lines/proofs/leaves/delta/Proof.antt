@@ -1,8 +1,15 @@
--- A way of 32 bits fits 64.
-use mir.Val.{SFits}
-use mir.Syntax.{w32}
+use mathlib.Core.Path.{_≡_, sym, ap}
+use Rattle.hue.specs.declared.HuePath.{HuePath}
 use mir.ValLaws.{toZ-ofZ}
+use mir.Syntax.{w32, w64}
+use mir.Val.{SFits}
+use mathlib.Core.List.{_++_}
 use Rattle.integers.proofs.Sizes.{wider}
+use Rattle.hue.specs.Hue.{huePath}
+use Rattle.text.specs.Digits.{signedDecimal}
+use Rattle.text.specs.Ascii.{ascii}
+use Rattle.text.proofs.WriteLaws.{written-more}
+use Rattle.call_lines.specs.Leaves.{bitText, deltaText}
 use borrow.Author.Needs.{needs}
 use Rattle.call_lines.proofs.leaves.delta.Statement.{statement}
 use Rattle.call_lines.proofs.leaves.delta.Tie as tie
@@ -28,7 +35,21 @@ same-length : tie.Need-same-length
 same-length c = search needs
 
 returns : tie.Need-returns
-returns c = search needs
+unfolding deltaText
+returns c =
+    let tie = c .before .before in
+    let blank = tie .before .before .before .before in
+    let number = blank .before .before .before .before in
+    let path = number .before .before .before .before in
+    let start = path .before .before in
+    let asked = start .args .asked in
+    let found = path .hue-path-delta .result in
+    let fits : SFits w32 (found .delta) = search needs in
+    let same : huePath (asked .current) (asked .target) (asked .direction) ≡ found = sym (path .hue-path-delta .ensures) in
+    rw (ap (λ (p : HuePath). p .delta) same, ap (λ (p : HuePath). p .«is_tie») same)
+    (written-more (start .args .out .now) (start .args .at) (signedDecimal (found .delta) ++ ascii " ") (bitText (found .«is_tie»))
+    (written-more (start .args .out .now) (start .args .at) (signedDecimal (found .delta)) (ascii " ") (rw (toZ-ofZ w32 _ fits, toZ-ofZ w64 _ (wider fits)) at (number .signed .ensures)) (blank .byte .ensures))
+    (tie .bit .ensures))
 
 pub delta-spec : {M : Type 1} → statement M
 delta-spec =
