@@ -24,7 +24,8 @@ hueSettingAt =
 
 -- <new> <end> <clock>
 unfoldable pub saturationSettingAt : Reader Setting
-saturationSettingAt = give (λ saturation. settingOf (NewValue.Saturation saturation)) then number8 then flag then number64
+saturationSettingAt =
+    give (λ saturation. settingOf (NewValue.Saturation saturation)) then number8 then flag then number64
 
 -- <new> <end> <clock>
 unfoldable pub miredsSettingAt : Reader Setting

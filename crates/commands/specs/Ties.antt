@@ -58,4 +58,5 @@ pub record Ties (l : Lamp) (x : Call) : Type 0 where
       (target : ℕ) (direction : DirectionEnum) → aim l x ≡ toward target direction
       → answer l x .notices ≡ noted (taskGiven ∷ only (isTie (l .color .hue) target direction) hueTie)
   -- "and comes in no other case": whichever of the sixteen places has 18
-  pub alone : (place : ℕ) → getD (answer l x .notices .places) place 0 ≡ hueTie → aimTies (l .color .hue) (aim l x) ≡ true
+  pub alone :
+      (place : ℕ) → getD (answer l x .notices .places) place 0 ≡ hueTie → aimTies (l .color .hue) (aim l x) ≡ true

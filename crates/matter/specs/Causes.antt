@@ -1,5 +1,5 @@
--- Why a call is refused: the numbers of document 01's table. 0 is an accepted call's. 3, which was a mired step's with lo
--- above hi, no longer occurs (document 02, A.12) and stays free.
+-- Why a call is refused: the numbers of document 01's table. 0 is an accepted call's. 3, which was a mired step's with
+-- lo above hi, no longer occurs (document 02, A.12) and stays free.
 use Prim.Native.Nat.{ℕ}
 
 abbrev pub accepted : ℕ
