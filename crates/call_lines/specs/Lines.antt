@@ -49,11 +49,7 @@ makingAt =
     Line.New (record { bounds = bounds; features = features; options = options; clock = clock }))
     then boundsAt then number32 then number8 then number64
 
--- lines of one word
-abbrev pub singleWords : List (Row Line)
-singleWords = "show" means give (Line.OnLamp OnLamp.Show) ∷ "help" means give Line.Help ∷ []
-
--- the lines that make a lamp, ask for something on its own, or change the lamp by hand
+-- those that make a lamp, ask for something on its own, or show the lamp or change it by hand
 abbrev pub otherLines : List (Row Line)
 otherLines =
     "leaf" means (give Line.Ask then leafAt)
@@ -62,7 +58,9 @@ otherLines =
     ∷ "new" means makingAt
     ∷ "poke" means (give pokeLine then idleLampAt)
     ∷ "record" means (give recordLine then runningAt)
-    ∷ singleWords
+    ∷ "show" means give (Line.OnLamp OnLamp.Show)
+    ∷ "help" means give Line.Help
+    ∷ []
 
 -- and before them the calls
 abbrev pub lines : List (Row Line)
@@ -75,9 +73,6 @@ lines =
     ∷ otherLines
 
 -- by the first word, which ends at `at`
-unfoldable pub singleWordAt : Reader Line
-singleWordAt line at = named singleWords (unknown Line.Unreadable) line 0 at
-
 unfoldable pub otherLineAt : Reader Line
 otherLineAt line at = named otherLines (unknown Line.Unreadable) line 0 at
 

@@ -18,12 +18,13 @@ use text::numbers;
 use text::words;
 use text::words::LOST;
 ghost use mathlib.Core.Path.{_≡_};
+ghost use Rattle.text.specs.Words.{lost};
 ghost use Rattle.text.specs.Readers.{Reads, give, _then_, number64};
 ghost use Rattle.lamp_lines.specs.Fields.{idleLampAt};
 ghost use Rattle.lamp_lines.specs.Records.{runningAt};
 ghost use Rattle.call_lines.specs.Leaves.{leafAt};
 ghost use Rattle.call_lines.specs.Setters.{settingAt};
-ghost use Rattle.call_lines.specs.Lines.{callLine, pokeLine, recordLine, setLine, makingAt, singleWordAt, otherLineAt, lineAt, lineRead, made, shownAnswer, withRecord, onLamp};
+ghost use Rattle.call_lines.specs.Lines.{callLine, pokeLine, recordLine, setLine, makingAt, otherLineAt, lineAt, lineRead, made, shownAnswer, withRecord, onLamp};
 
 pub struct Making {
     pub bounds: Bounds,
@@ -150,29 +151,34 @@ fn leaf_line(line: &[u8], at: usize) -> LineRead
     }
 }
 
-// A line of one word, or an unreadable one.
-fn single_word(line: &[u8], at: usize) -> LineRead
-    ensures { λ r. ⌜ Reads (singleWordAt (now (line .entry)) at) (r .value) (r .at) ⌝ }
+fn show_line(at: usize) -> LineRead
+    ensures { λ r. ⌜ (r .value ≡ Line.OnLamp OnLamp.Show) × (r .at ≡ at) ⌝ }
 {
-    if words::is(line, 0, b"show") {
-        return LineRead {
-            value: Line::OnLamp(OnLamp::Show),
-            at,
-        };
+    LineRead {
+        value: Line::OnLamp(OnLamp::Show),
+        at,
     }
-    if words::is(line, 0, b"help") {
-        return LineRead {
-            value: Line::Help,
-            at,
-        };
+}
+
+fn help_line(at: usize) -> LineRead
+    ensures { λ r. ⌜ (r .value ≡ Line.Help) × (r .at ≡ at) ⌝ }
+{
+    LineRead {
+        value: Line::Help,
+        at,
     }
+}
+
+fn unreadable() -> LineRead
+    ensures { λ r. ⌜ (r .value ≡ Line.Unreadable) × (r .at ≡ lost) ⌝ }
+{
     LineRead {
         value: Line::Unreadable,
         at: LOST,
     }
 }
 
-// The lines that make a lamp, check something on its own, or change the lamp by hand.
+// The lines that make a lamp, check something on its own, or show the lamp or change it by hand.
 fn other_line(line: &[u8], at: usize) -> LineRead
     ensures { λ r. ⌜ Reads (otherLineAt (now (line .entry)) at) (r .value) (r .at) ⌝ }
 {
@@ -194,7 +200,13 @@ fn other_line(line: &[u8], at: usize) -> LineRead
     if words::is(line, 0, b"record") {
         return record_line(line, at);
     }
-    single_word(line, at)
+    if words::is(line, 0, b"show") {
+        return show_line(at);
+    }
+    if words::is(line, 0, b"help") {
+        return help_line(at);
+    }
+    unreadable()
 }
 
 // The line by its first word, which ends at `at`.

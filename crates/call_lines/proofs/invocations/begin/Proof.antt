@@ -1,5 +1,6 @@
-use Rattle.call_lines.specs.Calls.{beginAt}
+-- The words of the line, one after the other.
 use Rattle.text.proofs.ReadLaws.{reads}
+use Rattle.call_lines.specs.Calls.{beginAt}
 use borrow.Author.Needs.{needs}
 use Rattle.call_lines.proofs.invocations.begin.Statement.{statement}
 use Rattle.call_lines.proofs.invocations.begin.Tie as tie

@@ -1,5 +1,6 @@
-use Rattle.call_lines.specs.Commands.{colorLoopSetAt}
+-- The words of the line, one after the other.
 use Rattle.text.proofs.ReadLaws.{reads}
+use Rattle.call_lines.specs.Commands.{colorLoopSetAt}
 use borrow.Author.Needs.{needs}
 use Rattle.call_lines.proofs.invocations.color_loop_set.Statement.{statement}
 use Rattle.call_lines.proofs.invocations.color_loop_set.Tie as tie

@@ -1,5 +1,6 @@
-use Rattle.call_lines.specs.Commands.{enhancedMoveHueAt}
+-- The words of the line, one after the other.
 use Rattle.text.proofs.ReadLaws.{reads}
+use Rattle.call_lines.specs.Commands.{enhancedMoveHueAt}
 use borrow.Author.Needs.{needs}
 use Rattle.call_lines.proofs.invocations.enhanced_move_hue.Statement.{statement}
 use Rattle.call_lines.proofs.invocations.enhanced_move_hue.Tie as tie

@@ -1,5 +1,6 @@
-use Rattle.call_lines.specs.Calls.{haltAt}
+-- The words of the line, one after the other.
 use Rattle.text.proofs.ReadLaws.{reads}
+use Rattle.call_lines.specs.Calls.{haltAt}
 use borrow.Author.Needs.{needs}
 use Rattle.call_lines.proofs.invocations.halt.Statement.{statement}
 use Rattle.call_lines.proofs.invocations.halt.Tie as tie

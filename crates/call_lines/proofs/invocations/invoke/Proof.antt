@@ -1,5 +1,6 @@
-use Rattle.call_lines.specs.Calls.{invokeAt}
+-- The words of the line, one after the other.
 use Rattle.text.proofs.ReadLaws.{reads}
+use Rattle.call_lines.specs.Calls.{invokeAt}
 use borrow.Author.Needs.{needs}
 use Rattle.call_lines.proofs.invocations.invoke.Statement.{statement}
 use Rattle.call_lines.proofs.invocations.invoke.Tie as tie

@@ -1,5 +1,6 @@
-use Rattle.call_lines.specs.Commands.{moveColorTemperatureAt}
+-- The words of the line, one after the other.
 use Rattle.text.proofs.ReadLaws.{reads}
+use Rattle.call_lines.specs.Commands.{moveColorTemperatureAt}
 use borrow.Author.Needs.{needs}
 use Rattle.call_lines.proofs.invocations.move_color_temperature.Statement.{statement}
 use Rattle.call_lines.proofs.invocations.move_color_temperature.Tie as tie

@@ -1,5 +1,6 @@
-use Rattle.call_lines.specs.Commands.{moveToHueAndSaturationAt}
+-- The words of the line, one after the other.
 use Rattle.text.proofs.ReadLaws.{reads}
+use Rattle.call_lines.specs.Commands.{moveToHueAndSaturationAt}
 use borrow.Author.Needs.{needs}
 use Rattle.call_lines.proofs.invocations.move_to_hue_and_saturation.Statement.{statement}
 use Rattle.call_lines.proofs.invocations.move_to_hue_and_saturation.Tie as tie

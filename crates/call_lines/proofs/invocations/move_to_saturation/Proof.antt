@@ -1,5 +1,6 @@
-use Rattle.call_lines.specs.Commands.{moveToSaturationAt}
+-- The words of the line, one after the other.
 use Rattle.text.proofs.ReadLaws.{reads}
+use Rattle.call_lines.specs.Commands.{moveToSaturationAt}
 use borrow.Author.Needs.{needs}
 use Rattle.call_lines.proofs.invocations.move_to_saturation.Statement.{statement}
 use Rattle.call_lines.proofs.invocations.move_to_saturation.Tie as tie

@@ -1,5 +1,6 @@
-use Rattle.call_lines.specs.Commands.{optionsAt}
+-- The words of the line, one after the other.
 use Rattle.text.proofs.ReadLaws.{reads}
+use Rattle.call_lines.specs.Commands.{optionsAt}
 use borrow.Author.Needs.{needs}
 use Rattle.call_lines.proofs.invocations.options.Statement.{statement}
 use Rattle.call_lines.proofs.invocations.options.Tie as tie

@@ -1,5 +1,6 @@
-use Rattle.call_lines.specs.Calls.{stepAt}
+-- The words of the line, one after the other.
 use Rattle.text.proofs.ReadLaws.{reads}
+use Rattle.call_lines.specs.Calls.{stepAt}
 use borrow.Author.Needs.{needs}
 use Rattle.call_lines.proofs.invocations.step.Statement.{statement}
 use Rattle.call_lines.proofs.invocations.step.Tie as tie

@@ -1,5 +1,6 @@
-use Rattle.call_lines.specs.Commands.{stepHueAt}
+-- The words of the line, one after the other.
 use Rattle.text.proofs.ReadLaws.{reads}
+use Rattle.call_lines.specs.Commands.{stepHueAt}
 use borrow.Author.Needs.{needs}
 use Rattle.call_lines.proofs.invocations.step_hue.Statement.{statement}
 use Rattle.call_lines.proofs.invocations.step_hue.Tie as tie

@@ -1,3 +1,4 @@
+-- Each case is answered by its own function.
 use Rattle.call_lines.specs.Leaves.{leafText}
 use borrow.Author.Needs.{needs}
 use Rattle.call_lines.proofs.leaves.ask.Statement.{statement}

@@ -1,3 +1,4 @@
+-- One byte for either value.
 use borrow.Author.Needs.{needs}
 use Rattle.call_lines.proofs.leaves.bit.Statement.{statement}
 use Rattle.call_lines.proofs.leaves.bit.Tie as tie

@@ -1,10 +1,11 @@
+-- The delta, which fits 64 bits, a blank, and the tie.
 use mathlib.Core.Path.{_≡_, sym, ap}
-use Rattle.hue.specs.declared.HuePath.{HuePath}
+use mathlib.Core.List.{_++_}
 use mir.ValLaws.{toZ-ofZ}
 use mir.Syntax.{w32, w64}
 use mir.Val.{SFits}
-use mathlib.Core.List.{_++_}
 use Rattle.integers.proofs.Sizes.{wider}
+use Rattle.hue.specs.declared.HuePath.{HuePath}
 use Rattle.hue.specs.Hue.{huePath}
 use Rattle.text.specs.Digits.{signedDecimal}
 use Rattle.text.specs.Ascii.{ascii}

@@ -1,5 +1,6 @@
-use Rattle.call_lines.specs.Leaves.{deltaAskedAt}
+-- The words of the line, one after the other.
 use Rattle.text.proofs.ReadLaws.{reads}
+use Rattle.call_lines.specs.Leaves.{deltaAskedAt}
 use borrow.Author.Needs.{needs}
 use Rattle.call_lines.proofs.leaves.delta_read.Statement.{statement}
 use Rattle.call_lines.proofs.leaves.delta_read.Tie as tie

@@ -1,3 +1,4 @@
+-- The rule's answer as a bit.
 use borrow.Author.Needs.{needs}
 use Rattle.call_lines.proofs.leaves.may_execute.Statement.{statement}
 use Rattle.call_lines.proofs.leaves.may_execute.Tie as tie

@@ -1,3 +1,4 @@
+-- The mode's number in decimal.
 use borrow.Author.Needs.{needs}
 use Rattle.call_lines.proofs.leaves.mode_of.Statement.{statement}
 use Rattle.call_lines.proofs.leaves.mode_of.Tie as tie

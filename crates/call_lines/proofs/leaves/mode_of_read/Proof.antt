@@ -1,5 +1,6 @@
-use Rattle.call_lines.specs.Leaves.{modeOfAskedAt}
+-- The words of the line, one after the other.
 use Rattle.text.proofs.ReadLaws.{reads}
+use Rattle.call_lines.specs.Leaves.{modeOfAskedAt}
 use borrow.Author.Needs.{needs}
 use Rattle.call_lines.proofs.leaves.mode_of_read.Statement.{statement}
 use Rattle.call_lines.proofs.leaves.mode_of_read.Tie as tie

@@ -1,6 +1,7 @@
-use Rattle.call_lines.specs.Leaves.{leafAt}
+-- A row is passed where the name is another; the callee reads the row that is taken.
 use mathlib.Core.Path.{refl}
 use Rattle.text.proofs.ReadLaws.{here, past}
+use Rattle.call_lines.specs.Leaves.{leafAt}
 use borrow.Author.Needs.{needs}
 use Rattle.call_lines.proofs.leaves.read.Statement.{statement}
 use Rattle.call_lines.proofs.leaves.read.Tie as tie

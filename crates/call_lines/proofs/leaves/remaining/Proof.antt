@@ -1,7 +1,8 @@
+-- Whether it is reported, a blank, and the new number.
 use mathlib.Core.Path.{_≡_, sym, ap}
+use mathlib.Core.List.{_++_}
 use Rattle.remaining_time.specs.declared.Written.{Written}
 use Rattle.remaining_time.specs.RemainingTime.{writtenQuietly}
-use mathlib.Core.List.{_++_}
 use Rattle.text.specs.Digits as digits
 use Rattle.text.specs.Ascii.{ascii}
 use Rattle.text.proofs.WriteLaws.{written-more}

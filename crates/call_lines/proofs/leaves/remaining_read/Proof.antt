@@ -1,5 +1,6 @@
-use Rattle.call_lines.specs.Leaves.{remainingAskedAt}
+-- The words of the line, one after the other.
 use Rattle.text.proofs.ReadLaws.{reads}
+use Rattle.call_lines.specs.Leaves.{remainingAskedAt}
 use borrow.Author.Needs.{needs}
 use Rattle.call_lines.proofs.leaves.remaining_read.Statement.{statement}
 use Rattle.call_lines.proofs.leaves.remaining_read.Tie as tie

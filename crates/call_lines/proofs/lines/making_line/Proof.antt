@@ -1,5 +1,6 @@
-use Rattle.call_lines.specs.Lines.{makingAt}
+-- The words of the line, one after the other.
 use Rattle.text.proofs.ReadLaws.{reads}
+use Rattle.call_lines.specs.Lines.{makingAt}
 use borrow.Author.Needs.{needs}
 use Rattle.call_lines.proofs.lines.making_line.Statement.{statement}
 use Rattle.call_lines.proofs.lines.making_line.Tie as tie

@@ -1,3 +1,4 @@
+-- Each case is answered by its own function.
 use Rattle.call_lines.specs.Lines.{onLamp}
 use borrow.Author.Needs.{needs}
 use Rattle.call_lines.proofs.lines.on_lamp.Statement.{statement}

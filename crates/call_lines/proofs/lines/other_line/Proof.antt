@@ -4,7 +4,7 @@ use mathlib.Core.Path.{_≡_, _∙_}
 use lib.ListN.{drop}
 use Rattle.text.specs.Readers.{named, unknown}
 use Rattle.call_lines.specs.declared.lines.Line.{Line}
-use Rattle.call_lines.specs.Lines.{otherLines, singleWordAt, otherLineAt}
+use Rattle.call_lines.specs.Lines.{otherLines, otherLineAt}
 use Rattle.call_lines.proofs.NamedLaws.{taken, passed, along}
 use borrow.Author.Needs.{needs}
 use Rattle.call_lines.proofs.lines.other_line.Statement.{statement}
@@ -68,6 +68,24 @@ past6 c =
     let args = start6 c .args in
     past5 (c .before .before .before)
     ∙ passed (drop 5 otherLines) (unknown Line.Unreadable) (args .line .now) 0 (args .at) (c .before .is6 .ensures) (c .if6 .left)
+
+abbrev start7 : tie.Else7 → tie.Start
+start7 c = start6 (c .before .before .before)
+
+past7 : (c : tie.Else7) → Left (start7 c) 7
+past7 c =
+    let args = start7 c .args in
+    past6 (c .before .before .before)
+    ∙ passed (drop 6 otherLines) (unknown Line.Unreadable) (args .line .now) 0 (args .at) (c .before .is7 .ensures) (c .if7 .left)
+
+abbrev start8 : tie.Else8 → tie.Start
+start8 c = start7 (c .before .before .before)
+
+past8 : (c : tie.Else8) → Left (start8 c) 8
+past8 c =
+    let args = start8 c .args in
+    past7 (c .before .before .before)
+    ∙ passed (drop 7 otherLines) (unknown Line.Unreadable) (args .line .now) 0 (args .at) (c .before .is8 .ensures) (c .if8 .left)
 
 slice-aggregate-is : tie.Need-slice-aggregate-is
 slice-aggregate-is c = search needs
@@ -165,13 +183,44 @@ returns-6 c =
     ∙ taken (drop 5 otherLines) (unknown Line.Unreadable) (args .line .now) 0 (args .at) (c .before .before .is6 .ensures) (c .before .if6 .taken))
     (c .record-line .ensures)
 
-single-word-requires : tie.Need-single-word-requires
-single-word-requires c κs = search needs
+slice-aggregate-is-7 : tie.Need-slice-aggregate-is-7
+slice-aggregate-is-7 c = search needs
+
+is-requires-7 : tie.Need-is-requires-7
+is-requires-7 c κs = search needs
+
+show-line-requires : tie.Need-show-line-requires
+show-line-requires c κs = search needs
 
 returns-7 : tie.Need-returns-7
-unfolding singleWordAt
 returns-7 c =
-    along _ _ (past6 (c .before)) (c .single-word .ensures)
+    let args = start6 (c .before .before .before .before) .args in
+    along _ _ (past6 (c .before .before .before .before)
+    ∙ taken (drop 6 otherLines) (unknown Line.Unreadable) (args .line .now) 0 (args .at) (c .before .before .is7 .ensures) (c .before .if7 .taken))
+    (c .show-line .ensures)
+
+slice-aggregate-is-8 : tie.Need-slice-aggregate-is-8
+slice-aggregate-is-8 c = search needs
+
+is-requires-8 : tie.Need-is-requires-8
+is-requires-8 c κs = search needs
+
+help-line-requires : tie.Need-help-line-requires
+help-line-requires c κs = search needs
+
+returns-8 : tie.Need-returns-8
+returns-8 c =
+    let args = start7 (c .before .before .before .before) .args in
+    along _ _ (past7 (c .before .before .before .before)
+    ∙ taken (drop 7 otherLines) (unknown Line.Unreadable) (args .line .now) 0 (args .at) (c .before .before .is8 .ensures) (c .before .if8 .taken))
+    (c .help-line .ensures)
+
+unreadable-requires : tie.Need-unreadable-requires
+unreadable-requires c κs = search needs
+
+returns-9 : tie.Need-returns-9
+returns-9 c =
+    along _ _ (past8 (c .before)) (c .unreadable .ensures)
 
 pub other-line-spec : {M : Type 1} → statement M
 other-line-spec =
@@ -201,5 +250,13 @@ other-line-spec =
     is-requires-6
     record-line-requires
     returns-6
-    single-word-requires
-    returns-7)
+    slice-aggregate-is-7
+    is-requires-7
+    show-line-requires
+    returns-7
+    slice-aggregate-is-8
+    is-requires-8
+    help-line-requires
+    returns-8
+    unreadable-requires
+    returns-9)

@@ -1,7 +1,7 @@
 -- The line is what was read exactly where the last word ends it.
 use native.Mathlib.Omega.{arith}
-use borrow.Author.Tests.{eq-eqb, ne-eqb}
 use lib.ListN.{length}
+use borrow.Author.Tests.{eq-eqb, ne-eqb}
 use Rattle.call_lines.specs.Lines.{lineRead}
 use borrow.Author.Needs.{needs}
 use Rattle.call_lines.proofs.lines.read.Statement.{statement}

@@ -1,3 +1,4 @@
+-- The words of the line, one after the other.
 use Rattle.text.proofs.ReadLaws.{reads}
 use Rattle.call_lines.specs.Setters.{hueSettingAt}
 use borrow.Author.Needs.{needs}

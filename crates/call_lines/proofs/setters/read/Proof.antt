@@ -1,3 +1,4 @@
+-- A row is passed where the name is another; the callee reads the row that is taken.
 use mathlib.Core.Path.{refl}
 use Rattle.text.proofs.ReadLaws.{here, past}
 use Rattle.call_lines.specs.Setters.{settingAt}

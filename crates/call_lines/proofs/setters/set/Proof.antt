@@ -1,7 +1,8 @@
+-- The cause picks the definition's case; what the change reports has its places.
 use native.Mathlib.Omega.{arith}
 use borrow.Author.Tests.{eq-eqb, ne-eqb}
-use Rattle.call_lines.proofs.SettingLaws.{setting-placed}
 use Rattle.call_lines.specs.Setters.{settingAnswer}
+use Rattle.call_lines.proofs.SettingLaws.{setting-placed}
 use borrow.Author.Needs.{needs}
 use Rattle.call_lines.proofs.setters.set.Statement.{statement}
 use Rattle.call_lines.proofs.setters.set.Tie as tie

@@ -1,3 +1,4 @@
+-- Each value by its own setter.
 use borrow.Author.Needs.{needs}
 use Rattle.call_lines.proofs.setters.set_color.Statement.{statement}
 use Rattle.call_lines.proofs.setters.set_color.Tie as tie
