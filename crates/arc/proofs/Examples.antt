@@ -12,9 +12,20 @@ use Rattle.arc.specs.Arc.{inBand, meet, passesThrough, currentHueBand}
 abbrev pub green : Band
 green = currentHueBand 64 106
 
--- red: the shown hues 240 to 255 and 0 to 15
+-- red: the shown hues 240 to 254 and 0 to 15
 abbrev pub red : Band
 red = currentHueBand 240 15
+
+-- A.4: the hues that are shown as 254 are those from 65,024 on; an end of 255 is 254
+pub last-shown : currentHueBand 254 254 ≡ record { low = 65024; high = 65535 }
+last-shown = refl
+
+pub never-shown : (currentHueBand 255 255 ≡ currentHueBand 254 254) × (currentHueBand 253 255 ≡ record { low = 64768; high = 65535 }) × (currentHueBand 255 0 ≡ record { low = 65024; high = 255 })
+never-shown = (refl, refl, refl)
+
+-- one below, it ends where it did
+pub next-to-last : currentHueBand 253 253 ≡ record { low = 64768; high = 65023 }
+next-to-last = refl
 
 -- a band has its ends, and may go past 0
 pub in-green : map (inBand green) (16383 ∷ 16384 ∷ 27391 ∷ 27392 ∷ []) ≡ false ∷ true ∷ true ∷ false ∷ []

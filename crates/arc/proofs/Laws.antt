@@ -1,19 +1,20 @@
 -- The test says exactly that: it answers true where some hue of the band is on the arc, and in no other case.
-use Prim.Native.Nat.{ℕ, suc, _+_, _-_, _*_, _/_, _%_, _≤_, _<_}
+use Prim.Native.Nat.{ℕ, suc, _+_, _-_, _*_, _/_, _%_, _≤_, _<_, min}
 use mathlib.Core.Bool.{Bool, true, false, cond, _&&_, _||_, true≢false}
 use mathlib.Core.Logic.{_⊎_, inl, inr, _↔_}
-use mathlib.Core.Path.{_≡_, refl, sym, _∙_}
+use mathlib.Core.Path.{_≡_, refl, sym, _∙_, ap}
 use native.Mathlib.Nat.{add-mod}
 use native.Mathlib.Omega.{arith}
-use lib.Dec.{leb, leb·zero}
+use lib.Dec.{leb, leb·zero, ltb}
 use lib.IntN.{ℤ, pos, negsuc, natAbs}
 use lib.Signed.{leZ}
-use borrow.Author.Tests.{leb-true, leb-false, le-leb, lt-leb}
+use borrow.Author.Tests.{leb-true, leb-false, le-leb, lt-leb, ltb-true, ltb-false}
 use Rattle.matter.specs.declared.enums.DirectionEnum.{DirectionEnum}
+use Rattle.matter.proofs.Laws.{and-left, and-right}
 use Rattle.hue.specs.Hue.{distance, pathDelta, movedHue, currentHue}
 use Rattle.hue.proofs.Laws.{moved-small, moved-up, moved-down, distance-is, way-small, arrives}
 use Rattle.arc.specs.declared.Band.{Band}
-use Rattle.arc.specs.Arc.{toward, OnArc, inBand, InRangeBand, Passed, meet, passesThrough, currentHueBand}
+use Rattle.arc.specs.Arc.{toward, OnArc, inBand, InRangeBand, Passed, meet, passesThrough, firstShownAs, lastShownAs, currentHueBand}
 
 -- ---- a band, by distances
 
@@ -158,16 +159,58 @@ module _ (found target : ℕ) (b : Band) (hf : found < 65536) (ht : target < 655
 -- ---- a band by the hues that are shown
 
 -- two orders that hold together have one test
-same-test : (a b c d : ℕ) (p : Bool) → leb c d ≡ p → (c ≤ d → a ≤ b) → (d < c → b < a) → leb a b ≡ p
-same-test a b c d true e f g = le-leb a b (f (leb-true c d e))
-same-test a b c d false e f g = lt-leb a b (g (leb-false c d e))
+same-test : (a b c d : ℕ) → (c ≤ d → a ≤ b) → (d < c → b < a) → leb a b ≡ leb c d
+same-test a b c d f g = go (leb c d) refl
+  where
+    go : (p : Bool) → leb c d ≡ p → leb a b ≡ p
+    go true e = le-leb a b (f (leb-true c d e))
+    go false e = lt-leb a b (g (leb-false c d e))
 
--- a stored hue is in the band of shown hues exactly where the hue that it shows is one of them
-pub shown-is : (low high hue : ℕ) → inBand (currentHueBand low high) hue ≡ inBand (record { low = low; high = high }) (currentHue hue)
+-- the tests on stored hues are those on shown ones
+from-first : (low hue : ℕ) → leb (firstShownAs low) hue ≡ leb (min 254 low) (currentHue hue)
+from-first low hue = same-test (firstShownAs low) hue (min 254 low) (currentHue hue) (λ h. omega arith) (λ h. omega arith)
+
+to-last : (high hue : ℕ) → hue < 65536 → leb hue (lastShownAs high) ≡ leb (currentHue hue) (min 254 high)
+to-last high hue h = go (ltb high 254) refl
+  where
+    go : (p : Bool) → ltb high 254 ≡ p → leb hue (cond p (high * 256 + 255) 65535) ≡ leb (currentHue hue) (min 254 high)
+    go true e =
+        let l = ltb-true high 254 e in
+        same-test hue (high * 256 + 255) (currentHue hue) (min 254 high) (λ k. omega arith) (λ k. omega arith)
+    go false e =
+        let l = ltb-false high 254 e in
+        same-test hue 65535 (currentHue hue) (min 254 high) (λ k. omega arith) (λ k. omega arith)
+
+first-to-last : (low high : ℕ) → leb (firstShownAs low) (lastShownAs high) ≡ leb (min 254 low) (min 254 high)
+first-to-last low high =
+    let shown : currentHue (firstShownAs low) ≡ min 254 low = omega arith in
+    to-last high (firstShownAs low) (omega arith) ∙ ap (λ (n : ℕ). leb n (min 254 high)) shown
+
+-- a stored hue is in the band of shown hues exactly where the hue that it shows is one of them, an end above 254 taken as
+-- 254
+pub shown-is : (low high hue : ℕ) → hue < 65536 →
+    inBand (currentHueBand low high) hue ≡ inBand (record { low = min 254 low; high = min 254 high }) (currentHue hue)
 unfolding inBand
-shown-is low high hue =
-    rw
-    (same-test (low * 256) (high * 256 + 255) low high (leb low high) refl (λ h. omega arith) (λ h. omega arith), same-test (low * 256) hue low (hue / 256) (leb low (hue / 256)) refl (λ h. omega arith) (λ h. omega arith), same-test hue (high * 256 + 255) (hue / 256) high (leb (hue / 256) high) refl (λ h. omega arith) (λ h. omega arith))
+shown-is low high hue h = rw (first-to-last low high, from-first low hue, to-last high hue h)
 
-pub in-range-shown : (low high : ℕ) → low < 256 → high < 256 → InRangeBand (currentHueBand low high)
-in-range-shown low high l h = record { low = omega arith; high = omega arith }
+-- so the band of one shown hue has every stored hue that shows it, and no other
+one-alone : (n x : ℕ) → (inBand (record { low = n; high = n }) x ≡ true) ↔ (x ≡ n)
+unfolding inBand
+one-alone n x =
+    rw (le-leb n n (omega arith)) (
+      λ e. omega (arith, leb-true n x (and-left (leb n x) (leb x n) e), leb-true x n (and-right (leb n x) (leb x n) e)),
+      λ e. rw (le-leb n x (omega arith), le-leb x n (omega arith)),
+    )
+
+pub shown-alone : (shown hue : ℕ) → shown ≤ 254 → hue < 65536 →
+    (inBand (currentHueBand shown shown) hue ≡ true) ↔ (currentHue hue ≡ shown)
+shown-alone shown hue s h =
+    let same : min 254 shown ≡ shown = omega arith in
+    rw (shown-is shown shown hue h, same) (one-alone shown (currentHue hue))
+
+pub in-range-shown : (low high : ℕ) → InRangeBand (currentHueBand low high)
+in-range-shown low high = record { low = omega arith; high = go (ltb high 254) refl }
+  where
+    go : (p : Bool) → ltb high 254 ≡ p → cond p (high * 256 + 255) 65535 < 65536
+    go true e = omega (arith, ltb-true high 254 e)
+    go false e = omega arith

@@ -1,8 +1,8 @@
 -- The arc of a fade, bands of hues, and the test whether they meet: document 01, "Arc". Hues are stored ones.
-use Prim.Native.Nat.{ℕ, _+_, _*_, _≤_}
+use Prim.Native.Nat.{ℕ, _+_, _*_, _≤_, min}
 use mathlib.Core.Bool.{Bool, true, cond, _&&_, _||_}
 use mathlib.Core.Path.{_≡_}
-use lib.Dec.{leb}
+use lib.Dec.{leb, ltb}
 use lib.IntN.{ℤ, pos, negsuc, negℤ, natAbs}
 use lib.Signed.{leZ}
 use Rattle.matter.specs.declared.enums.DirectionEnum.{DirectionEnum}
@@ -52,6 +52,14 @@ passesThrough found target direction b =
 
 -- ---- a band by the hues that are shown
 
+-- the first and the last stored hue that are shown as this one; 254 is the last that is shown (document 02, A.4), and
+-- what is above it is taken as 254
+abbrev pub firstShownAs : ℕ → ℕ
+firstShownAs shown = min 254 shown * 256
+
+abbrev pub lastShownAs : ℕ → ℕ
+lastShownAs shown = cond (ltb shown 254) (shown * 256 + 255) 65535
+
 -- every stored hue whose shown hue is one of `low` to `high`
 abbrev pub currentHueBand : ℕ → ℕ → Band
-currentHueBand low high = record { low = low * 256; high = high * 256 + 255 }
+currentHueBand low high = record { low = firstShownAs low; high = lastShownAs high }

@@ -4,7 +4,7 @@ use matter::DirectionEnum;
 ghost use mathlib.Core.Path.{_≡_};
 ghost use Prim.Native.Nat.{_*_};
 ghost use Rattle.hue.specs.Hue.{distance};
-ghost use Rattle.arc.specs.Arc.{meet, passesThrough, currentHueBand};
+ghost use Rattle.arc.specs.Arc.{meet, passesThrough, firstShownAs, lastShownAs, currentHueBand};
 
 // The hues from `low` up to `high`, past 65,535 to 0 where `high` is below `low`.
 pub struct Band {
@@ -12,14 +12,36 @@ pub struct Band {
     pub high: u16,
 }
 
+// The first stored hue that is shown as `shown`; 255, which is never shown, is taken as 254.
+fn first_shown_as(shown: u8) -> u16
+    ensures { λ r. ⌜ r ≡ firstShownAs shown ⌝ }
+{
+    if shown < 254 {
+        (shown as u16) * 256
+    } else {
+        254 * 256
+    }
+}
+
+// The last.
+fn last_shown_as(shown: u8) -> u16
+    ensures { λ r. ⌜ r ≡ lastShownAs shown ⌝ }
+{
+    if shown < 254 {
+        (shown as u16) * 256 + 255
+    } else {
+        65535
+    }
+}
+
 impl Band {
-    // The stored hues that show as those from `low` to `high`.
+    // The stored hues that are shown as `low` up to `high`; an end of 255 is taken as 254.
     pub fn of_current_hue(low: u8, high: u8) -> Band
         ensures { λ r. ⌜ r ≡ currentHueBand low high ⌝ }
     {
         Band {
-            low: (low as u16) * 256,
-            high: (high as u16) * 256 + 255,
+            low: first_shown_as(low),
+            high: last_shown_as(high),
         }
     }
 }

@@ -1,29 +1,35 @@
--- The shown hue is the text's CurrentHue below 65,280; from there on it is 255, which the text does not have.
-use Prim.Native.Nat.{ℕ, _≤_, _<_}
-use mathlib.Core.Path.{_≡_, refl}
+-- The shown hue is the text's CurrentHue, for every stored hue.
+use Prim.Native.Nat.{ℕ, _/_, _≤_, _<_}
+use mathlib.Core.Path.{_≡_, subst}
 use native.Mathlib.Omega.{arith}
 use Rattle.hue.specs.Hue.{currentHue}
 use Rattle.commands.specs.Commands.{stored}
+use Rattle.conformance.specs.Limits.{Closest}
 use Rattle.conformance.specs.Hues.{UpperByte, CurrentHueOf}
+use Rattle.conformance.proofs.LimitsAgree.{closest-only}
 
-pub shown-upper : (hue : ℕ) → UpperByte hue (currentHue hue)
-shown-upper hue = record { enough = omega arith; whole = omega arith }
+upper-is : (hue : ℕ) → UpperByte hue (hue / 256)
+upper-is hue = record { enough = omega arith; whole = omega arith }
 
--- the part where they agree
-pub shown-agrees : (hue : ℕ) → hue < 65280 → CurrentHueOf hue (currentHue hue)
-shown-agrees hue h = record { upper = shown-upper hue; range = omega arith }
+closest-is : (hue : ℕ) → Closest 0 254 (hue / 256) (currentHue hue)
+closest-is hue = record { low = omega arith; high = omega arith; near = λ other low high. omega arith }
 
--- there it is the only one
+pub shown-agrees : (hue : ℕ) → CurrentHueOf hue (currentHue hue)
+shown-agrees hue = record { upper = hue / 256; isUpper = upper-is hue; closest = closest-is hue }
+
+-- there is no other
 pub shown-only : (hue n : ℕ) → CurrentHueOf hue n → n ≡ currentHue hue
-shown-only hue n c = omega (arith, c .upper .enough, c .upper .whole)
+shown-only hue n c =
+    let same : c .upper ≡ hue / 256 = omega (arith, c .isUpper .enough, c .isUpper .whole) in
+    closest-only 0 254 (hue / 256) n (currentHue hue) (subst (λ (u : ℕ). Closest 0 254 u n) same (c .closest))
+    (closest-is hue)
 
--- and nowhere else is there one: the smallest is 65,280, which is shown as 255
-pub shown-differs : (hue n : ℕ) → 65280 ≤ hue → CurrentHueOf hue n → ⊥
-shown-differs hue n h c = omega (arith, c .upper .whole, c .range)
+-- the upper byte itself is shown wherever the range has it
+pub shown-upper : (hue : ℕ) → hue < 65280 → UpperByte hue (currentHue hue)
+shown-upper hue h = record { enough = omega arith; whole = omega arith }
 
-pub shown-255 : currentHue 65280 ≡ 255
-shown-255 = refl
-
--- a plain hue that is moved to is the one that is shown then, and it is in the text's range
+-- a plain hue that is moved to is the one that is shown then
 pub plain-is-shown : (hue : ℕ) → hue ≤ 254 → CurrentHueOf (stored hue) hue
-plain-is-shown hue h = record { upper = record { enough = omega arith; whole = omega arith }; range = h }
+plain-is-shown hue h =
+    let same : currentHue (stored hue) ≡ hue = omega arith in
+    subst (CurrentHueOf (stored hue)) same (shown-agrees (stored hue))

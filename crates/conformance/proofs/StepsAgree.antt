@@ -206,17 +206,29 @@ plain-down-by top (suc k) n h =
     let r : times k (hueDown top) n ≡ n - k = plain-down-by top k n (omega arith) in
     rw (ne-eqb (times k (hueDown top) n) 0 (λ e. omega arith)) (omega arith)
 
-pub plain-step-down-agrees : (n size : ℕ) → size ≤ n → n ≤ 254 → currentHue (movedHue (stored n) (stepDelta StepModeEnum.Down (stored size))) ≡ hueStepTo StepModeEnum.Down hueMaximum size n
-plain-step-down-agrees n size h k = rw (moved-down (stored n) (stored size), plain-down-by 254 size n h) (omega arith)
+-- down, as far as one below 0, which the text makes 254, and the port shows so
+pub plain-step-down-agrees : (n size : ℕ) → size ≤ suc n → n ≤ 254 → currentHue (movedHue (stored n) (stepDelta StepModeEnum.Down (stored size))) ≡ hueStepTo StepModeEnum.Down hueMaximum size n
+unfolding hueDown
+plain-step-down-agrees n size h k = go (leb size n) refl
+  where
+    go : (b : Bool) → leb size n ≡ b → currentHue (movedHue (stored n) (stepDelta StepModeEnum.Down (stored size))) ≡ hueStepTo StepModeEnum.Down hueMaximum size n
+    go true e =
+        let l : size ≤ n = leb-true size n e in
+        rw (moved-down (stored n) (stored size), plain-down-by 254 size n l) (omega arith)
+    go false e =
+        let past : size ≡ suc n = omega (arith, leb-false size n e) in
+        let at-0 : times n (hueDown hueMaximum) n ≡ 0 = omega (arith, plain-down-by 254 n n (omega arith)) in
+        rw (past, moved-down (stored n) (stored (suc n)), at-0) (omega arith)
 
-pub plain-step-down-differs : (currentHue (movedHue (stored 0) (stepDelta StepModeEnum.Down (stored 1))) ≡ 255) × (hueStepTo StepModeEnum.Down hueMaximum 1 0 ≡ 254)
-unfolding movedHue hueDown
-plain-step-down-differs = (refl, refl)
-
--- past 254 the text goes on from 0, and the port shows 255: the smallest step is of 1 from 254
-pub plain-step-differs : (currentHue (movedHue (stored 254) (stepDelta StepModeEnum.Up (stored 1))) ≡ 255) × (hueStepTo StepModeEnum.Up hueMaximum 1 254 ≡ 0)
+-- past 254 the text goes on from 0, and the port shows 254 again: the smallest step is of 1 from 254
+pub plain-step-differs : (currentHue (movedHue (stored 254) (stepDelta StepModeEnum.Up (stored 1))) ≡ 254) × (hueStepTo StepModeEnum.Up hueMaximum 1 254 ≡ 0)
 unfolding movedHue hueUp
 plain-step-differs = (refl, refl)
+
+-- and down, of 2 from 0
+pub plain-step-down-differs : (currentHue (movedHue (stored 0) (stepDelta StepModeEnum.Down (stored 2))) ≡ 254) × (hueStepTo StepModeEnum.Down hueMaximum 2 0 ≡ 253)
+unfolding movedHue hueDown
+plain-step-down-differs = (refl, refl)
 
 -- a plain rate is 256 enhanced units a second: the same numbers of plain units
 pub plain-rate : (rate seconds : ℕ) → stepsMade (stored rate) (seconds * 1000) ≡ stored (stepsMade rate (seconds * 1000))

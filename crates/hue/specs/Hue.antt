@@ -1,6 +1,6 @@
 -- Hues on their circle: document 01, leaf 1, "The arithmetic of a step" and the shown hue.
 -- A hue is a number below 65,536; sums of hues and ways are over the integers, modulo 65,536.
-use Prim.Native.Nat.{ℕ, _-_, _/_, _%_}
+use Prim.Native.Nat.{ℕ, _-_, _/_, _%_, min}
 use mathlib.Core.Bool.{Bool, false, cond, _&&_}
 use lib.Dec.{leb, ltb, eqb}
 use lib.IntN.{ℤ, pos, negsuc, negℤ, _+ℤ_, _-ℤ_}
@@ -51,6 +51,7 @@ huePath current target direction =
 unfoldable pub movedHue : ℕ → ℤ → ℕ
 movedHue start part = modulo (pos start +ℤ part)
 
--- "the one-byte shown hue, the stored one divided by 256, rounded down"
+-- "the one-byte shown hue, the stored one divided by 256, rounded down"; CurrentHue ends at 254, so document 02, A.4:
+-- "a stored hue of 65,280 or above is shown as 254"
 abbrev pub currentHue : ℕ → ℕ
-currentHue hue = hue / 256
+currentHue hue = min 254 (hue / 256)
