@@ -251,6 +251,9 @@ impl Lines {
         for emode in 0..5 {
             say!(self, "leaf mode_of {emode}");
         }
+        for stored in [0, 255, 256, 65023, 65024, 65279, 65280, 65535, 65536] {
+            say!(self, "leaf shown {stored}");
+        }
         for bits in 0..8 {
             let (option, mask, over) = (bits >> 2, bits >> 1 & 1, bits & 1);
             for on in ["on", "off", "none"] {

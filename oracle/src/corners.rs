@@ -128,6 +128,7 @@ const RECORD_WAYS: [&str; 20] = [
 const ENDS: &str = "ends";
 const LOOPS: &str = "snaps and whole turns";
 const TIES: &str = "half-way and equal hues";
+const SHOWN: &str = "the shown hue";
 const CROSSED: &str = "crossed bounds";
 const CLAMPS: &str = "clamps of commands and starts";
 const MAKINGS: &str = "makings";
@@ -146,6 +147,16 @@ const LISTS: &str = "between calls";
 const LINES: &str = "lines";
 
 /// Every corner, met or not.
+/// Stored hues, and what each shows.
+const SHOWN_AT: [(u16, &str, &str); 6] = [
+    (65_023, "65,023 as 253", "253"),
+    (65_024, "65,024 as 254", "254"),
+    (65_279, "65,279 as 254", "254"),
+    (65_280, "65,280 as 254", "254"),
+    (65_535, "65,535 as 254", "254"),
+    (0, "0 as 0", "0"),
+];
+
 fn all() -> Vec<(&'static str, String)> {
     let mut rows: Vec<(&'static str, String)> = Vec::new();
     let mut add = |group, name: String| rows.push((group, name));
@@ -211,6 +222,9 @@ fn all() -> Vec<(&'static str, String)> {
             TIES,
             format!("move_to_hue_and_saturation, enhanced, {name}"),
         );
+    }
+    for (_, name, _) in SHOWN_AT {
+        add(SHOWN, name.into());
     }
     for name in [
         "new, crossed by one",
@@ -714,6 +728,12 @@ impl Corners {
             }
             Call::Remaining(old, ms, start) => self.remaining(old, ms, start, answer),
             Call::Leave(..) | Call::ModeOf(..) => {}
+            Call::Shown(stored) => {
+                if let Some((_, name, shown)) = SHOWN_AT.iter().find(|x| x.0 == stored) {
+                    assert_eq!(answer, *shown);
+                    self.met(SHOWN, name);
+                }
+            }
             call => self.on_lamp(call, answer),
         }
     }

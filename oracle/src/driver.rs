@@ -33,6 +33,8 @@ pub trait Handler {
     fn set_saturation(&self, new: u8, end: bool);
     fn set_color_temperature(&self, new: u16, end: bool);
     fn should_continue(&self, on_off: OnOff, options: u8, mask: u8, over: u8) -> bool;
+    /// The attribute as it is read where this hue is stored.
+    fn current_hue(&self, stored: u16) -> u8;
 }
 
 type Lamp<H> = ColorControlHandler<'static, H, NoOnOff, NoLevelControl>;
@@ -80,6 +82,8 @@ impl HandlerContext for Context {
 }
 
 impl InvokeContext for Context {}
+
+impl ReadContext for Context {}
 
 struct Scenes;
 static SCENES: Scenes = Scenes;
@@ -302,6 +306,11 @@ impl<H: ColorControlHooks + 'static> Handler for Lamp<H> {
         self.couple(on_off);
         self.with_state(|s| s.config.options = options(byte));
         Lamp::<H>::should_continue(self, options(mask), options(over))
+    }
+
+    fn current_hue(&self, stored: u16) -> u8 {
+        self.with_state(|s| s.enhanced_current_hue = stored);
+        ClusterHandler::current_hue(self, Context).unwrap()
     }
 }
 

@@ -1,6 +1,6 @@
 //! What the Rust has not, written by hand: the causes 4 to 8, from document 01's table, looked
-//! at before the Rust is run (1 and 2 are the Rust's own errors); and document 02's tie, which
-//! is put behind the Rust's answer.
+//! at before the Rust is run (1 and 2 are the Rust's own errors); and, of document 02, the tie,
+//! which is put behind the Rust's answer, and the last hue that is shown.
 
 use crate::data::*;
 
@@ -34,6 +34,15 @@ pub fn command_ties(current: u16, command: &Command) -> bool {
             is_tie(current, u16::from(hue) << 8, DirectionEnum::Shortest)
         }
         _ => false,
+    }
+}
+
+/// A.4: a stored hue of 65,280 or above is shown as 254, every other as the Rust's attribute.
+pub fn shown(stored: u16, attribute: u8) -> u8 {
+    if stored >= 65_280 {
+        254
+    } else {
+        attribute
     }
 }
 

@@ -673,7 +673,7 @@ impl<S: Stage> Maker<S> {
     /// A line that can hardly be read, made of one of the first `good` calls. Where it can,
     /// both sides read it.
     fn say_unreadable(&mut self, good: usize) {
-        const GOOD: [&str; 38] = [
+        const GOOD: [&str; 39] = [
             "lamp 153 500 5000 0 0 0 0 0 0 0 250 1 1 0 1 25 8960 0",
             "poke 153 500 5000 0 0 0 0 0 0 0 250 1 1 0 1 25 8960 0",
             "new 153 500 31 0 5000",
@@ -692,6 +692,7 @@ impl<S: Stage> Maker<S> {
             "leaf remaining 1 2 1",
             "leaf leave none 1 2 3",
             "leaf mode_of 3",
+            "leaf shown 65280",
             "halt 5000",
             "step 5000",
             "startlast 5000",
@@ -1250,7 +1251,7 @@ impl<S: Stage> Maker<S> {
     }
 
     fn say_show_or_leaf(&mut self) {
-        match self.r.below(5) {
+        match self.r.below(6) {
             0 => {
                 let (current, target) = pair_of_hues(&mut self.r);
                 let direction = self.r.below(4);
@@ -1265,6 +1266,10 @@ impl<S: Stage> Maker<S> {
                 let on = self.on_off();
                 let (options, mask, over) = (self.byte(), self.byte(), self.byte());
                 say!(self, "leaf leave {on} {options} {mask} {over}");
+            }
+            3 => {
+                let stored = hue(&mut self.r);
+                say!(self, "leaf shown {stored}");
             }
             _ => {
                 say!(self, "show");

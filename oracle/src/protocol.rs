@@ -55,6 +55,7 @@ pub enum Call {
     Remaining(u16, u64, bool),
     Leave(OnOff, u8, u8, u8),
     ModeOf(EnhancedColorModeEnum),
+    Shown(u16),
 }
 
 /// What a call is answered with.
@@ -64,6 +65,7 @@ pub enum Reply {
     Remaining(bool, u16),
     Leave(bool),
     ModeOf(ColorModeEnum),
+    Shown(u8),
     /// A making that is refused.
     NotMade(u8),
     /// Too early: there is no lamp, or no task was given.
@@ -157,6 +159,7 @@ impl Player {
             }
             Reply::Leave(leave) => number(out, leave as u64),
             Reply::ModeOf(mode) => number(out, mode as u64),
+            Reply::Shown(hue) => number(out, hue.into()),
             Reply::NotMade(cause) => {
                 out.extend_from_slice(b"refused ");
                 number(out, cause.into());
@@ -181,6 +184,9 @@ impl Player {
                 Reply::Leave(self.handlers[0].should_continue(on_off, options, mask, over))
             }
             Call::ModeOf(emode) => Reply::ModeOf(driver::leaf_mode_of(emode)),
+            Call::Shown(stored) => {
+                Reply::Shown(guard::shown(stored, self.handlers[0].current_hue(stored)))
+            }
             Call::New(min, max, features, options, clock) => {
                 if clock > guard::LIMIT {
                     Reply::NotMade(4)
@@ -943,6 +949,7 @@ impl<'a> Words<'a> {
                 b"remaining" => Call::Remaining(self.u16()?, self.u64()?, self.bit()?),
                 b"leave" => Call::Leave(self.on_off()?, self.u8()?, self.u8()?, self.u8()?),
                 b"mode_of" => Call::ModeOf(self.emode()?),
+                b"shown" => Call::Shown(self.u16()?),
                 _ => return None,
             },
             _ => return None,

@@ -5,6 +5,7 @@ use core::error::Error;
 use core::fmt;
 
 use crate::commands;
+use crate::hue;
 use crate::lamp::{Answer, Call, Lamp, Made};
 use crate::matter::{
     self, Bounds, ColorLoopActionEnum, ColorLoopDirectionEnum, Command, CommandOptions,
@@ -216,6 +217,26 @@ impl Lamp {
         clock: u64,
     ) -> Result<Answer, Refusal> {
         commands::invoke(self, request.into(), on_off, clock).result()
+    }
+
+    /// CurrentHue, the one byte that a hub reads: the upper byte of the stored hue, at most 254.
+    ///
+    /// ```
+    /// use yemkruos::{ALL_FEATURES, Band, Bounds, NewLamp};
+    ///
+    /// let bounds = Bounds { min: 153, max: 500 };
+    /// let mut lamp = NewLamp { bounds, features: ALL_FEATURES, options: 0, clock: 0 }.make()?;
+    /// for (stored, shown) in [(65_023, 253), (65_279, 254), (65_280, 254), (65_535, 254)] {
+    ///     lamp.color.hue = stored;
+    ///     assert_eq!(lamp.current_hue(), shown);
+    /// }
+    /// // The stored hues that are shown as 254.
+    /// assert_eq!(Band::of_current_hue(254, 254), Band { low: 65_024, high: 65_535 });
+    /// # Ok::<(), yemkruos::Refusal>(())
+    /// ```
+    #[inline]
+    pub fn current_hue(&self) -> u8 {
+        hue::current_hue(self.color.hue)
     }
 }
 

@@ -11,12 +11,30 @@ pub struct Band {
     pub high: u16,
 }
 
+/// The first stored hue that is shown as `shown`; 255, which is never shown, is taken as 254.
+fn first_shown_as(shown: u8) -> u16 {
+    if shown < 254 {
+        (shown as u16) * 256
+    } else {
+        254 * 256
+    }
+}
+
+/// The last.
+fn last_shown_as(shown: u8) -> u16 {
+    if shown < 254 {
+        (shown as u16) * 256 + 255
+    } else {
+        65535
+    }
+}
+
 impl Band {
-    /// The stored hues that show as those from `low` to `high`.
+    /// The stored hues that are shown as `low` up to `high`; an end of 255 is taken as 254.
     pub fn of_current_hue(low: u8, high: u8) -> Band {
         Band {
-            low: (low as u16) * 256,
-            high: (high as u16) * 256 + 255,
+            low: first_shown_as(low),
+            high: last_shown_as(high),
         }
     }
 }

@@ -67,7 +67,15 @@ pub fn moved_hue(start: u16, part: i64) -> u16 {
     }
 }
 
-/// CurrentHue: the one byte that is shown of the stored hue.
+/// CurrentHue ends there.
+const LAST_CURRENT_HUE: u16 = 254;
+
+/// CurrentHue: the one byte that is shown of the stored hue, its upper one, at most 254.
 pub fn current_hue(hue: u16) -> u8 {
-    (hue / 256) as u8
+    let upper = hue / 256;
+    if upper < LAST_CURRENT_HUE {
+        upper as u8
+    } else {
+        LAST_CURRENT_HUE as u8
+    }
 }

@@ -1,5 +1,6 @@
 //! The layer by hand.
 
+use yemkruos::hue;
 use yemkruos::matter::{self, CLOCK_LIMIT};
 use yemkruos::{
     ALL_FEATURES, Band, Bounds, Command, DirectionEnum, NewLamp, Notice, OnOff, Refusal,
@@ -84,6 +85,39 @@ fn options_are_heeded() {
     let sent = |request: matter::Request| lamp.command(request, OnOff::Off, 5000).unwrap();
     assert_eq!(sent(command.into()).given_task(), None);
     assert!(sent(command.with_options(1, 1)).given_task().is_some());
+}
+
+/// The band of shown hues has the stored hues that show them, and no others.
+#[test]
+fn a_band_of_shown_hues_is_what_shows_them() {
+    for (low, high) in [
+        (64, 106),
+        (0, 0),
+        (253, 253),
+        (254, 254),
+        (240, 254),
+        (240, 15),
+        (254, 0),
+    ] {
+        let band = Band::of_current_hue(low, high);
+        for stored in 0..=u16::MAX {
+            let shown = hue::current_hue(stored);
+            let named = if low <= high {
+                (low..=high).contains(&shown)
+            } else {
+                low <= shown || shown <= high
+            };
+            assert_eq!(
+                passes_through(stored, stored, DirectionEnum::Up, band),
+                named,
+                "{low} to {high}: {stored}"
+            );
+        }
+    }
+    assert_eq!(
+        Band::of_current_hue(255, 255),
+        Band::of_current_hue(254, 254)
+    );
 }
 
 #[test]

@@ -5,12 +5,12 @@ use mathlib.Core.List.{List, [], _∷_, _++_}
 use Rattle.matter.specs.declared.enums.EnhancedColorModeEnum.{EnhancedColorModeEnum}
 use Rattle.matter.specs.Numbers.{colorModeNumber}
 use Rattle.matter.specs.Rules.{mayExecute, colorModeOf}
-use Rattle.hue.specs.Hue.{pathDelta, isTie}
+use Rattle.hue.specs.Hue.{pathDelta, isTie, currentHue}
 use Rattle.remaining_time.specs.declared.Written.{Written}
 use Rattle.remaining_time.specs.RemainingTime.{writtenQuietly}
 use Rattle.text.specs.Ascii.{ascii}
 use Rattle.text.specs.Digits.{decimal, signedDecimal}
-use Rattle.text.specs.Readers.{Read, Reader, give, _then_, number8, number16, number64, flag, _means_, byName}
+use Rattle.text.specs.Readers.{Read, Reader, give, _then_, number8, number16, number64, flag, Row, _means_, byName}
 use Rattle.lamp_lines.specs.Enums.{directionAt, enhancedModeAt, onOffAt}
 use Rattle.call_lines.specs.declared.leaves.DeltaAsked.{DeltaAsked}
 use Rattle.call_lines.specs.declared.leaves.RemainingAsked.{RemainingAsked}
@@ -43,13 +43,22 @@ leaveAskedAt =
 unfoldable pub modeOfAskedAt : Reader Leaf
 modeOfAskedAt = give Leaf.ModeOf then enhancedModeAt
 
--- by its name
+-- <hue>
+unfoldable pub shownAskedAt : Reader Leaf
+shownAskedAt = give Leaf.Shown then number16
+
+abbrev pub leaves : List (Row Leaf)
+leaves =
+    "delta" means deltaAskedAt
+    ∷ "remaining" means remainingAskedAt
+    ∷ "leave" means leaveAskedAt
+    ∷ "mode_of" means modeOfAskedAt
+    ∷ "shown" means shownAskedAt
+    ∷ []
+
+-- by the leaf's name
 unfoldable pub leafAt : Reader Leaf
-leafAt =
-    byName
-    ("delta" means deltaAskedAt ∷ "remaining" means remainingAskedAt ∷ "leave" means leaveAskedAt
-    ∷ "mode_of" means modeOfAskedAt ∷ [])
-    (Leaf.ModeOf EnhancedColorModeEnum.CurrentXAndCurrentY)
+leafAt = byName leaves (Leaf.ModeOf EnhancedColorModeEnum.CurrentXAndCurrentY)
 
 -- ---- what is answered
 
@@ -75,8 +84,13 @@ leaveText a = bitText (mayExecute (a .«on_off») (a .options) (a .given .mask) 
 abbrev pub modeOfText : EnhancedColorModeEnum → List ℕ
 modeOfText emode = decimal (colorModeNumber (colorModeOf emode))
 
+-- CurrentHue of a stored hue
+abbrev pub shownText : ℕ → List ℕ
+shownText stored = decimal (currentHue stored)
+
 unfoldable pub leafText : Leaf → List ℕ
 leafText (Leaf.Delta a) = deltaText a
 leafText (Leaf.Remaining a) = remainingText a
 leafText (Leaf.Leave a) = leaveText a
 leafText (Leaf.ModeOf emode) = modeOfText emode
+leafText (Leaf.Shown stored) = shownText stored

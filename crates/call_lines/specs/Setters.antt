@@ -10,7 +10,7 @@ use Rattle.lamp.specs.declared.Lamp.{Lamp}
 use Rattle.lamp.specs.Answers.{atClock, firstCause}
 use Rattle.lamp.specs.Calls.{choose, done}
 use Rattle.lamp.specs.Passes.{Effect, changed}
-use Rattle.text.specs.Readers.{Read, Reader, give, _then_, number8, number16, number64, flag, _means_, byName}
+use Rattle.text.specs.Readers.{Read, Reader, give, _then_, number8, number16, number64, flag, Row, _means_, byName}
 use Rattle.call_lines.specs.declared.setters.NewValue.{NewValue}
 use Rattle.call_lines.specs.declared.setters.Setting.{Setting}
 
@@ -31,12 +31,12 @@ saturationSettingAt =
 unfoldable pub miredsSettingAt : Reader Setting
 miredsSettingAt = give (λ mireds. settingOf (NewValue.Mireds mireds)) then number16 then flag then number64
 
+abbrev pub settings : List (Row Setting)
+settings = "hue" means hueSettingAt ∷ "sat" means saturationSettingAt ∷ "ct" means miredsSettingAt ∷ []
+
 -- by the setter's name
 unfoldable pub settingAt : Reader Setting
-settingAt =
-    byName
-    ("hue" means hueSettingAt ∷ "sat" means saturationSettingAt ∷ "ct" means miredsSettingAt ∷ [])
-    (settingOf (NewValue.Mireds 0) false 0)
+settingAt = byName settings (settingOf (NewValue.Mireds 0) false 0)
 
 -- the colour after the setter, and the change
 abbrev pub colorSet : Color → NewValue → Bool → ℕ → ColorSet

@@ -13,7 +13,7 @@ use text::writer;
 ghost use mathlib.Core.Path.{_≡_};
 ghost use Rattle.text.specs.Readers.{Reads};
 ghost use Rattle.text.specs.Written.{Written};
-ghost use Rattle.call_lines.specs.Leaves.{deltaAskedAt, remainingAskedAt, leaveAskedAt, modeOfAskedAt, leafAt, bitText, deltaText, remainingText, leaveText, modeOfText, leafText};
+ghost use Rattle.call_lines.specs.Leaves.{deltaAskedAt, remainingAskedAt, leaveAskedAt, modeOfAskedAt, shownAskedAt, leafAt, bitText, deltaText, remainingText, leaveText, modeOfText, shownText, leafText};
 
 pub struct DeltaAsked {
     pub current: u16,
@@ -38,6 +38,7 @@ pub enum Leaf {
     Remaining(RemainingAsked),
     Leave(LeaveAsked),
     ModeOf(EnhancedColorModeEnum),
+    Shown(u16),
 }
 
 pub struct LeafRead {
@@ -107,6 +108,16 @@ fn mode_of_read(line: &[u8], at: usize) -> LeafRead
     }
 }
 
+fn shown_read(line: &[u8], at: usize) -> LeafRead
+    ensures { λ r. ⌜ Reads (shownAskedAt (now (line .entry)) at) (r .value) (r .at) ⌝ }
+{
+    let hue = numbers::number_16(line, at);
+    LeafRead {
+        value: Leaf::Shown(hue.value),
+        at: hue.at,
+    }
+}
+
 // The leaf's name and what it is asked.
 pub fn read(line: &[u8], at: usize) -> LeafRead
     ensures { λ r. ⌜ Reads (leafAt (now (line .entry)) at) (r .value) (r .at) ⌝ }
@@ -124,6 +135,9 @@ pub fn read(line: &[u8], at: usize) -> LeafRead
     }
     if words::is(line, name, b"mode_of") {
         return mode_of_read(line, end);
+    }
+    if words::is(line, name, b"shown") {
+        return shown_read(line, end);
     }
     LeafRead {
         value: Leaf::ModeOf(EnhancedColorModeEnum::CurrentXAndCurrentY),
@@ -179,6 +193,13 @@ fn mode_of(emode: EnhancedColorModeEnum, out: &mut [u8], at: usize) -> usize
     writer::decimal(out, at, number as u64)
 }
 
+fn shown(stored: u16, out: &mut [u8], at: usize) -> usize
+    ensures { λ r. ⌜ Written (now (out .entry)) at (shownText stored) (now (out .exit)) r ⌝ }
+{
+    let current = hue::current_hue(stored);
+    writer::decimal(out, at, current as u64)
+}
+
 // Writes the answer, without a newline.
 pub fn ask(leaf: Leaf, out: &mut [u8], at: usize) -> usize
     ensures { λ r. ⌜ Written (now (out .entry)) at (leafText leaf) (now (out .exit)) r ⌝ }
@@ -188,5 +209,6 @@ pub fn ask(leaf: Leaf, out: &mut [u8], at: usize) -> usize
         Leaf::Remaining(asked) => remaining(asked, out, at),
         Leaf::Leave(asked) => may_execute(asked, out, at),
         Leaf::ModeOf(emode) => mode_of(emode, out, at),
+        Leaf::Shown(stored) => shown(stored, out, at),
     }
 }

@@ -71,6 +71,7 @@ fn help(state: State, out: &mut [u8], at: usize) -> Turn {
           leaf remaining <old> <ms> <start 0|1>\n\
           leaf leave <on|off|none> <options> <mask> <override>\n\
           leaf mode_of <emode>\n\
+          leaf shown <hue>\n\
           help\n",
     );
     Turn {

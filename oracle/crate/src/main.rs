@@ -59,6 +59,7 @@ impl Both {
             (Theirs::Remaining(x, m), Ours::Remaining(y, n)) => x == y && m == n,
             (Theirs::Leave(x), Ours::Leave(y)) => x == y,
             (Theirs::ModeOf(x), Ours::ModeOf(y)) => x == y,
+            (Theirs::Shown(x), Ours::Shown(y)) => x == y,
             (Theirs::NotMade(x), Ours::NotMade(y)) => x == y,
             (Theirs::Error, Ours::Error) => true,
             (Theirs::OnLamp(end), Ours::OnLamp(answer)) => {

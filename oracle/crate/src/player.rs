@@ -3,7 +3,7 @@
 use oracle_lib::data;
 use oracle_lib::protocol::Call;
 use yemkruos::commands::{self, *};
-use yemkruos::hue::{HuePath, hue_path_delta};
+use yemkruos::hue::{HuePath, current_hue, hue_path_delta};
 use yemkruos::lamp::{self, Answer, Lamp, Made};
 use yemkruos::matter::{Bounds, color_mode_of, should_continue};
 use yemkruos::remaining_time::RemainingTime;
@@ -21,6 +21,7 @@ pub enum Reply {
     Remaining(bool, u16),
     Leave(bool),
     ModeOf(data::ColorModeEnum),
+    Shown(u8),
     /// A making that is refused.
     NotMade(u8),
     /// Too early: there is no lamp, or no task was given.
@@ -51,6 +52,7 @@ impl Player {
                 Reply::Leave(should_continue(on_off.ours(), options, mask, over))
             }
             Call::ModeOf(emode) => Reply::ModeOf(color_mode_of(emode.ours()).theirs()),
+            Call::Shown(stored) => Reply::Shown(current_hue(stored)),
             Call::New(min, max, features, options, clock) => {
                 match Lamp::new(Bounds { min, max }, features, options, clock) {
                     Made::Lamp(lamp) => self.put(lamp),

@@ -9,7 +9,7 @@ use oracle_lib::random::Random;
 
 fn main() {
     let args: Vec<String> = std::env::args().skip(1).collect();
-    let usage = "generate delta|leave|mode_of|remaining|set|corners|random|all SEED COUNT [few]";
+    let usage = "generate delta|leave|mode_of|remaining|shown|set|corners|random|all SEED COUNT [few]";
     let (Some(kind), Some(seed), Some(count)) = (
         args.first(),
         args.get(1).and_then(|x| x.parse().ok()),
@@ -28,6 +28,7 @@ fn main() {
             "leave" => "leaf leave on 0 0 0",
             "mode_of" => "leaf mode_of 3",
             "remaining" => "leaf remaining 0 1100 0",
+            "shown" => "leaf shown 65280",
             _ => "show",
         },
     };
@@ -37,6 +38,7 @@ fn main() {
         "leave" => leave(&mut out, few),
         "mode_of" => mode_of(&mut out),
         "remaining" => remaining(&mut out, r, count),
+        "shown" => shown(&mut out),
         "set" => Maker::new(Text::new(out), r).sets(count),
         "corners" => Maker::new(Text::new(out), r).aimed(),
         "random" => Maker::new(Text::new(out), r).random(count),
@@ -186,6 +188,14 @@ fn mode_of(out: &mut Out) {
     for emode in 0..300u64 {
         out.text.extend_from_slice(b"leaf mode_of ");
         number(&mut out.text, emode);
+        out.end_line();
+    }
+}
+
+fn shown(out: &mut Out) {
+    for stored in 0..=u16::MAX {
+        out.text.extend_from_slice(b"leaf shown ");
+        number(&mut out.text, stored.into());
         out.end_line();
     }
 }

@@ -5,7 +5,7 @@ mod setters;
 mod write;
 
 use yemkruos::commands;
-use yemkruos::hue::hue_path_delta;
+use yemkruos::hue::{current_hue, hue_path_delta};
 use yemkruos::lamp::{Answer, Call, Lamp, Made};
 use yemkruos::matter::{Bounds, DirectionEnum, EnhancedColorModeEnum, OnOff};
 use yemkruos::matter::{color_mode_of, should_continue};
@@ -31,6 +31,7 @@ pub enum Line {
     Remaining(u16, u64, bool),
     Leave(OnOff, u8, u8, u8),
     ModeOf(EnhancedColorModeEnum),
+    Shown(u16),
 }
 
 #[derive(Default)]
@@ -69,6 +70,7 @@ impl Player {
                 (should_continue(on_off, options, mask, overrides) as u8).to_string()
             }
             Line::ModeOf(mode) => color_mode_of(mode).number().to_string(),
+            Line::Shown(stored) => current_hue(stored).to_string(),
             Line::New(bounds, features, options, clock) => {
                 match Lamp::new(bounds, features, options, clock) {
                     Made::Lamp(lamp) => self.put(lamp),

@@ -333,6 +333,7 @@ impl Words<'_> {
             b"remaining" => Line::Remaining(self.u16()?, self.u64()?, self.bit()?),
             b"leave" => Line::Leave(self.on_off()?, self.u8()?, self.u8()?, self.u8()?),
             b"mode_of" => Line::ModeOf(self.enhanced_mode()?),
+            b"shown" => Line::Shown(self.u16()?),
             _ => return None,
         })
     }

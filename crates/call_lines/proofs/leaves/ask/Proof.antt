@@ -28,6 +28,12 @@ enum-known-leaf-4 c = search needs
 mode-of-requires : tie.Need-mode-of-requires
 mode-of-requires c κs = search needs
 
+enum-known-leaf-5 : tie.Need-enum-known-leaf-5
+enum-known-leaf-5 c = search needs
+
+shown-requires : tie.Need-shown-requires
+shown-requires c κs = search needs
+
 same-length : tie.Need-same-length
 same-length c = search needs
 
@@ -56,6 +62,13 @@ returns-4 : tie.Need-returns-4
 unfolding leafText
 returns-4 c = let made = c .before .before in rw (made .before .before .before .leaf4 .given .1) (made .mode-of .ensures)
 
+same-length-5 : tie.Need-same-length-5
+same-length-5 c = search needs
+
+returns-5 : tie.Need-returns-5
+unfolding leafText
+returns-5 c = let made = c .before .before in rw (made .before .before .before .leaf5 .given .1) (made .shown .ensures)
+
 pub ask-spec : {M : Type 1} → statement M
 ask-spec =
     tie.close
@@ -68,6 +81,8 @@ ask-spec =
     may-execute-requires
     enum-known-leaf-4
     mode-of-requires
+    enum-known-leaf-5
+    shown-requires
     same-length
     returns
     same-length-2
@@ -75,4 +90,6 @@ ask-spec =
     same-length-3
     returns-3
     same-length-4
-    returns-4)
+    returns-4
+    same-length-5
+    returns-5)

@@ -1,10 +1,51 @@
 -- A row is passed where the name is another; the callee reads the row that is taken.
-use mathlib.Core.Path.{refl}
-use Rattle.text.proofs.ReadLaws.{here, past}
-use Rattle.call_lines.specs.Setters.{settingAt}
+use Prim.Native.Nat.{ℕ}
+use mathlib.Core.Path.{_≡_, refl, _∙_}
+use mathlib.Core.Bool.{false}
+use lib.ListN.{drop}
+use Rattle.text.specs.Readers.{named, unknown}
+use Rattle.call_lines.specs.declared.setters.NewValue.{NewValue}
+use Rattle.call_lines.specs.Setters.{settingOf, settings, settingAt}
+use Rattle.call_lines.proofs.NamedLaws.{taken, passed, along}
 use borrow.Author.Needs.{needs}
 use Rattle.call_lines.proofs.setters.read.Statement.{statement}
 use Rattle.call_lines.proofs.setters.read.Tie as tie
+
+-- the rows from k on are left
+abbrev Left : tie.After-end → ℕ → Type 0
+Left e k =
+    settingAt (e .before .before .before .args .line .now) (e .before .before .before .args .at) ≡ named (drop k settings) (unknown (settingOf (NewValue.Mireds 0) false 0)) (e .before .before .before .args .line .now) (e .before .start .result) (e .end .result)
+
+all : (e : tie.After-end) → Left e 0
+unfolding settingAt
+all e = rw (e .end .ensures, e .before .start .ensures)
+
+abbrev end1 : tie.Else1 → tie.After-end
+end1 c = c .before .before .before
+
+past1 : (c : tie.Else1) → Left (end1 c) 1
+past1 c =
+    let e = end1 c in
+    all e
+    ∙ passed settings (unknown (settingOf (NewValue.Mireds 0) false 0)) (e .before .before .before .args .line .now) (e .before .start .result) (e .end .result) (c .before .is .ensures) (c .if1 .left)
+
+abbrev end2 : tie.Else2 → tie.After-end
+end2 c = end1 (c .before .before .before)
+
+past2 : (c : tie.Else2) → Left (end2 c) 2
+past2 c =
+    let e = end2 c in
+    past1 (c .before .before .before)
+    ∙ passed (drop 1 settings) (unknown (settingOf (NewValue.Mireds 0) false 0)) (e .before .before .before .args .line .now) (e .before .start .result) (e .end .result) (c .before .is2 .ensures) (c .if2 .left)
+
+abbrev end3 : tie.Else3 → tie.After-end
+end3 c = end2 (c .before .before .before)
+
+past3 : (c : tie.Else3) → Left (end3 c) 3
+past3 c =
+    let e = end3 c in
+    past2 (c .before .before .before)
+    ∙ passed (drop 2 settings) (unknown (settingOf (NewValue.Mireds 0) false 0)) (e .before .before .before .args .line .now) (e .before .start .result) (e .end .result) (c .before .is3 .ensures) (c .if3 .left)
 
 start-requires : tie.Need-start-requires
 start-requires c κs = search needs
@@ -22,15 +63,11 @@ hue-requires : tie.Need-hue-requires
 hue-requires c κs = search needs
 
 returns : tie.Need-returns
-unfolding settingAt
 returns c =
-    let at-if1 = c .before in
-    let at-is = at-if1 .before in
-    let at-end = at-is .before .before in
-    let at-start = at-end .before in
-    rw (← (at-start .start .ensures), ← (at-end .end .ensures))
-    (here _ _ (at-is .is .ensures) (at-if1 .if1 .taken)
-    (c .hue .ensures))
+    let e = c .before .before .before .before in
+    along _ _ (all e
+    ∙ taken settings (unknown (settingOf (NewValue.Mireds 0) false 0)) (e .before .before .before .args .line .now) (e .before .start .result) (e .end .result) (c .before .before .is .ensures) (c .before .if1 .taken))
+    (c .hue .ensures)
 
 slice-aggregate-is-2 : tie.Need-slice-aggregate-is-2
 slice-aggregate-is-2 c = search needs
@@ -42,18 +79,11 @@ saturation-requires : tie.Need-saturation-requires
 saturation-requires c κs = search needs
 
 returns-2 : tie.Need-returns-2
-unfolding settingAt
 returns-2 c =
-    let at-if2 = c .before in
-    let at-is2 = at-if2 .before in
-    let at-if1 = at-is2 .before .before in
-    let at-is = at-if1 .before in
-    let at-end = at-is .before .before in
-    let at-start = at-end .before in
-    rw (← (at-start .start .ensures), ← (at-end .end .ensures))
-    (past _ _ (at-is .is .ensures) (at-if1 .if1 .left)
-    (here _ _ (at-is2 .is2 .ensures) (at-if2 .if2 .taken)
-    (c .saturation .ensures)))
+    let e = end1 (c .before .before .before .before) in
+    along _ _ (past1 (c .before .before .before .before)
+    ∙ taken (drop 1 settings) (unknown (settingOf (NewValue.Mireds 0) false 0)) (e .before .before .before .args .line .now) (e .before .start .result) (e .end .result) (c .before .before .is2 .ensures) (c .before .if2 .taken))
+    (c .saturation .ensures)
 
 slice-aggregate-is-3 : tie.Need-slice-aggregate-is-3
 slice-aggregate-is-3 c = search needs
@@ -65,37 +95,15 @@ mireds-requires : tie.Need-mireds-requires
 mireds-requires c κs = search needs
 
 returns-3 : tie.Need-returns-3
-unfolding settingAt
 returns-3 c =
-    let at-if3 = c .before in
-    let at-is3 = at-if3 .before in
-    let at-if2 = at-is3 .before .before in
-    let at-is2 = at-if2 .before in
-    let at-if1 = at-is2 .before .before in
-    let at-is = at-if1 .before in
-    let at-end = at-is .before .before in
-    let at-start = at-end .before in
-    rw (← (at-start .start .ensures), ← (at-end .end .ensures))
-    (past _ _ (at-is .is .ensures) (at-if1 .if1 .left)
-    (past _ _ (at-is2 .is2 .ensures) (at-if2 .if2 .left)
-    (here _ _ (at-is3 .is3 .ensures) (at-if3 .if3 .taken)
-    (c .mireds .ensures))))
+    let e = end2 (c .before .before .before .before) in
+    along _ _ (past2 (c .before .before .before .before)
+    ∙ taken (drop 2 settings) (unknown (settingOf (NewValue.Mireds 0) false 0)) (e .before .before .before .args .line .now) (e .before .start .result) (e .end .result) (c .before .before .is3 .ensures) (c .before .if3 .taken))
+    (c .mireds .ensures)
 
 returns-4 : tie.Need-returns-4
-unfolding settingAt
 returns-4 c =
-    let at-is3 = c .before in
-    let at-if2 = at-is3 .before .before in
-    let at-is2 = at-if2 .before in
-    let at-if1 = at-is2 .before .before in
-    let at-is = at-if1 .before in
-    let at-end = at-is .before .before in
-    let at-start = at-end .before in
-    rw (← (at-start .start .ensures), ← (at-end .end .ensures))
-    (past _ _ (at-is .is .ensures) (at-if1 .if1 .left)
-    (past _ _ (at-is2 .is2 .ensures) (at-if2 .if2 .left)
-    (past _ _ (at-is3 .is3 .ensures) (c .if3 .left)
-    ((refl, refl)))))
+    along _ _ (past3 c) (refl, refl)
 
 pub read-spec : {M : Type 1} → statement M
 read-spec =
