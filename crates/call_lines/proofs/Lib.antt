@@ -1,2 +1,1 @@
-pub mod NamedLaws
 pub mod SettingLaws

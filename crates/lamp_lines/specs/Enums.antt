@@ -14,7 +14,7 @@ use Rattle.matter.specs.declared.enums.MoveModeEnum.{MoveModeEnum}
 use Rattle.matter.specs.declared.enums.OnOff.{OnOff}
 use Rattle.matter.specs.declared.enums.StepModeEnum.{StepModeEnum}
 use Rattle.text.specs.Words.{lost}
-use Rattle.text.specs.Readers.{Read, Reader, give, number8, _means_, byName}
+use Rattle.text.specs.Readers.{Read, Reader, Row, give, number8, _means_, byName}
 
 -- the case whose number is the next word; where no case has it, no position
 abbrev pub enum : {E : Type 0} → (E → ℕ) → List E → E → Reader E
@@ -44,7 +44,8 @@ unfoldable pub enhancedModeAt : Reader EnhancedColorModeEnum
 enhancedModeAt = enum enhancedColorModeNumber enhancedColorModes EnhancedColorModeEnum.CurrentXAndCurrentY
 
 -- `none`: no on/off handler
+abbrev pub onOffs : List (Row OnOff)
+onOffs = "on" means give OnOff.On ∷ "off" means give OnOff.Off ∷ "none" means give OnOff.NoHandler ∷ []
+
 unfoldable pub onOffAt : Reader OnOff
-onOffAt =
-    byName ("on" means give OnOff.On ∷ "off" means give OnOff.Off ∷ "none" means give OnOff.NoHandler ∷ [])
-    OnOff.NoHandler
+onOffAt = byName onOffs OnOff.NoHandler

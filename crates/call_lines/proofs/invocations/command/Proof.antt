@@ -1,82 +1,69 @@
 -- A row is passed where the name is another; the callee reads the row that is taken.
-use Prim.Native.Nat.{ℕ}
-use mathlib.Core.Path.{_≡_, _∙_}
+use mathlib.Core.List.{List}
+use mathlib.Core.Path.{refl}
 use lib.ListN.{drop}
 use Rattle.matter.specs.declared.commands.Command.{Command}
-use Rattle.text.specs.Readers.{named, unknown}
+use Rattle.text.specs.Readers.{Reader, Row, unknown}
+use Rattle.text.proofs.NamedLaws.{Left, pass, take, rest}
 use Rattle.call_lines.specs.Commands.{commands, otherCommandAt, commandAt}
-use Rattle.call_lines.proofs.NamedLaws.{taken, passed, along}
 use borrow.Author.Needs.{needs}
 use Rattle.call_lines.proofs.invocations.command.Statement.{statement}
 use Rattle.call_lines.proofs.invocations.command.Tie as tie
 
--- the rows from k on are left
-abbrev Left : tie.Start → ℕ → Type 0
-Left s k =
-    commandAt (s .args .line .now) (s .args .name) (s .args .at) ≡ named (drop k commands) (unknown Command.StopMoveStep) (s .args .line .now) (s .args .name) (s .args .at)
+abbrev other : Reader Command
+other = unknown Command.StopMoveStep
 
-abbrev start1 : tie.Else1 → tie.Start
-start1 c = c .before .before .before .before
+-- these rows are left
+abbrev Rows : tie.Start → List (Row Command) → Type 0
+Rows s rows =
+    Left (commandAt (s .args .line .now) (s .args .name) (s .args .at)) rows other
+    (s .args .line .now) (s .args .name) (s .args .at)
 
-past1 : (c : tie.Else1) → Left (start1 c) 1
+all : (s : tie.Start) → Rows s commands
 unfolding commandAt
-past1 c =
-    let args = start1 c .args in
-    passed commands (unknown Command.StopMoveStep) (args .line .now) (args .name) (args .at) (c .before .is .ensures) (c .if1 .left)
+all s = record { same = refl }
 
-abbrev start2 : tie.Else2 → tie.Start
-start2 c = start1 (c .before .before .before)
+abbrev from1 : tie.Else1 → tie.Start
+from1 c = c .before .before .before .before
 
-past2 : (c : tie.Else2) → Left (start2 c) 2
-past2 c =
-    let args = start2 c .args in
-    past1 (c .before .before .before)
-    ∙ passed (drop 1 commands) (unknown Command.StopMoveStep) (args .line .now) (args .name) (args .at) (c .before .is2 .ensures) (c .if2 .left)
+past1 : (c : tie.Else1) → Rows (from1 c) (drop 1 commands)
+past1 c = pass (all (from1 c)) (c .before .is .ensures) (c .if1 .left)
 
-abbrev start3 : tie.Else3 → tie.Start
-start3 c = start2 (c .before .before .before)
+abbrev from2 : tie.Else2 → tie.Start
+from2 c = from1 (c .before .before .before)
 
-past3 : (c : tie.Else3) → Left (start3 c) 3
-past3 c =
-    let args = start3 c .args in
-    past2 (c .before .before .before)
-    ∙ passed (drop 2 commands) (unknown Command.StopMoveStep) (args .line .now) (args .name) (args .at) (c .before .is3 .ensures) (c .if3 .left)
+past2 : (c : tie.Else2) → Rows (from2 c) (drop 2 commands)
+past2 c = pass (past1 (c .before .before .before)) (c .before .is2 .ensures) (c .if2 .left)
 
-abbrev start4 : tie.Else4 → tie.Start
-start4 c = start3 (c .before .before .before)
+abbrev from3 : tie.Else3 → tie.Start
+from3 c = from2 (c .before .before .before)
 
-past4 : (c : tie.Else4) → Left (start4 c) 4
-past4 c =
-    let args = start4 c .args in
-    past3 (c .before .before .before)
-    ∙ passed (drop 3 commands) (unknown Command.StopMoveStep) (args .line .now) (args .name) (args .at) (c .before .is4 .ensures) (c .if4 .left)
+past3 : (c : tie.Else3) → Rows (from3 c) (drop 3 commands)
+past3 c = pass (past2 (c .before .before .before)) (c .before .is3 .ensures) (c .if3 .left)
 
-abbrev start5 : tie.Else5 → tie.Start
-start5 c = start4 (c .before .before .before)
+abbrev from4 : tie.Else4 → tie.Start
+from4 c = from3 (c .before .before .before)
 
-past5 : (c : tie.Else5) → Left (start5 c) 5
-past5 c =
-    let args = start5 c .args in
-    past4 (c .before .before .before)
-    ∙ passed (drop 4 commands) (unknown Command.StopMoveStep) (args .line .now) (args .name) (args .at) (c .before .is5 .ensures) (c .if5 .left)
+past4 : (c : tie.Else4) → Rows (from4 c) (drop 4 commands)
+past4 c = pass (past3 (c .before .before .before)) (c .before .is4 .ensures) (c .if4 .left)
 
-abbrev start6 : tie.Else6 → tie.Start
-start6 c = start5 (c .before .before .before)
+abbrev from5 : tie.Else5 → tie.Start
+from5 c = from4 (c .before .before .before)
 
-past6 : (c : tie.Else6) → Left (start6 c) 6
-past6 c =
-    let args = start6 c .args in
-    past5 (c .before .before .before)
-    ∙ passed (drop 5 commands) (unknown Command.StopMoveStep) (args .line .now) (args .name) (args .at) (c .before .is6 .ensures) (c .if6 .left)
+past5 : (c : tie.Else5) → Rows (from5 c) (drop 5 commands)
+past5 c = pass (past4 (c .before .before .before)) (c .before .is5 .ensures) (c .if5 .left)
 
-abbrev start7 : tie.Else7 → tie.Start
-start7 c = start6 (c .before .before .before)
+abbrev from6 : tie.Else6 → tie.Start
+from6 c = from5 (c .before .before .before)
 
-past7 : (c : tie.Else7) → Left (start7 c) 7
-past7 c =
-    let args = start7 c .args in
-    past6 (c .before .before .before)
-    ∙ passed (drop 6 commands) (unknown Command.StopMoveStep) (args .line .now) (args .name) (args .at) (c .before .is7 .ensures) (c .if7 .left)
+past6 : (c : tie.Else6) → Rows (from6 c) (drop 6 commands)
+past6 c = pass (past5 (c .before .before .before)) (c .before .is6 .ensures) (c .if6 .left)
+
+abbrev from7 : tie.Else7 → tie.Start
+from7 c = from6 (c .before .before .before)
+
+past7 : (c : tie.Else7) → Rows (from7 c) (drop 7 commands)
+past7 c = pass (past6 (c .before .before .before)) (c .before .is7 .ensures) (c .if7 .left)
 
 slice-aggregate-is : tie.Need-slice-aggregate-is
 slice-aggregate-is c = search needs
@@ -88,10 +75,8 @@ move-to-hue-requires : tie.Need-move-to-hue-requires
 move-to-hue-requires c κs = search needs
 
 returns : tie.Need-returns
-unfolding commandAt
 returns c =
-    let args = c .before .before .before .before .before .args in
-    along _ _ (taken commands (unknown Command.StopMoveStep) (args .line .now) (args .name) (args .at) (c .before .before .is .ensures) (c .before .if1 .taken))
+    take (all (c .before .before .before .before .before)) (c .before .before .is .ensures) (c .before .if1 .taken)
     (c .move-to-hue .ensures)
 
 slice-aggregate-is-2 : tie.Need-slice-aggregate-is-2
@@ -105,9 +90,7 @@ move-hue-requires c κs = search needs
 
 returns-2 : tie.Need-returns-2
 returns-2 c =
-    let args = start1 (c .before .before .before .before) .args in
-    along _ _ (past1 (c .before .before .before .before)
-    ∙ taken (drop 1 commands) (unknown Command.StopMoveStep) (args .line .now) (args .name) (args .at) (c .before .before .is2 .ensures) (c .before .if2 .taken))
+    take (past1 (c .before .before .before .before)) (c .before .before .is2 .ensures) (c .before .if2 .taken)
     (c .move-hue .ensures)
 
 slice-aggregate-is-3 : tie.Need-slice-aggregate-is-3
@@ -121,9 +104,7 @@ step-hue-requires c κs = search needs
 
 returns-3 : tie.Need-returns-3
 returns-3 c =
-    let args = start2 (c .before .before .before .before) .args in
-    along _ _ (past2 (c .before .before .before .before)
-    ∙ taken (drop 2 commands) (unknown Command.StopMoveStep) (args .line .now) (args .name) (args .at) (c .before .before .is3 .ensures) (c .before .if3 .taken))
+    take (past2 (c .before .before .before .before)) (c .before .before .is3 .ensures) (c .before .if3 .taken)
     (c .step-hue .ensures)
 
 slice-aggregate-is-4 : tie.Need-slice-aggregate-is-4
@@ -137,9 +118,7 @@ enhanced-move-to-hue-requires c κs = search needs
 
 returns-4 : tie.Need-returns-4
 returns-4 c =
-    let args = start3 (c .before .before .before .before) .args in
-    along _ _ (past3 (c .before .before .before .before)
-    ∙ taken (drop 3 commands) (unknown Command.StopMoveStep) (args .line .now) (args .name) (args .at) (c .before .before .is4 .ensures) (c .before .if4 .taken))
+    take (past3 (c .before .before .before .before)) (c .before .before .is4 .ensures) (c .before .if4 .taken)
     (c .enhanced-move-to-hue .ensures)
 
 slice-aggregate-is-5 : tie.Need-slice-aggregate-is-5
@@ -153,9 +132,7 @@ enhanced-move-hue-requires c κs = search needs
 
 returns-5 : tie.Need-returns-5
 returns-5 c =
-    let args = start4 (c .before .before .before .before) .args in
-    along _ _ (past4 (c .before .before .before .before)
-    ∙ taken (drop 4 commands) (unknown Command.StopMoveStep) (args .line .now) (args .name) (args .at) (c .before .before .is5 .ensures) (c .before .if5 .taken))
+    take (past4 (c .before .before .before .before)) (c .before .before .is5 .ensures) (c .before .if5 .taken)
     (c .enhanced-move-hue .ensures)
 
 slice-aggregate-is-6 : tie.Need-slice-aggregate-is-6
@@ -169,9 +146,7 @@ enhanced-step-hue-requires c κs = search needs
 
 returns-6 : tie.Need-returns-6
 returns-6 c =
-    let args = start5 (c .before .before .before .before) .args in
-    along _ _ (past5 (c .before .before .before .before)
-    ∙ taken (drop 5 commands) (unknown Command.StopMoveStep) (args .line .now) (args .name) (args .at) (c .before .before .is6 .ensures) (c .before .if6 .taken))
+    take (past5 (c .before .before .before .before)) (c .before .before .is6 .ensures) (c .before .if6 .taken)
     (c .enhanced-step-hue .ensures)
 
 slice-aggregate-is-7 : tie.Need-slice-aggregate-is-7
@@ -185,9 +160,7 @@ move-to-hue-and-saturation-requires c κs = search needs
 
 returns-7 : tie.Need-returns-7
 returns-7 c =
-    let args = start6 (c .before .before .before .before) .args in
-    along _ _ (past6 (c .before .before .before .before)
-    ∙ taken (drop 6 commands) (unknown Command.StopMoveStep) (args .line .now) (args .name) (args .at) (c .before .before .is7 .ensures) (c .before .if7 .taken))
+    take (past6 (c .before .before .before .before)) (c .before .before .is7 .ensures) (c .before .if7 .taken)
     (c .move-to-hue-and-saturation .ensures)
 
 other-command-requires : tie.Need-other-command-requires
@@ -195,8 +168,7 @@ other-command-requires c κs = search needs
 
 returns-8 : tie.Need-returns-8
 unfolding otherCommandAt
-returns-8 c =
-    along _ _ (past7 (c .before)) (c .other-command .ensures)
+returns-8 c = rest (past7 (c .before)) (c .other-command .ensures)
 
 pub command-spec : {M : Type 1} → statement M
 command-spec =

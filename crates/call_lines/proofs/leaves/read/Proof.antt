@@ -1,12 +1,12 @@
 -- A row is passed where the name is another; the callee reads the row that is taken.
-use Prim.Native.Nat.{ℕ}
-use mathlib.Core.Path.{_≡_, refl, _∙_}
+use mathlib.Core.List.{List}
+use mathlib.Core.Path.{refl}
 use lib.ListN.{drop}
 use Rattle.matter.specs.declared.enums.EnhancedColorModeEnum.{EnhancedColorModeEnum}
-use Rattle.text.specs.Readers.{Reader, named, unknown}
+use Rattle.text.specs.Readers.{Reader, Row, unknown}
+use Rattle.text.proofs.NamedLaws.{Left, pass, take, rest}
 use Rattle.call_lines.specs.declared.leaves.Leaf.{Leaf}
 use Rattle.call_lines.specs.Leaves.{leaves, leafAt}
-use Rattle.call_lines.proofs.NamedLaws.{taken, passed, along}
 use borrow.Author.Needs.{needs}
 use Rattle.call_lines.proofs.leaves.read.Statement.{statement}
 use Rattle.call_lines.proofs.leaves.read.Tie as tie
@@ -14,59 +14,45 @@ use Rattle.call_lines.proofs.leaves.read.Tie as tie
 abbrev other : Reader Leaf
 other = unknown (Leaf.ModeOf EnhancedColorModeEnum.CurrentXAndCurrentY)
 
--- the rows from k on are left
-abbrev Left : tie.After-end → ℕ → Type 0
-Left e k =
-    leafAt (e .before .before .before .args .line .now) (e .before .before .before .args .at) ≡ named (drop k leaves) other (e .before .before .before .args .line .now) (e .before .start .result) (e .end .result)
+-- these rows are left
+abbrev Rows : tie.After-end → List (Row Leaf) → Type 0
+Rows s rows =
+    Left (leafAt (s .before .before .before .args .line .now) (s .before .before .before .args .at)) rows other
+    (s .before .before .before .args .line .now) (s .before .start .result) (s .end .result)
 
-all : (e : tie.After-end) → Left e 0
+all : (s : tie.After-end) → Rows s leaves
 unfolding leafAt
-all e = rw (e .end .ensures, e .before .start .ensures)
+all s = record { same = rw (s .end .ensures, s .before .start .ensures) }
 
-abbrev end1 : tie.Else1 → tie.After-end
-end1 c = c .before .before .before
+abbrev from1 : tie.Else1 → tie.After-end
+from1 c = c .before .before .before
 
-past1 : (c : tie.Else1) → Left (end1 c) 1
-past1 c =
-    let e = end1 c in
-    all e
-    ∙ passed leaves other (e .before .before .before .args .line .now) (e .before .start .result) (e .end .result) (c .before .is .ensures) (c .if1 .left)
+past1 : (c : tie.Else1) → Rows (from1 c) (drop 1 leaves)
+past1 c = pass (all (from1 c)) (c .before .is .ensures) (c .if1 .left)
 
-abbrev end2 : tie.Else2 → tie.After-end
-end2 c = end1 (c .before .before .before)
+abbrev from2 : tie.Else2 → tie.After-end
+from2 c = from1 (c .before .before .before)
 
-past2 : (c : tie.Else2) → Left (end2 c) 2
-past2 c =
-    let e = end2 c in
-    past1 (c .before .before .before)
-    ∙ passed (drop 1 leaves) other (e .before .before .before .args .line .now) (e .before .start .result) (e .end .result) (c .before .is2 .ensures) (c .if2 .left)
+past2 : (c : tie.Else2) → Rows (from2 c) (drop 2 leaves)
+past2 c = pass (past1 (c .before .before .before)) (c .before .is2 .ensures) (c .if2 .left)
 
-abbrev end3 : tie.Else3 → tie.After-end
-end3 c = end2 (c .before .before .before)
+abbrev from3 : tie.Else3 → tie.After-end
+from3 c = from2 (c .before .before .before)
 
-past3 : (c : tie.Else3) → Left (end3 c) 3
-past3 c =
-    let e = end3 c in
-    past2 (c .before .before .before)
-    ∙ passed (drop 2 leaves) other (e .before .before .before .args .line .now) (e .before .start .result) (e .end .result) (c .before .is3 .ensures) (c .if3 .left)
+past3 : (c : tie.Else3) → Rows (from3 c) (drop 3 leaves)
+past3 c = pass (past2 (c .before .before .before)) (c .before .is3 .ensures) (c .if3 .left)
 
-abbrev end4 : tie.Else4 → tie.After-end
-end4 c = end3 (c .before .before .before)
+abbrev from4 : tie.Else4 → tie.After-end
+from4 c = from3 (c .before .before .before)
 
-past4 : (c : tie.Else4) → Left (end4 c) 4
-past4 c =
-    let e = end4 c in
-    past3 (c .before .before .before)
-    ∙ passed (drop 3 leaves) other (e .before .before .before .args .line .now) (e .before .start .result) (e .end .result) (c .before .is4 .ensures) (c .if4 .left)
+past4 : (c : tie.Else4) → Rows (from4 c) (drop 4 leaves)
+past4 c = pass (past3 (c .before .before .before)) (c .before .is4 .ensures) (c .if4 .left)
 
-abbrev end5 : tie.Else5 → tie.After-end
-end5 c = end4 (c .before .before .before)
+abbrev from5 : tie.Else5 → tie.After-end
+from5 c = from4 (c .before .before .before)
 
-past5 : (c : tie.Else5) → Left (end5 c) 5
-past5 c =
-    let e = end5 c in
-    past4 (c .before .before .before)
-    ∙ passed (drop 4 leaves) other (e .before .before .before .args .line .now) (e .before .start .result) (e .end .result) (c .before .is5 .ensures) (c .if5 .left)
+past5 : (c : tie.Else5) → Rows (from5 c) (drop 5 leaves)
+past5 c = pass (past4 (c .before .before .before)) (c .before .is5 .ensures) (c .if5 .left)
 
 start-requires : tie.Need-start-requires
 start-requires c κs = search needs
@@ -85,9 +71,7 @@ delta-read-requires c κs = search needs
 
 returns : tie.Need-returns
 returns c =
-    let e = c .before .before .before .before in
-    along _ _ (all e
-    ∙ taken leaves other (e .before .before .before .args .line .now) (e .before .start .result) (e .end .result) (c .before .before .is .ensures) (c .before .if1 .taken))
+    take (all (c .before .before .before .before)) (c .before .before .is .ensures) (c .before .if1 .taken)
     (c .delta-read .ensures)
 
 slice-aggregate-is-2 : tie.Need-slice-aggregate-is-2
@@ -101,9 +85,7 @@ remaining-read-requires c κs = search needs
 
 returns-2 : tie.Need-returns-2
 returns-2 c =
-    let e = end1 (c .before .before .before .before) in
-    along _ _ (past1 (c .before .before .before .before)
-    ∙ taken (drop 1 leaves) other (e .before .before .before .args .line .now) (e .before .start .result) (e .end .result) (c .before .before .is2 .ensures) (c .before .if2 .taken))
+    take (past1 (c .before .before .before .before)) (c .before .before .is2 .ensures) (c .before .if2 .taken)
     (c .remaining-read .ensures)
 
 slice-aggregate-is-3 : tie.Need-slice-aggregate-is-3
@@ -117,9 +99,7 @@ leave-read-requires c κs = search needs
 
 returns-3 : tie.Need-returns-3
 returns-3 c =
-    let e = end2 (c .before .before .before .before) in
-    along _ _ (past2 (c .before .before .before .before)
-    ∙ taken (drop 2 leaves) other (e .before .before .before .args .line .now) (e .before .start .result) (e .end .result) (c .before .before .is3 .ensures) (c .before .if3 .taken))
+    take (past2 (c .before .before .before .before)) (c .before .before .is3 .ensures) (c .before .if3 .taken)
     (c .leave-read .ensures)
 
 slice-aggregate-is-4 : tie.Need-slice-aggregate-is-4
@@ -133,9 +113,7 @@ mode-of-read-requires c κs = search needs
 
 returns-4 : tie.Need-returns-4
 returns-4 c =
-    let e = end3 (c .before .before .before .before) in
-    along _ _ (past3 (c .before .before .before .before)
-    ∙ taken (drop 3 leaves) other (e .before .before .before .args .line .now) (e .before .start .result) (e .end .result) (c .before .before .is4 .ensures) (c .before .if4 .taken))
+    take (past3 (c .before .before .before .before)) (c .before .before .is4 .ensures) (c .before .if4 .taken)
     (c .mode-of-read .ensures)
 
 slice-aggregate-is-5 : tie.Need-slice-aggregate-is-5
@@ -149,14 +127,11 @@ shown-read-requires c κs = search needs
 
 returns-5 : tie.Need-returns-5
 returns-5 c =
-    let e = end4 (c .before .before .before .before) in
-    along _ _ (past4 (c .before .before .before .before)
-    ∙ taken (drop 4 leaves) other (e .before .before .before .args .line .now) (e .before .start .result) (e .end .result) (c .before .before .is5 .ensures) (c .before .if5 .taken))
+    take (past4 (c .before .before .before .before)) (c .before .before .is5 .ensures) (c .before .if5 .taken)
     (c .shown-read .ensures)
 
 returns-6 : tie.Need-returns-6
-returns-6 c =
-    along _ _ (past5 c) (refl, refl)
+returns-6 c = rest (past5 c) (refl, refl)
 
 pub read-spec : {M : Type 1} → statement M
 read-spec =

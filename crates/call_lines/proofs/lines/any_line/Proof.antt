@@ -1,64 +1,57 @@
 -- A row is passed where the name is another; the callee reads the row that is taken.
-use Prim.Native.Nat.{ℕ}
-use mathlib.Core.Path.{_≡_, _∙_}
+use mathlib.Core.List.{List}
+use mathlib.Core.Path.{refl}
 use lib.ListN.{drop}
-use Rattle.text.specs.Readers.{named, unknown}
+use Rattle.text.specs.Readers.{Reader, Row, unknown}
+use Rattle.text.proofs.NamedLaws.{Left, pass, take, rest}
 use Rattle.call_lines.specs.declared.lines.Line.{Line}
 use Rattle.call_lines.specs.Lines.{lines, otherLineAt, lineAt}
-use Rattle.call_lines.proofs.NamedLaws.{taken, passed, along}
 use borrow.Author.Needs.{needs}
 use Rattle.call_lines.proofs.lines.any_line.Statement.{statement}
 use Rattle.call_lines.proofs.lines.any_line.Tie as tie
 
--- the rows from k on are left
-abbrev Left : tie.Start → ℕ → Type 0
-Left s k =
-    lineAt (s .args .line .now) (s .args .at) ≡ named (drop k lines) (unknown Line.Unreadable) (s .args .line .now) 0 (s .args .at)
+abbrev other : Reader Line
+other = unknown Line.Unreadable
 
-abbrev start1 : tie.Else1 → tie.Start
-start1 c = c .before .before .before .before
+-- these rows are left
+abbrev Rows : tie.Start → List (Row Line) → Type 0
+Rows s rows =
+    Left (lineAt (s .args .line .now) (s .args .at)) rows other
+    (s .args .line .now) 0 (s .args .at)
 
-past1 : (c : tie.Else1) → Left (start1 c) 1
+all : (s : tie.Start) → Rows s lines
 unfolding lineAt
-past1 c =
-    let args = start1 c .args in
-    passed lines (unknown Line.Unreadable) (args .line .now) 0 (args .at) (c .before .is .ensures) (c .if1 .left)
+all s = record { same = refl }
 
-abbrev start2 : tie.Else2 → tie.Start
-start2 c = start1 (c .before .before .before)
+abbrev from1 : tie.Else1 → tie.Start
+from1 c = c .before .before .before .before
 
-past2 : (c : tie.Else2) → Left (start2 c) 2
-past2 c =
-    let args = start2 c .args in
-    past1 (c .before .before .before)
-    ∙ passed (drop 1 lines) (unknown Line.Unreadable) (args .line .now) 0 (args .at) (c .before .is2 .ensures) (c .if2 .left)
+past1 : (c : tie.Else1) → Rows (from1 c) (drop 1 lines)
+past1 c = pass (all (from1 c)) (c .before .is .ensures) (c .if1 .left)
 
-abbrev start3 : tie.Else3 → tie.Start
-start3 c = start2 (c .before .before .before)
+abbrev from2 : tie.Else2 → tie.Start
+from2 c = from1 (c .before .before .before)
 
-past3 : (c : tie.Else3) → Left (start3 c) 3
-past3 c =
-    let args = start3 c .args in
-    past2 (c .before .before .before)
-    ∙ passed (drop 2 lines) (unknown Line.Unreadable) (args .line .now) 0 (args .at) (c .before .is3 .ensures) (c .if3 .left)
+past2 : (c : tie.Else2) → Rows (from2 c) (drop 2 lines)
+past2 c = pass (past1 (c .before .before .before)) (c .before .is2 .ensures) (c .if2 .left)
 
-abbrev start4 : tie.Else4 → tie.Start
-start4 c = start3 (c .before .before .before)
+abbrev from3 : tie.Else3 → tie.Start
+from3 c = from2 (c .before .before .before)
 
-past4 : (c : tie.Else4) → Left (start4 c) 4
-past4 c =
-    let args = start4 c .args in
-    past3 (c .before .before .before)
-    ∙ passed (drop 3 lines) (unknown Line.Unreadable) (args .line .now) 0 (args .at) (c .before .is4 .ensures) (c .if4 .left)
+past3 : (c : tie.Else3) → Rows (from3 c) (drop 3 lines)
+past3 c = pass (past2 (c .before .before .before)) (c .before .is3 .ensures) (c .if3 .left)
 
-abbrev start5 : tie.Else5 → tie.Start
-start5 c = start4 (c .before .before .before)
+abbrev from4 : tie.Else4 → tie.Start
+from4 c = from3 (c .before .before .before)
 
-past5 : (c : tie.Else5) → Left (start5 c) 5
-past5 c =
-    let args = start5 c .args in
-    past4 (c .before .before .before)
-    ∙ passed (drop 4 lines) (unknown Line.Unreadable) (args .line .now) 0 (args .at) (c .before .is5 .ensures) (c .if5 .left)
+past4 : (c : tie.Else4) → Rows (from4 c) (drop 4 lines)
+past4 c = pass (past3 (c .before .before .before)) (c .before .is4 .ensures) (c .if4 .left)
+
+abbrev from5 : tie.Else5 → tie.Start
+from5 c = from4 (c .before .before .before)
+
+past5 : (c : tie.Else5) → Rows (from5 c) (drop 5 lines)
+past5 c = pass (past4 (c .before .before .before)) (c .before .is5 .ensures) (c .if5 .left)
 
 slice-aggregate-is : tie.Need-slice-aggregate-is
 slice-aggregate-is c = search needs
@@ -73,10 +66,8 @@ call-line-requires : tie.Need-call-line-requires
 call-line-requires c κs = search needs
 
 returns : tie.Need-returns
-unfolding lineAt
 returns c =
-    let args = c .before .before .before .before .before .before .args in
-    along _ _ (taken lines (unknown Line.Unreadable) (args .line .now) 0 (args .at) (c .before .before .before .is .ensures) (c .before .before .if1 .taken))
+    take (all (c .before .before .before .before .before .before)) (c .before .before .before .is .ensures) (c .before .before .if1 .taken)
     (rw (← (c .before .invoke .ensures .0), ← (c .before .invoke .ensures .1)) (c .call-line .ensures))
 
 slice-aggregate-is-2 : tie.Need-slice-aggregate-is-2
@@ -93,9 +84,7 @@ call-line-requires-2 c κs = search needs
 
 returns-2 : tie.Need-returns-2
 returns-2 c =
-    let args = start1 (c .before .before .before .before .before) .args in
-    along _ _ (past1 (c .before .before .before .before .before)
-    ∙ taken (drop 1 lines) (unknown Line.Unreadable) (args .line .now) 0 (args .at) (c .before .before .before .is2 .ensures) (c .before .before .if2 .taken))
+    take (past1 (c .before .before .before .before .before)) (c .before .before .before .is2 .ensures) (c .before .before .if2 .taken)
     (rw (← (c .before .step .ensures .0), ← (c .before .step .ensures .1)) (c .call-line2 .ensures))
 
 slice-aggregate-is-3 : tie.Need-slice-aggregate-is-3
@@ -109,9 +98,7 @@ start-last-line-requires c κs = search needs
 
 returns-3 : tie.Need-returns-3
 returns-3 c =
-    let args = start2 (c .before .before .before .before) .args in
-    along _ _ (past2 (c .before .before .before .before)
-    ∙ taken (drop 2 lines) (unknown Line.Unreadable) (args .line .now) 0 (args .at) (c .before .before .is3 .ensures) (c .before .if3 .taken))
+    take (past2 (c .before .before .before .before)) (c .before .before .is3 .ensures) (c .before .if3 .taken)
     (c .start-last-line .ensures)
 
 slice-aggregate-is-4 : tie.Need-slice-aggregate-is-4
@@ -128,9 +115,7 @@ call-line-requires-3 c κs = search needs
 
 returns-4 : tie.Need-returns-4
 returns-4 c =
-    let args = start3 (c .before .before .before .before .before) .args in
-    along _ _ (past3 (c .before .before .before .before .before)
-    ∙ taken (drop 3 lines) (unknown Line.Unreadable) (args .line .now) 0 (args .at) (c .before .before .before .is4 .ensures) (c .before .before .if4 .taken))
+    take (past3 (c .before .before .before .before .before)) (c .before .before .before .is4 .ensures) (c .before .before .if4 .taken)
     (rw (← (c .before .begin .ensures .0), ← (c .before .begin .ensures .1)) (c .call-line3 .ensures))
 
 slice-aggregate-is-5 : tie.Need-slice-aggregate-is-5
@@ -147,9 +132,7 @@ call-line-requires-4 c κs = search needs
 
 returns-5 : tie.Need-returns-5
 returns-5 c =
-    let args = start4 (c .before .before .before .before .before) .args in
-    along _ _ (past4 (c .before .before .before .before .before)
-    ∙ taken (drop 4 lines) (unknown Line.Unreadable) (args .line .now) 0 (args .at) (c .before .before .before .is5 .ensures) (c .before .before .if5 .taken))
+    take (past4 (c .before .before .before .before .before)) (c .before .before .before .is5 .ensures) (c .before .before .if5 .taken)
     (rw (← (c .before .halt .ensures .0), ← (c .before .halt .ensures .1)) (c .call-line4 .ensures))
 
 other-line-requires : tie.Need-other-line-requires
@@ -157,8 +140,7 @@ other-line-requires c κs = search needs
 
 returns-6 : tie.Need-returns-6
 unfolding otherLineAt
-returns-6 c =
-    along _ _ (past5 (c .before)) (c .other-line .ensures)
+returns-6 c = rest (past5 (c .before)) (c .other-line .ensures)
 
 pub any-line-spec : {M : Type 1} → statement M
 any-line-spec =

@@ -1,10 +1,45 @@
--- The rows of the table before the one that is taken are passed.
-use Rattle.lamp_lines.specs.Enums.{onOffAt}
+-- A row is passed where the name is another.
+use mathlib.Core.List.{List}
 use mathlib.Core.Path.{refl}
-use Rattle.text.proofs.ReadLaws.{here, past}
+use lib.ListN.{drop}
+use Rattle.matter.specs.declared.enums.OnOff.{OnOff}
+use Rattle.text.specs.Readers.{Reader, Row, unknown}
+use Rattle.text.proofs.NamedLaws.{Left, pass, take, rest}
+use Rattle.lamp_lines.specs.Enums.{onOffs, onOffAt}
 use borrow.Author.Needs.{needs}
 use Rattle.lamp_lines.proofs.enums.on_off.Statement.{statement}
 use Rattle.lamp_lines.proofs.enums.on_off.Tie as tie
+
+abbrev other : Reader OnOff
+other = unknown OnOff.NoHandler
+
+-- these rows are left
+abbrev Rows : tie.After-end → List (Row OnOff) → Type 0
+Rows s rows =
+    Left (onOffAt (s .before .before .before .args .line .now) (s .before .before .before .args .at)) rows other
+    (s .before .before .before .args .line .now) (s .before .start .result) (s .end .result)
+
+all : (s : tie.After-end) → Rows s onOffs
+unfolding onOffAt
+all s = record { same = rw (s .end .ensures, s .before .start .ensures) }
+
+abbrev from1 : tie.Else1 → tie.After-end
+from1 c = c .before .before .before
+
+past1 : (c : tie.Else1) → Rows (from1 c) (drop 1 onOffs)
+past1 c = pass (all (from1 c)) (c .before .is .ensures) (c .if1 .left)
+
+abbrev from2 : tie.Else2 → tie.After-end
+from2 c = from1 (c .before .before .before)
+
+past2 : (c : tie.Else2) → Rows (from2 c) (drop 2 onOffs)
+past2 c = pass (past1 (c .before .before .before)) (c .before .is2 .ensures) (c .if2 .left)
+
+abbrev from3 : tie.Else3 → tie.After-end
+from3 c = from2 (c .before .before .before)
+
+past3 : (c : tie.Else3) → Rows (from3 c) (drop 3 onOffs)
+past3 c = pass (past2 (c .before .before .before)) (c .before .is3 .ensures) (c .if3 .left)
 
 start-requires : tie.Need-start-requires
 start-requires c κs = search needs
@@ -19,14 +54,8 @@ is-requires : tie.Need-is-requires
 is-requires c κs = search needs
 
 returns : tie.Need-returns
-unfolding onOffAt
 returns c =
-    let at-is = c .before in
-    let at-end = at-is .before .before in
-    let at-start = at-end .before in
-    rw (← (at-start .start .ensures), ← (at-end .end .ensures))
-    (here _ _ (at-is .is .ensures) (c .if1 .taken)
-    ((refl, refl)))
+    take (all (c .before .before .before)) (c .before .is .ensures) (c .if1 .taken) (refl, refl)
 
 slice-aggregate-is-2 : tie.Need-slice-aggregate-is-2
 slice-aggregate-is-2 c = search needs
@@ -35,17 +64,8 @@ is-requires-2 : tie.Need-is-requires-2
 is-requires-2 c κs = search needs
 
 returns-2 : tie.Need-returns-2
-unfolding onOffAt
 returns-2 c =
-    let at-is2 = c .before in
-    let at-if1 = at-is2 .before .before in
-    let at-is = at-if1 .before in
-    let at-end = at-is .before .before in
-    let at-start = at-end .before in
-    rw (← (at-start .start .ensures), ← (at-end .end .ensures))
-    (past _ _ (at-is .is .ensures) (at-if1 .if1 .left)
-    (here _ _ (at-is2 .is2 .ensures) (c .if2 .taken)
-    ((refl, refl))))
+    take (past1 (c .before .before .before)) (c .before .is2 .ensures) (c .if2 .taken) (refl, refl)
 
 slice-aggregate-is-3 : tie.Need-slice-aggregate-is-3
 slice-aggregate-is-3 c = search needs
@@ -54,36 +74,11 @@ is-requires-3 : tie.Need-is-requires-3
 is-requires-3 c κs = search needs
 
 returns-3 : tie.Need-returns-3
-unfolding onOffAt
 returns-3 c =
-    let at-is3 = c .before in
-    let at-if2 = at-is3 .before .before in
-    let at-is2 = at-if2 .before in
-    let at-if1 = at-is2 .before .before in
-    let at-is = at-if1 .before in
-    let at-end = at-is .before .before in
-    let at-start = at-end .before in
-    rw (← (at-start .start .ensures), ← (at-end .end .ensures))
-    (past _ _ (at-is .is .ensures) (at-if1 .if1 .left)
-    (past _ _ (at-is2 .is2 .ensures) (at-if2 .if2 .left)
-    (here _ _ (at-is3 .is3 .ensures) (c .if3 .taken)
-    ((refl, refl)))))
+    take (past2 (c .before .before .before)) (c .before .is3 .ensures) (c .if3 .taken) (refl, refl)
 
 returns-4 : tie.Need-returns-4
-unfolding onOffAt
-returns-4 c =
-    let at-is3 = c .before in
-    let at-if2 = at-is3 .before .before in
-    let at-is2 = at-if2 .before in
-    let at-if1 = at-is2 .before .before in
-    let at-is = at-if1 .before in
-    let at-end = at-is .before .before in
-    let at-start = at-end .before in
-    rw (← (at-start .start .ensures), ← (at-end .end .ensures))
-    (past _ _ (at-is .is .ensures) (at-if1 .if1 .left)
-    (past _ _ (at-is2 .is2 .ensures) (at-if2 .if2 .left)
-    (past _ _ (at-is3 .is3 .ensures) (c .if3 .left)
-    ((refl, refl)))))
+returns-4 c = rest (past3 c) (refl, refl)
 
 pub on-off-spec : {M : Type 1} → statement M
 on-off-spec =

@@ -1,10 +1,69 @@
--- The rows of the table before the one that is taken are passed.
-use Rattle.lamp_lines.specs.Moves.{taskAt}
+-- A row is passed where the name is another; the callee reads the row that is taken.
+use mathlib.Core.List.{List}
 use mathlib.Core.Path.{refl}
-use Rattle.text.proofs.ReadLaws.{here, past}
+use lib.ListN.{drop}
+use Rattle.tasks.specs.declared.Task.{Task}
+use Rattle.text.specs.Readers.{Reader, Row, unknown}
+use Rattle.text.proofs.NamedLaws.{Left, pass, take, rest}
+use Rattle.lamp_lines.specs.Moves.{tasks, taskAt}
 use borrow.Author.Needs.{needs}
 use Rattle.lamp_lines.proofs.moves.task.Statement.{statement}
 use Rattle.lamp_lines.proofs.moves.task.Tie as tie
+
+abbrev other : Reader Task
+other = unknown Task.Stop
+
+-- these rows are left
+abbrev Rows : tie.Start → List (Row Task) → Type 0
+Rows s rows =
+    Left (taskAt (s .args .line .now) (s .args .name) (s .args .at)) rows other
+    (s .args .line .now) (s .args .name) (s .args .at)
+
+all : (s : tie.Start) → Rows s tasks
+unfolding taskAt
+all s = record { same = refl }
+
+abbrev from1 : tie.Else1 → tie.Start
+from1 c = c .before .before .before .before
+
+past1 : (c : tie.Else1) → Rows (from1 c) (drop 1 tasks)
+past1 c = pass (all (from1 c)) (c .before .is .ensures) (c .if1 .left)
+
+abbrev from2 : tie.Else2 → tie.Start
+from2 c = from1 (c .before .before .before)
+
+past2 : (c : tie.Else2) → Rows (from2 c) (drop 2 tasks)
+past2 c = pass (past1 (c .before .before .before)) (c .before .is2 .ensures) (c .if2 .left)
+
+abbrev from3 : tie.Else3 → tie.Start
+from3 c = from2 (c .before .before .before)
+
+past3 : (c : tie.Else3) → Rows (from3 c) (drop 3 tasks)
+past3 c = pass (past2 (c .before .before .before)) (c .before .is3 .ensures) (c .if3 .left)
+
+abbrev from4 : tie.Else4 → tie.Start
+from4 c = from3 (c .before .before .before)
+
+past4 : (c : tie.Else4) → Rows (from4 c) (drop 4 tasks)
+past4 c = pass (past3 (c .before .before .before)) (c .before .is4 .ensures) (c .if4 .left)
+
+abbrev from5 : tie.Else5 → tie.Start
+from5 c = from4 (c .before .before .before)
+
+past5 : (c : tie.Else5) → Rows (from5 c) (drop 5 tasks)
+past5 c = pass (past4 (c .before .before .before)) (c .before .is5 .ensures) (c .if5 .left)
+
+abbrev from6 : tie.Else6 → tie.Start
+from6 c = from5 (c .before .before .before)
+
+past6 : (c : tie.Else6) → Rows (from6 c) (drop 6 tasks)
+past6 c = pass (past5 (c .before .before .before)) (c .before .is6 .ensures) (c .if6 .left)
+
+abbrev from7 : tie.Else7 → tie.Start
+from7 c = from6 (c .before .before .before)
+
+past7 : (c : tie.Else7) → Rows (from7 c) (drop 7 tasks)
+past7 c = pass (past6 (c .before .before .before)) (c .before .is7 .ensures) (c .if7 .left)
 
 slice-aggregate-is : tie.Need-slice-aggregate-is
 slice-aggregate-is c = search needs
@@ -16,11 +75,8 @@ move-to-requires : tie.Need-move-to-requires
 move-to-requires c κs = search needs
 
 returns : tie.Need-returns
-unfolding taskAt
 returns c =
-    let at-if1 = c .before in
-    let at-is = at-if1 .before in
-    here _ _ (at-is .is .ensures) (at-if1 .if1 .taken)
+    take (all (c .before .before .before .before .before)) (c .before .before .is .ensures) (c .before .if1 .taken)
     (c .move-to .ensures)
 
 slice-aggregate-is-2 : tie.Need-slice-aggregate-is-2
@@ -33,15 +89,9 @@ hue-move-requires : tie.Need-hue-move-requires
 hue-move-requires c κs = search needs
 
 returns-2 : tie.Need-returns-2
-unfolding taskAt
 returns-2 c =
-    let at-if2 = c .before in
-    let at-is2 = at-if2 .before in
-    let at-if1 = at-is2 .before .before in
-    let at-is = at-if1 .before in
-    past _ _ (at-is .is .ensures) (at-if1 .if1 .left)
-    (here _ _ (at-is2 .is2 .ensures) (at-if2 .if2 .taken)
-    (c .hue-move .ensures))
+    take (past1 (c .before .before .before .before)) (c .before .before .is2 .ensures) (c .before .if2 .taken)
+    (c .hue-move .ensures)
 
 slice-aggregate-is-3 : tie.Need-slice-aggregate-is-3
 slice-aggregate-is-3 c = search needs
@@ -53,18 +103,9 @@ saturation-move-requires : tie.Need-saturation-move-requires
 saturation-move-requires c κs = search needs
 
 returns-3 : tie.Need-returns-3
-unfolding taskAt
 returns-3 c =
-    let at-if3 = c .before in
-    let at-is3 = at-if3 .before in
-    let at-if2 = at-is3 .before .before in
-    let at-is2 = at-if2 .before in
-    let at-if1 = at-is2 .before .before in
-    let at-is = at-if1 .before in
-    past _ _ (at-is .is .ensures) (at-if1 .if1 .left)
-    (past _ _ (at-is2 .is2 .ensures) (at-if2 .if2 .left)
-    (here _ _ (at-is3 .is3 .ensures) (at-if3 .if3 .taken)
-    (c .saturation-move .ensures)))
+    take (past2 (c .before .before .before .before)) (c .before .before .is3 .ensures) (c .before .if3 .taken)
+    (c .saturation-move .ensures)
 
 slice-aggregate-is-4 : tie.Need-slice-aggregate-is-4
 slice-aggregate-is-4 c = search needs
@@ -76,21 +117,9 @@ mireds-to-requires : tie.Need-mireds-to-requires
 mireds-to-requires c κs = search needs
 
 returns-4 : tie.Need-returns-4
-unfolding taskAt
 returns-4 c =
-    let at-if4 = c .before in
-    let at-is4 = at-if4 .before in
-    let at-if3 = at-is4 .before .before in
-    let at-is3 = at-if3 .before in
-    let at-if2 = at-is3 .before .before in
-    let at-is2 = at-if2 .before in
-    let at-if1 = at-is2 .before .before in
-    let at-is = at-if1 .before in
-    past _ _ (at-is .is .ensures) (at-if1 .if1 .left)
-    (past _ _ (at-is2 .is2 .ensures) (at-if2 .if2 .left)
-    (past _ _ (at-is3 .is3 .ensures) (at-if3 .if3 .left)
-    (here _ _ (at-is4 .is4 .ensures) (at-if4 .if4 .taken)
-    (c .mireds-to .ensures))))
+    take (past3 (c .before .before .before .before)) (c .before .before .is4 .ensures) (c .before .if4 .taken)
+    (c .mireds-to .ensures)
 
 slice-aggregate-is-5 : tie.Need-slice-aggregate-is-5
 slice-aggregate-is-5 c = search needs
@@ -102,24 +131,9 @@ mireds-move-requires : tie.Need-mireds-move-requires
 mireds-move-requires c κs = search needs
 
 returns-5 : tie.Need-returns-5
-unfolding taskAt
 returns-5 c =
-    let at-if5 = c .before in
-    let at-is5 = at-if5 .before in
-    let at-if4 = at-is5 .before .before in
-    let at-is4 = at-if4 .before in
-    let at-if3 = at-is4 .before .before in
-    let at-is3 = at-if3 .before in
-    let at-if2 = at-is3 .before .before in
-    let at-is2 = at-if2 .before in
-    let at-if1 = at-is2 .before .before in
-    let at-is = at-if1 .before in
-    past _ _ (at-is .is .ensures) (at-if1 .if1 .left)
-    (past _ _ (at-is2 .is2 .ensures) (at-if2 .if2 .left)
-    (past _ _ (at-is3 .is3 .ensures) (at-if3 .if3 .left)
-    (past _ _ (at-is4 .is4 .ensures) (at-if4 .if4 .left)
-    (here _ _ (at-is5 .is5 .ensures) (at-if5 .if5 .taken)
-    (c .mireds-move .ensures)))))
+    take (past4 (c .before .before .before .before)) (c .before .before .is5 .ensures) (c .before .if5 .taken)
+    (c .mireds-move .ensures)
 
 slice-aggregate-is-6 : tie.Need-slice-aggregate-is-6
 slice-aggregate-is-6 c = search needs
@@ -131,27 +145,9 @@ color-loop-requires : tie.Need-color-loop-requires
 color-loop-requires c κs = search needs
 
 returns-6 : tie.Need-returns-6
-unfolding taskAt
 returns-6 c =
-    let at-if6 = c .before in
-    let at-is6 = at-if6 .before in
-    let at-if5 = at-is6 .before .before in
-    let at-is5 = at-if5 .before in
-    let at-if4 = at-is5 .before .before in
-    let at-is4 = at-if4 .before in
-    let at-if3 = at-is4 .before .before in
-    let at-is3 = at-if3 .before in
-    let at-if2 = at-is3 .before .before in
-    let at-is2 = at-if2 .before in
-    let at-if1 = at-is2 .before .before in
-    let at-is = at-if1 .before in
-    past _ _ (at-is .is .ensures) (at-if1 .if1 .left)
-    (past _ _ (at-is2 .is2 .ensures) (at-if2 .if2 .left)
-    (past _ _ (at-is3 .is3 .ensures) (at-if3 .if3 .left)
-    (past _ _ (at-is4 .is4 .ensures) (at-if4 .if4 .left)
-    (past _ _ (at-is5 .is5 .ensures) (at-if5 .if5 .left)
-    (here _ _ (at-is6 .is6 .ensures) (at-if6 .if6 .taken)
-    (c .color-loop .ensures))))))
+    take (past5 (c .before .before .before .before)) (c .before .before .is6 .ensures) (c .before .if6 .taken)
+    (c .color-loop .ensures)
 
 slice-aggregate-is-7 : tie.Need-slice-aggregate-is-7
 slice-aggregate-is-7 c = search needs
@@ -160,54 +156,11 @@ is-requires-7 : tie.Need-is-requires-7
 is-requires-7 c κs = search needs
 
 returns-7 : tie.Need-returns-7
-unfolding taskAt
 returns-7 c =
-    let at-is7 = c .before in
-    let at-if6 = at-is7 .before .before in
-    let at-is6 = at-if6 .before in
-    let at-if5 = at-is6 .before .before in
-    let at-is5 = at-if5 .before in
-    let at-if4 = at-is5 .before .before in
-    let at-is4 = at-if4 .before in
-    let at-if3 = at-is4 .before .before in
-    let at-is3 = at-if3 .before in
-    let at-if2 = at-is3 .before .before in
-    let at-is2 = at-if2 .before in
-    let at-if1 = at-is2 .before .before in
-    let at-is = at-if1 .before in
-    past _ _ (at-is .is .ensures) (at-if1 .if1 .left)
-    (past _ _ (at-is2 .is2 .ensures) (at-if2 .if2 .left)
-    (past _ _ (at-is3 .is3 .ensures) (at-if3 .if3 .left)
-    (past _ _ (at-is4 .is4 .ensures) (at-if4 .if4 .left)
-    (past _ _ (at-is5 .is5 .ensures) (at-if5 .if5 .left)
-    (past _ _ (at-is6 .is6 .ensures) (at-if6 .if6 .left)
-    (here _ _ (at-is7 .is7 .ensures) (c .if7 .taken)
-    ((refl, refl))))))))
+    take (past6 (c .before .before .before)) (c .before .is7 .ensures) (c .if7 .taken) (refl, refl)
 
 returns-8 : tie.Need-returns-8
-unfolding taskAt
-returns-8 c =
-    let at-is7 = c .before in
-    let at-if6 = at-is7 .before .before in
-    let at-is6 = at-if6 .before in
-    let at-if5 = at-is6 .before .before in
-    let at-is5 = at-if5 .before in
-    let at-if4 = at-is5 .before .before in
-    let at-is4 = at-if4 .before in
-    let at-if3 = at-is4 .before .before in
-    let at-is3 = at-if3 .before in
-    let at-if2 = at-is3 .before .before in
-    let at-is2 = at-if2 .before in
-    let at-if1 = at-is2 .before .before in
-    let at-is = at-if1 .before in
-    past _ _ (at-is .is .ensures) (at-if1 .if1 .left)
-    (past _ _ (at-is2 .is2 .ensures) (at-if2 .if2 .left)
-    (past _ _ (at-is3 .is3 .ensures) (at-if3 .if3 .left)
-    (past _ _ (at-is4 .is4 .ensures) (at-if4 .if4 .left)
-    (past _ _ (at-is5 .is5 .ensures) (at-if5 .if5 .left)
-    (past _ _ (at-is6 .is6 .ensures) (at-if6 .if6 .left)
-    (past _ _ (at-is7 .is7 .ensures) (c .if7 .left)
-    ((refl, refl))))))))
+returns-8 c = rest (past7 c) (refl, refl)
 
 pub task-spec : {M : Type 1} → statement M
 task-spec =
