@@ -128,7 +128,7 @@ const RECORD_WAYS: [&str; 20] = [
 const ENDS: &str = "ends";
 const LOOPS: &str = "snaps and whole turns";
 const TIES: &str = "half-way and equal hues";
-const SHOWN: &str = "the shown hue";
+const SHOWN: &str = "CurrentHue";
 const CROSSED: &str = "crossed bounds";
 const CLAMPS: &str = "clamps of commands and starts";
 const MAKINGS: &str = "makings";
@@ -146,8 +146,7 @@ const LOOP_SET: &str = "colour-loop command";
 const LISTS: &str = "between calls";
 const LINES: &str = "lines";
 
-/// Every corner, met or not.
-/// Stored hues, and what each shows.
+/// Stored hues, and CurrentHue of each.
 const SHOWN_AT: [(u16, &str, &str); 6] = [
     (65_023, "65,023 as 253", "253"),
     (65_024, "65,024 as 254", "254"),
@@ -157,6 +156,7 @@ const SHOWN_AT: [(u16, &str, &str); 6] = [
     (0, "0 as 0", "0"),
 ];
 
+/// Every corner, met or not.
 fn all() -> Vec<(&'static str, String)> {
     let mut rows: Vec<(&'static str, String)> = Vec::new();
     let mut add = |group, name: String| rows.push((group, name));

@@ -35,6 +35,50 @@ pub const HUES: [u16; 29] = [
     32769, 32770, 49152, 65024, 65151, 65152, 65279, 65280, 65281, 65534, 65535,
 ];
 
+/// Calls that can be read. The first `GOOD_SET` are of the kinds that the script `set` has.
+const GOOD: [&str; 39] = [
+    "lamp 153 500 5000 0 0 0 0 0 0 0 250 1 1 0 1 25 8960 0",
+    "poke 153 500 5000 0 0 0 0 0 0 0 250 1 1 0 1 25 8960 0",
+    "new 153 500 31 0 5000",
+    "set hue 1 0 0 5000",
+    "set sat 1 0 5000",
+    "set ct 250 0 5000",
+    "show",
+    "record idle",
+    "record move_to 4000 100 20 -50 - 2000 1",
+    "record hue_move 4000 100 1 5 0",
+    "record sat_move 4000 100 1 5",
+    "record ct_to 4000 250 300 1000",
+    "record ct_move 4000 250 -7 200 300",
+    "record loop 4000 0 1 25",
+    "leaf delta 1 2 3",
+    "leaf remaining 1 2 1",
+    "leaf leave none 1 2 3",
+    "leaf mode_of 3",
+    "leaf shown 65280",
+    "halt 5000",
+    "step 5000",
+    "startlast 5000",
+    "start stop 5000",
+    "start move_to 5 - 100 0 5000",
+    "start loop 1 25 5000",
+    "cmd stop_move_step off 0 0 5000",
+    "cmd move_to_hue off 1 2 3 0 0 5000",
+    "cmd enhanced_move_to_hue off 1 2 3 0 0 5000",
+    "cmd move_hue off 1 2 0 0 0 5000",
+    "cmd enhanced_move_hue off 1 2 0 0 5000",
+    "cmd move_saturation off 1 2 0 0 5000",
+    "cmd step_hue off 1 2 3 0 0 5000",
+    "cmd enhanced_step_hue off 1 2 3 0 0 5000",
+    "cmd step_saturation off 1 2 3 0 0 5000",
+    "cmd move_to_saturation off 1 2 0 0 5000",
+    "cmd move_to_hue_and_saturation off 1 2 3 0 5 0 0 5000",
+    "cmd move_to_color_temperature off 1 2 0 0 5000",
+    "cmd move_color_temperature off 1 2 3 4 0 0 5000",
+    "cmd color_loop_set off 15 1 1 25 100 0 0 5000",
+];
+const GOOD_SET: usize = 19;
+
 pub fn hue(r: &mut Random) -> u16 {
     match r.below(5) {
         0 | 1 => r.pick(&HUES),
@@ -673,47 +717,6 @@ impl<S: Stage> Maker<S> {
     /// A line that can hardly be read, made of one of the first `good` calls. Where it can,
     /// both sides read it.
     fn say_unreadable(&mut self, good: usize) {
-        const GOOD: [&str; 39] = [
-            "lamp 153 500 5000 0 0 0 0 0 0 0 250 1 1 0 1 25 8960 0",
-            "poke 153 500 5000 0 0 0 0 0 0 0 250 1 1 0 1 25 8960 0",
-            "new 153 500 31 0 5000",
-            "set hue 1 0 0 5000",
-            "set sat 1 0 5000",
-            "set ct 250 0 5000",
-            "show",
-            "record idle",
-            "record move_to 4000 100 20 -50 - 2000 1",
-            "record hue_move 4000 100 1 5 0",
-            "record sat_move 4000 100 1 5",
-            "record ct_to 4000 250 300 1000",
-            "record ct_move 4000 250 -7 200 300",
-            "record loop 4000 0 1 25",
-            "leaf delta 1 2 3",
-            "leaf remaining 1 2 1",
-            "leaf leave none 1 2 3",
-            "leaf mode_of 3",
-            "leaf shown 65280",
-            "halt 5000",
-            "step 5000",
-            "startlast 5000",
-            "start stop 5000",
-            "start move_to 5 - 100 0 5000",
-            "start loop 1 25 5000",
-            "cmd stop_move_step off 0 0 5000",
-            "cmd move_to_hue off 1 2 3 0 0 5000",
-            "cmd enhanced_move_to_hue off 1 2 3 0 0 5000",
-            "cmd move_hue off 1 2 0 0 0 5000",
-            "cmd enhanced_move_hue off 1 2 0 0 5000",
-            "cmd move_saturation off 1 2 0 0 5000",
-            "cmd step_hue off 1 2 3 0 0 5000",
-            "cmd enhanced_step_hue off 1 2 3 0 0 5000",
-            "cmd step_saturation off 1 2 3 0 0 5000",
-            "cmd move_to_saturation off 1 2 0 0 5000",
-            "cmd move_to_hue_and_saturation off 1 2 3 0 5 0 0 5000",
-            "cmd move_to_color_temperature off 1 2 0 0 5000",
-            "cmd move_color_temperature off 1 2 3 4 0 0 5000",
-            "cmd color_loop_set off 15 1 1 25 100 0 0 5000",
-        ];
         const WORDS: [&str; 42] = [
             "",
             "-",
@@ -921,7 +924,7 @@ impl<S: Stage> Maker<S> {
                     (4, _) => {
                         say!(self, "show");
                     }
-                    (5, _) => self.say_unreadable(18),
+                    (5, _) => self.say_unreadable(GOOD_SET),
                     (6, _) if self.r.one_in(3) => {
                         self.say_new();
                     }
@@ -1209,7 +1212,11 @@ impl<S: Stage> Maker<S> {
     }
 
     fn say_start(&mut self) -> bool {
-        let (min, max) = self.stage.player().fields().map_or((153, 500), |f| (f.min, f.max));
+        let (min, max) = self
+            .stage
+            .player()
+            .fields()
+            .map_or((153, 500), |f| (f.min, f.max));
         let mut task = match min <= max {
             true => self.task(min, max),
             false => self.task(153, 500),
@@ -1391,7 +1398,7 @@ impl<S: Stage> Maker<S> {
                         let f = self.fields();
                         self.say_lamp("poke", &f);
                     }
-                    45 => self.say_unreadable(38),
+                    45 => self.say_unreadable(GOOD.len()),
                     46 if self.r.one_in(3) => {
                         self.say_new();
                     }

@@ -1,6 +1,7 @@
 // Made by rust/make from crates/arc/src/lib.rt: not to be edited.
 //! Whether a fade passes through a band of hues: asked on numbers, before the fade is sent. Document 01, "Arc".
 
+use crate::hue::LAST_CURRENT_HUE;
 use crate::hue::hue_path_delta;
 use crate::matter::DirectionEnum;
 
@@ -11,30 +12,30 @@ pub struct Band {
     pub high: u16,
 }
 
-/// The first stored hue that is shown as `shown`; 255, which is never shown, is taken as 254.
-fn first_shown_as(shown: u8) -> u16 {
-    if shown < 254 {
-        (shown as u16) * 256
+/// The first stored hue of a CurrentHue. 255, which no hue has, is taken as 254.
+fn first_stored(current: u8) -> u16 {
+    if current < LAST_CURRENT_HUE {
+        (current as u16) * 256
     } else {
-        254 * 256
+        (LAST_CURRENT_HUE as u16) * 256
     }
 }
 
 /// The last.
-fn last_shown_as(shown: u8) -> u16 {
-    if shown < 254 {
-        (shown as u16) * 256 + 255
+fn last_stored(current: u8) -> u16 {
+    if current < LAST_CURRENT_HUE {
+        (current as u16) * 256 + 255
     } else {
         65535
     }
 }
 
 impl Band {
-    /// The stored hues that are shown as `low` up to `high`; an end of 255 is taken as 254.
+    /// The stored hues whose CurrentHue is one of `low` up to `high`; an end of 255 is taken as 254.
     pub fn of_current_hue(low: u8, high: u8) -> Band {
         Band {
-            low: first_shown_as(low),
-            high: last_shown_as(high),
+            low: first_stored(low),
+            high: last_stored(high),
         }
     }
 }

@@ -114,10 +114,23 @@ fn a_band_of_shown_hues_is_what_shows_them() {
             );
         }
     }
-    assert_eq!(
-        Band::of_current_hue(255, 255),
-        Band::of_current_hue(254, 254)
-    );
+    for (low, high) in [(255, 255), (255, 254), (254, 255)] {
+        assert_eq!(
+            Band::of_current_hue(low, high),
+            Band::of_current_hue(254, 254)
+        );
+    }
+}
+
+/// A lamp's CurrentHue is the upper byte of its hue, at most 254.
+#[test]
+fn a_lamp_never_shows_255() {
+    let mut lamp = NEW.make().unwrap();
+    for stored in 0..=u16::MAX {
+        lamp.color.hue = stored;
+        let upper = stored.to_be_bytes()[0];
+        assert_eq!(lamp.current_hue(), upper.min(254));
+    }
 }
 
 #[test]

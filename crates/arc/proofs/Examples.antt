@@ -8,24 +8,21 @@ use Rattle.hue.specs.Hue.{distance, pathDelta}
 use Rattle.arc.specs.declared.Band.{Band}
 use Rattle.arc.specs.Arc.{inBand, meet, passesThrough, currentHueBand}
 
--- green: the shown hues 64 to 106, stored 16,384 to 27,391
+-- green: CurrentHue 64 to 106, stored 16,384 to 27,391
 abbrev pub green : Band
 green = currentHueBand 64 106
 
--- red: the shown hues 240 to 254 and 0 to 15
+-- red: CurrentHue 240 to 254 and 0 to 15
 abbrev pub red : Band
 red = currentHueBand 240 15
 
--- A.4: the hues that are shown as 254 are those from 65,024 on; an end of 255 is 254
-pub last-shown : currentHueBand 254 254 ≡ record { low = 65024; high = 65535 }
-last-shown = refl
+-- A.4: the hues whose CurrentHue is 254 are those from 65,024 on, and one below it ends where it did
+pub last-two : (currentHueBand 254 254 ≡ record { low = 65024; high = 65535 }) × (currentHueBand 253 253 ≡ record { low = 64768; high = 65023 })
+last-two = (refl, refl)
 
-pub never-shown : (currentHueBand 255 255 ≡ currentHueBand 254 254) × (currentHueBand 253 255 ≡ record { low = 64768; high = 65535 }) × (currentHueBand 255 0 ≡ record { low = 65024; high = 255 })
-never-shown = (refl, refl, refl)
-
--- one below, it ends where it did
-pub next-to-last : currentHueBand 253 253 ≡ record { low = 64768; high = 65023 }
-next-to-last = refl
+-- an end of 255 is 254: 255 up to 254, which names every hue on a circle of 256, is 254 alone
+pub never-shown : (currentHueBand 255 255 ≡ currentHueBand 254 254) × (currentHueBand 253 255 ≡ record { low = 64768; high = 65535 }) × (currentHueBand 255 0 ≡ record { low = 65024; high = 255 }) × (currentHueBand 255 254 ≡ currentHueBand 254 254)
+never-shown = (refl, refl, refl, refl)
 
 -- a band has its ends, and may go past 0
 pub in-green : map (inBand green) (16383 ∷ 16384 ∷ 27391 ∷ 27392 ∷ []) ≡ false ∷ true ∷ true ∷ false ∷ []

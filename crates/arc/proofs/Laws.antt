@@ -10,11 +10,12 @@ use lib.IntN.{ℤ, pos, negsuc, natAbs}
 use lib.Signed.{leZ}
 use borrow.Author.Tests.{leb-true, leb-false, le-leb, lt-leb, ltb-true, ltb-false}
 use Rattle.matter.specs.declared.enums.DirectionEnum.{DirectionEnum}
+use Rattle.matter.specs.Limits.{hueLimit}
 use Rattle.matter.proofs.Laws.{and-left, and-right}
 use Rattle.hue.specs.Hue.{distance, pathDelta, movedHue, currentHue}
 use Rattle.hue.proofs.Laws.{moved-small, moved-up, moved-down, distance-is, way-small, arrives}
 use Rattle.arc.specs.declared.Band.{Band}
-use Rattle.arc.specs.Arc.{toward, OnArc, inBand, InRangeBand, Passed, meet, passesThrough, firstShownAs, lastShownAs, currentHueBand}
+use Rattle.arc.specs.Arc.{toward, OnArc, inBand, InRangeBand, Passed, meet, passesThrough, firstStored, lastStored, currentHueBand}
 
 -- ---- a band, by distances
 
@@ -156,7 +157,7 @@ module _ (found target : ℕ) (b : Band) (hf : found < 65536) (ht : target < 655
       go true i = absurd (true≢false (sym (exactly d .1 (record { hue = hue; onArc = a; inside = i })) ∙ e))
       go false i = refl
 
--- ---- a band by the hues that are shown
+-- ---- a band by CurrentHue
 
 -- two orders that hold together have one test
 same-test : (a b c d : ℕ) → (c ≤ d → a ≤ b) → (d < c → b < a) → leb a b ≡ leb c d
@@ -166,34 +167,33 @@ same-test a b c d f g = go (leb c d) refl
     go true e = le-leb a b (f (leb-true c d e))
     go false e = lt-leb a b (g (leb-false c d e))
 
--- the tests on stored hues are those on shown ones
-from-first : (low hue : ℕ) → leb (firstShownAs low) hue ≡ leb (min 254 low) (currentHue hue)
-from-first low hue = same-test (firstShownAs low) hue (min 254 low) (currentHue hue) (λ h. omega arith) (λ h. omega arith)
+-- the tests on stored hues are those on CurrentHue
+from-first : (low hue : ℕ) → leb (firstStored low) hue ≡ leb (min hueLimit low) (currentHue hue)
+from-first low hue = same-test (firstStored low) hue (min hueLimit low) (currentHue hue) (λ h. omega arith) (λ h. omega arith)
 
-to-last : (high hue : ℕ) → hue < 65536 → leb hue (lastShownAs high) ≡ leb (currentHue hue) (min 254 high)
-to-last high hue h = go (ltb high 254) refl
+to-last : (high hue : ℕ) → hue < 65536 → leb hue (lastStored high) ≡ leb (currentHue hue) (min hueLimit high)
+to-last high hue h = go (ltb high hueLimit) refl
   where
-    go : (p : Bool) → ltb high 254 ≡ p → leb hue (cond p (high * 256 + 255) 65535) ≡ leb (currentHue hue) (min 254 high)
+    go : (p : Bool) → ltb high hueLimit ≡ p → leb hue (cond p (high * 256 + 255) 65535) ≡ leb (currentHue hue) (min hueLimit high)
     go true e =
-        let l = ltb-true high 254 e in
-        same-test hue (high * 256 + 255) (currentHue hue) (min 254 high) (λ k. omega arith) (λ k. omega arith)
+        let l = ltb-true high hueLimit e in
+        same-test hue (high * 256 + 255) (currentHue hue) (min hueLimit high) (λ k. omega arith) (λ k. omega arith)
     go false e =
-        let l = ltb-false high 254 e in
-        same-test hue 65535 (currentHue hue) (min 254 high) (λ k. omega arith) (λ k. omega arith)
+        let l = ltb-false high hueLimit e in
+        same-test hue 65535 (currentHue hue) (min hueLimit high) (λ k. omega arith) (λ k. omega arith)
 
-first-to-last : (low high : ℕ) → leb (firstShownAs low) (lastShownAs high) ≡ leb (min 254 low) (min 254 high)
+first-to-last : (low high : ℕ) → leb (firstStored low) (lastStored high) ≡ leb (min hueLimit low) (min hueLimit high)
 first-to-last low high =
-    let shown : currentHue (firstShownAs low) ≡ min 254 low = omega arith in
-    to-last high (firstShownAs low) (omega arith) ∙ ap (λ (n : ℕ). leb n (min 254 high)) shown
+    let shown : currentHue (firstStored low) ≡ min hueLimit low = omega arith in
+    to-last high (firstStored low) (omega arith) ∙ ap (λ (n : ℕ). leb n (min hueLimit high)) shown
 
--- a stored hue is in the band of shown hues exactly where the hue that it shows is one of them, an end above 254 taken as
--- 254
-pub shown-is : (low high hue : ℕ) → hue < 65536 →
-    inBand (currentHueBand low high) hue ≡ inBand (record { low = min 254 low; high = min 254 high }) (currentHue hue)
+-- a stored hue is in the band exactly where its CurrentHue is one of those named, an end above 254 taken as 254
+pub current-is : (low high hue : ℕ) → hue < 65536 →
+    inBand (currentHueBand low high) hue ≡ inBand (record { low = min hueLimit low; high = min hueLimit high }) (currentHue hue)
 unfolding inBand
-shown-is low high hue h = rw (first-to-last low high, from-first low hue, to-last high hue h)
+current-is low high hue h = rw (first-to-last low high, from-first low hue, to-last high hue h)
 
--- so the band of one shown hue has every stored hue that shows it, and no other
+-- a band of one number
 one-alone : (n x : ℕ) → (inBand (record { low = n; high = n }) x ≡ true) ↔ (x ≡ n)
 unfolding inBand
 one-alone n x =
@@ -202,15 +202,15 @@ one-alone n x =
       λ e. rw (le-leb n x (omega arith), le-leb x n (omega arith)),
     )
 
-pub shown-alone : (shown hue : ℕ) → shown ≤ 254 → hue < 65536 →
-    (inBand (currentHueBand shown shown) hue ≡ true) ↔ (currentHue hue ≡ shown)
-shown-alone shown hue s h =
-    let same : min 254 shown ≡ shown = omega arith in
-    rw (shown-is shown shown hue h, same) (one-alone shown (currentHue hue))
+-- so the band of one CurrentHue has every stored hue that shows it, and no other
+pub current-alone : (n hue : ℕ) → n ≤ 254 → hue < 65536 → (inBand (currentHueBand n n) hue ≡ true) ↔ (currentHue hue ≡ n)
+current-alone n hue s h =
+    let same : min hueLimit n ≡ n = omega arith in
+    rw (current-is n n hue h, same) (one-alone n (currentHue hue))
 
-pub in-range-shown : (low high : ℕ) → InRangeBand (currentHueBand low high)
-in-range-shown low high = record { low = omega arith; high = go (ltb high 254) refl }
+pub in-range-current : (low high : ℕ) → InRangeBand (currentHueBand low high)
+in-range-current low high = record { low = omega arith; high = go (ltb high hueLimit) refl }
   where
-    go : (p : Bool) → ltb high 254 ≡ p → cond p (high * 256 + 255) 65535 < 65536
-    go true e = omega (arith, ltb-true high 254 e)
+    go : (p : Bool) → ltb high hueLimit ≡ p → cond p (high * 256 + 255) 65535 < 65536
+    go true e = omega (arith, ltb-true high hueLimit e)
     go false e = omega arith

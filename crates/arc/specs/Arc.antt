@@ -7,6 +7,7 @@ use lib.IntN.{ℤ, pos, negsuc, negℤ, natAbs}
 use lib.Signed.{leZ}
 use Rattle.matter.specs.declared.enums.DirectionEnum.{DirectionEnum}
 use Rattle.matter.specs.InRange.{Short}
+use Rattle.matter.specs.Limits.{hueLimit}
 use Rattle.hue.specs.Hue.{distance, pathDelta, movedHue}
 use Rattle.arc.specs.declared.Band.{Band}
 
@@ -50,16 +51,16 @@ passesThrough found target direction b =
     cond (leZ (pos 0) (pathDelta found target direction)) (meet found target (b .low) (b .high))
     (meet target found (b .low) (b .high))
 
--- ---- a band by the hues that are shown
+-- ---- a band by CurrentHue
 
--- the first and the last stored hue that are shown as this one; 254 is the last that is shown (document 02, A.4), and
--- what is above it is taken as 254
-abbrev pub firstShownAs : ℕ → ℕ
-firstShownAs shown = min 254 shown * 256
+-- the first and the last stored hue of a CurrentHue; 254 is the last CurrentHue (document 02, A.4), and what is above
+-- it is taken as 254
+abbrev pub firstStored : ℕ → ℕ
+firstStored currentHue = min hueLimit currentHue * 256
 
-abbrev pub lastShownAs : ℕ → ℕ
-lastShownAs shown = cond (ltb shown 254) (shown * 256 + 255) 65535
+abbrev pub lastStored : ℕ → ℕ
+lastStored currentHue = cond (ltb currentHue hueLimit) (currentHue * 256 + 255) 65535
 
--- every stored hue whose shown hue is one of `low` to `high`
+-- every stored hue whose CurrentHue is one of `low` to `high`, an end above 254 taken as 254
 abbrev pub currentHueBand : ℕ → ℕ → Band
-currentHueBand low high = record { low = firstShownAs low; high = lastShownAs high }
+currentHueBand low high = record { low = firstStored low; high = lastStored high }

@@ -1,10 +1,11 @@
 // Whether a fade passes through a band of hues: asked on numbers, before the fade is sent. Document 01, "Arc".
+use hue::LAST_CURRENT_HUE;
 use hue::hue_path_delta;
 use matter::DirectionEnum;
 ghost use mathlib.Core.Path.{_≡_};
 ghost use Prim.Native.Nat.{_*_};
 ghost use Rattle.hue.specs.Hue.{distance};
-ghost use Rattle.arc.specs.Arc.{meet, passesThrough, firstShownAs, lastShownAs, currentHueBand};
+ghost use Rattle.arc.specs.Arc.{meet, passesThrough, firstStored, lastStored, currentHueBand};
 
 // The hues from `low` up to `high`, past 65,535 to 0 where `high` is below `low`.
 pub struct Band {
@@ -12,36 +13,36 @@ pub struct Band {
     pub high: u16,
 }
 
-// The first stored hue that is shown as `shown`; 255, which is never shown, is taken as 254.
-fn first_shown_as(shown: u8) -> u16
-    ensures { λ r. ⌜ r ≡ firstShownAs shown ⌝ }
+// The first stored hue of a CurrentHue. 255, which no hue has, is taken as 254.
+fn first_stored(current: u8) -> u16
+    ensures { λ r. ⌜ r ≡ firstStored current ⌝ }
 {
-    if shown < 254 {
-        (shown as u16) * 256
+    if current < LAST_CURRENT_HUE {
+        (current as u16) * 256
     } else {
-        254 * 256
+        (LAST_CURRENT_HUE as u16) * 256
     }
 }
 
 // The last.
-fn last_shown_as(shown: u8) -> u16
-    ensures { λ r. ⌜ r ≡ lastShownAs shown ⌝ }
+fn last_stored(current: u8) -> u16
+    ensures { λ r. ⌜ r ≡ lastStored current ⌝ }
 {
-    if shown < 254 {
-        (shown as u16) * 256 + 255
+    if current < LAST_CURRENT_HUE {
+        (current as u16) * 256 + 255
     } else {
         65535
     }
 }
 
 impl Band {
-    // The stored hues that are shown as `low` up to `high`; an end of 255 is taken as 254.
+    // The stored hues whose CurrentHue is one of `low` up to `high`; an end of 255 is taken as 254.
     pub fn of_current_hue(low: u8, high: u8) -> Band
         ensures { λ r. ⌜ r ≡ currentHueBand low high ⌝ }
     {
         Band {
-            low: first_shown_as(low),
-            high: last_shown_as(high),
+            low: first_stored(low),
+            high: last_stored(high),
         }
     }
 }

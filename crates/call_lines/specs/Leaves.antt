@@ -44,8 +44,8 @@ unfoldable pub modeOfAskedAt : Reader Leaf
 modeOfAskedAt = give Leaf.ModeOf then enhancedModeAt
 
 -- <hue>
-unfoldable pub shownAskedAt : Reader Leaf
-shownAskedAt = give Leaf.Shown then number16
+unfoldable pub currentHueAskedAt : Reader Leaf
+currentHueAskedAt = give Leaf.CurrentHue then number16
 
 abbrev pub leaves : List (Row Leaf)
 leaves =
@@ -53,7 +53,7 @@ leaves =
     ∷ "remaining" means remainingAskedAt
     ∷ "leave" means leaveAskedAt
     ∷ "mode_of" means modeOfAskedAt
-    ∷ "shown" means shownAskedAt
+    ∷ "shown" means currentHueAskedAt
     ∷ []
 
 -- by the leaf's name
@@ -85,12 +85,12 @@ abbrev pub modeOfText : EnhancedColorModeEnum → List ℕ
 modeOfText emode = decimal (colorModeNumber (colorModeOf emode))
 
 -- CurrentHue of a stored hue
-abbrev pub shownText : ℕ → List ℕ
-shownText stored = decimal (currentHue stored)
+abbrev pub currentHueText : ℕ → List ℕ
+currentHueText stored = decimal (currentHue stored)
 
 unfoldable pub leafText : Leaf → List ℕ
 leafText (Leaf.Delta a) = deltaText a
 leafText (Leaf.Remaining a) = remainingText a
 leafText (Leaf.Leave a) = leaveText a
 leafText (Leaf.ModeOf emode) = modeOfText emode
-leafText (Leaf.Shown stored) = shownText stored
+leafText (Leaf.CurrentHue stored) = currentHueText stored

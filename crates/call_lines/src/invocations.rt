@@ -32,9 +32,9 @@ fn move_to_hue(line: &[u8], at: usize) -> CommandRead
     ensures { λ r. ⌜ Reads (moveToHueAt (now (line .entry)) at) (r .value) (r .at) ⌝ }
 {
     let hue = numbers::number_8(line, at);
-    let ways = enums::path_direction(line, hue.at);
-    let direction = ways.value;
-    let tenths = numbers::number_16(line, ways.at);
+    let read = enums::path_direction(line, hue.at);
+    let direction = read.value;
+    let tenths = numbers::number_16(line, read.at);
     CommandRead {
         value: Command::MoveToHue {
             hue: hue.value,
@@ -83,9 +83,9 @@ fn enhanced_move_to_hue(line: &[u8], at: usize) -> CommandRead
     ensures { λ r. ⌜ Reads (enhancedMoveToHueAt (now (line .entry)) at) (r .value) (r .at) ⌝ }
 {
     let hue = numbers::number_16(line, at);
-    let ways = enums::path_direction(line, hue.at);
-    let direction = ways.value;
-    let tenths = numbers::number_16(line, ways.at);
+    let read = enums::path_direction(line, hue.at);
+    let direction = read.value;
+    let tenths = numbers::number_16(line, read.at);
     CommandRead {
         value: Command::EnhancedMoveToHue {
             hue: hue.value,
@@ -254,9 +254,9 @@ fn color_loop_set(line: &[u8], at: usize) -> CommandRead
     let flags = numbers::number_8(line, at);
     let actions = enums::loop_action(line, flags.at);
     let action = actions.value;
-    let ways = enums::loop_direction(line, actions.at);
-    let direction = ways.value;
-    let seconds = numbers::number_16(line, ways.at);
+    let read = enums::loop_direction(line, actions.at);
+    let direction = read.value;
+    let seconds = numbers::number_16(line, read.at);
     let start = numbers::number_16(line, seconds.at);
     CommandRead {
         value: Command::ColorLoopSet {

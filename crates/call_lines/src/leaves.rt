@@ -13,7 +13,7 @@ use text::writer;
 ghost use mathlib.Core.Path.{_≡_};
 ghost use Rattle.text.specs.Readers.{Reads};
 ghost use Rattle.text.specs.Written.{Written};
-ghost use Rattle.call_lines.specs.Leaves.{deltaAskedAt, remainingAskedAt, leaveAskedAt, modeOfAskedAt, shownAskedAt, leafAt, bitText, deltaText, remainingText, leaveText, modeOfText, shownText, leafText};
+ghost use Rattle.call_lines.specs.Leaves.{deltaAskedAt, remainingAskedAt, leaveAskedAt, modeOfAskedAt, currentHueAskedAt, leafAt, bitText, deltaText, remainingText, leaveText, modeOfText, currentHueText, leafText};
 
 pub struct DeltaAsked {
     pub current: u16,
@@ -38,7 +38,7 @@ pub enum Leaf {
     Remaining(RemainingAsked),
     Leave(LeaveAsked),
     ModeOf(EnhancedColorModeEnum),
-    Shown(u16),
+    CurrentHue(u16),
 }
 
 pub struct LeafRead {
@@ -108,12 +108,12 @@ fn mode_of_read(line: &[u8], at: usize) -> LeafRead
     }
 }
 
-fn shown_read(line: &[u8], at: usize) -> LeafRead
-    ensures { λ r. ⌜ Reads (shownAskedAt (now (line .entry)) at) (r .value) (r .at) ⌝ }
+fn current_hue_read(line: &[u8], at: usize) -> LeafRead
+    ensures { λ r. ⌜ Reads (currentHueAskedAt (now (line .entry)) at) (r .value) (r .at) ⌝ }
 {
     let hue = numbers::number_16(line, at);
     LeafRead {
-        value: Leaf::Shown(hue.value),
+        value: Leaf::CurrentHue(hue.value),
         at: hue.at,
     }
 }
@@ -137,7 +137,7 @@ pub fn read(line: &[u8], at: usize) -> LeafRead
         return mode_of_read(line, end);
     }
     if words::is(line, name, b"shown") {
-        return shown_read(line, end);
+        return current_hue_read(line, end);
     }
     LeafRead {
         value: Leaf::ModeOf(EnhancedColorModeEnum::CurrentXAndCurrentY),
@@ -193,8 +193,8 @@ fn mode_of(emode: EnhancedColorModeEnum, out: &mut [u8], at: usize) -> usize
     writer::decimal(out, at, number as u64)
 }
 
-fn shown(stored: u16, out: &mut [u8], at: usize) -> usize
-    ensures { λ r. ⌜ Written (now (out .entry)) at (shownText stored) (now (out .exit)) r ⌝ }
+fn current_hue(stored: u16, out: &mut [u8], at: usize) -> usize
+    ensures { λ r. ⌜ Written (now (out .entry)) at (currentHueText stored) (now (out .exit)) r ⌝ }
 {
     let current = hue::current_hue(stored);
     writer::decimal(out, at, current as u64)
@@ -209,6 +209,6 @@ pub fn ask(leaf: Leaf, out: &mut [u8], at: usize) -> usize
         Leaf::Remaining(asked) => remaining(asked, out, at),
         Leaf::Leave(asked) => may_execute(asked, out, at),
         Leaf::ModeOf(emode) => mode_of(emode, out, at),
-        Leaf::Shown(stored) => shown(stored, out, at),
+        Leaf::CurrentHue(stored) => current_hue(stored, out, at),
     }
 }

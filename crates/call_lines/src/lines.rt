@@ -1,4 +1,5 @@
-// Reading a line. One whose last word does not end it, or that has a word not as asked, is unreadable.
+// A line: what it asks, and what the lines that make, show or set a lamp come to. One whose last word does not end it,
+// or that has a word not as asked, is unreadable.
 use crate::invocations;
 use crate::invocations::CallRead;
 use crate::leaves;
@@ -178,7 +179,7 @@ fn unreadable() -> LineRead
     }
 }
 
-// The lines that make a lamp, check something on its own, or show the lamp or change it by hand.
+// The lines that ask a leaf, make a lamp, show it or change it by hand.
 fn other_line(line: &[u8], at: usize) -> LineRead
     ensures { λ r. ⌜ Reads (otherLineAt (now (line .entry)) at) (r .value) (r .at) ⌝ }
 {
@@ -249,7 +250,7 @@ pub fn make(making: Making) -> Made
     Lamp::new(bounds, making.features, making.options, making.clock)
 }
 
-// A lamp that was put in place or checked.
+// A lamp that was put in place, or is shown.
 pub fn shown(lamp: Lamp) -> Answer
     ensures { λ r. ⌜ r ≡ shownAnswer lamp ⌝ }
 {

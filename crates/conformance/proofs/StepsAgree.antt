@@ -186,7 +186,11 @@ mireds-stop-down lo hi n rate e units =
     let z : n ≡ lo = eqb-true n lo e in
     omega (arith, units-down lo units n (omega arith))
 
--- ---- plain hues: 0 to 254 in the text, 256 numbers in the port
+-- ---- plain hues: 0 to 254 in the text; in the port 256 stored places each, of which the last 512 show 254
+
+-- CurrentHue after a plain step
+abbrev stepped : StepModeEnum → ℕ → ℕ → ℕ
+stepped mode size hue = currentHue (movedHue hue (stepDelta mode (stored size)))
 
 -- without a wrap a plain move or step shows what the text's does
 plain-by : (top k n : ℕ) → n + k ≤ top → times k (hueUp top) n ≡ n + k
@@ -196,9 +200,27 @@ plain-by top (suc k) n h =
     let r : times k (hueUp top) n ≡ n + k = plain-by top k n (omega arith) in
     rw (ne-eqb (times k (hueUp top) n) top (λ e. omega arith)) (omega arith)
 
-pub plain-step-agrees : (n size : ℕ) → n + size ≤ 254 → currentHue (movedHue (stored n) (stepDelta StepModeEnum.Up (stored size))) ≡ hueStepTo StepModeEnum.Up hueMaximum size n
-plain-step-agrees n size h = rw (moved-up (stored n) (stored size), plain-by 254 size n h) (omega arith)
+pub plain-step-agrees : (hue size : ℕ) → hue < 65280 → currentHue hue + size ≤ 254 →
+    stepped StepModeEnum.Up size hue ≡ hueStepTo StepModeEnum.Up hueMaximum size (currentHue hue)
+plain-step-agrees hue size h k =
+    rw (moved-up hue (stored size), plain-by 254 size (currentHue hue) k) (omega arith)
 
+-- and so does any step up from the last 256, which the text sees at 254
+past-top : (k : ℕ) → k ≤ 254 → times (suc k) (hueUp 254) 254 ≡ k
+unfolding hueUp
+past-top zero h = refl
+past-top (suc k) h =
+    let r : times (suc k) (hueUp 254) 254 ≡ k = past-top k (omega arith) in
+    rw (r, ne-eqb k 254 (λ e. omega arith)) (omega arith)
+
+pub plain-step-last-agrees : (hue size : ℕ) → 65280 ≤ hue → hue < 65536 → size ≤ 255 →
+    stepped StepModeEnum.Up size hue ≡ hueStepTo StepModeEnum.Up hueMaximum size (currentHue hue)
+plain-step-last-agrees hue zero l h k = rw (moved-up hue (stored zero)) (omega arith)
+plain-step-last-agrees hue (suc size) l h k =
+    let last : currentHue hue ≡ 254 = omega arith in
+    rw (moved-up hue (stored (suc size)), last, past-top size (omega arith)) (omega arith)
+
+-- down, as far as one below 0, which the text makes 254, and the port shows so
 plain-down-by : (top k n : ℕ) → k ≤ n → times k (hueDown top) n ≡ n - k
 unfolding hueDown
 plain-down-by top zero n h = omega arith
@@ -206,27 +228,42 @@ plain-down-by top (suc k) n h =
     let r : times k (hueDown top) n ≡ n - k = plain-down-by top k n (omega arith) in
     rw (ne-eqb (times k (hueDown top) n) 0 (λ e. omega arith)) (omega arith)
 
--- down, as far as one below 0, which the text makes 254, and the port shows so
-pub plain-step-down-agrees : (n size : ℕ) → size ≤ suc n → n ≤ 254 → currentHue (movedHue (stored n) (stepDelta StepModeEnum.Down (stored size))) ≡ hueStepTo StepModeEnum.Down hueMaximum size n
-unfolding hueDown
-plain-step-down-agrees n size h k = go (leb size n) refl
-  where
-    go : (b : Bool) → leb size n ≡ b → currentHue (movedHue (stored n) (stepDelta StepModeEnum.Down (stored size))) ≡ hueStepTo StepModeEnum.Down hueMaximum size n
-    go true e =
-        let l : size ≤ n = leb-true size n e in
-        rw (moved-down (stored n) (stored size), plain-down-by 254 size n l) (omega arith)
-    go false e =
-        let past : size ≡ suc n = omega (arith, leb-false size n e) in
-        let at-0 : times n (hueDown hueMaximum) n ≡ 0 = omega (arith, plain-down-by 254 n n (omega arith)) in
-        rw (past, moved-down (stored n) (stored (suc n)), at-0) (omega arith)
+module _ (n hue : ℕ) (small : n ≤ 254) (low : n * 256 ≤ hue) (high : hue < suc n * 256) where
+  within : (size : ℕ) → size ≤ n → currentHue ((hue + (65536 - stored size % 65536)) % 65536) ≡ n - size
+  within size h =
+      let whole : stored size % 65536 ≡ size * 256 = omega arith in
+      let moved : (hue + (65536 - size * 256)) % 65536 ≡ hue - size * 256 = omega arith in
+      rw (whole, moved) (omega arith)
 
--- past 254 the text goes on from 0, and the port shows 254 again: the smallest step is of 1 from 254
-pub plain-step-differs : (currentHue (movedHue (stored 254) (stepDelta StepModeEnum.Up (stored 1))) ≡ 254) × (hueStepTo StepModeEnum.Up hueMaximum 1 254 ≡ 0)
+  one-below : currentHue ((hue + (65536 - stored (suc n) % 65536)) % 65536) ≡ 254
+  one-below =
+      let whole : stored (suc n) % 65536 ≡ suc n * 256 = omega arith in
+      let moved : (hue + (65536 - suc n * 256)) % 65536 ≡ hue + (65536 - suc n * 256) = omega arith in
+      rw (whole, moved) (omega arith)
+
+down-by-order : (n hue size : ℕ) (b : Bool) → leb size n ≡ b → n ≤ 254 → n * 256 ≤ hue → hue < suc n * 256 → size ≤ suc n →
+    stepped StepModeEnum.Down size hue ≡ hueStepTo StepModeEnum.Down hueMaximum size n
+unfolding hueDown
+down-by-order n hue size true e small low high k =
+    let l : size ≤ n = leb-true size n e in
+    rw (moved-down hue (stored size), plain-down-by 254 size n l) (within n hue small low high size l)
+down-by-order n hue size false e small low high k =
+    let past : size ≡ suc n = omega (arith, leb-false size n e) in
+    let at-0 : times n (hueDown hueMaximum) n ≡ 0 = omega (arith, plain-down-by 254 n n (omega arith)) in
+    rw (past, moved-down hue (stored (suc n)), at-0) (one-below n hue small low high)
+
+pub plain-step-down-agrees : (hue size : ℕ) → hue < 65280 → size ≤ suc (currentHue hue) →
+    stepped StepModeEnum.Down size hue ≡ hueStepTo StepModeEnum.Down hueMaximum size (currentHue hue)
+plain-step-down-agrees hue size h k =
+    down-by-order (currentHue hue) hue size (leb size (currentHue hue)) refl (omega arith) (omega arith) (omega arith) k
+
+-- past 254 the text goes on from 0, and the port shows 254 again: the smallest step is of 1 from 65,024
+pub plain-step-differs : (stepped StepModeEnum.Up 1 65024 ≡ 254) × (hueStepTo StepModeEnum.Up hueMaximum 1 (currentHue 65024) ≡ 0)
 unfolding movedHue hueUp
 plain-step-differs = (refl, refl)
 
--- and down, of 2 from 0
-pub plain-step-down-differs : (currentHue (movedHue (stored 0) (stepDelta StepModeEnum.Down (stored 2))) ≡ 254) × (hueStepTo StepModeEnum.Down hueMaximum 2 0 ≡ 253)
+-- and down of 1 from 65,280, from 254 to 254
+pub plain-step-down-differs : (stepped StepModeEnum.Down 1 65280 ≡ 254) × (hueStepTo StepModeEnum.Down hueMaximum 1 (currentHue 65280) ≡ 253)
 unfolding movedHue hueDown
 plain-step-down-differs = (refl, refl)
 

@@ -2,11 +2,10 @@
 use mathlib.Core.Bool.{true}
 use mathlib.Core.List.{List, _++_}
 use mathlib.Core.Path.{_≡_, sym, _∙_, ap}
-use lib.Dec.{lit<}
 use Rattle.matter.specs.declared.enums.DirectionEnum.{DirectionEnum}
 use Rattle.hue.specs.Hue.{movedHue}
 use Rattle.hue.proofs.Laws.{moved-up}
-use Rattle.arc.proofs.Laws.{in-range-shown}
+use Rattle.arc.proofs.Laws.{in-range-current}
 use Rattle.arc.proofs.Examples.{green}
 use Rattle.lamp.specs.declared.Call.{Call}
 use Rattle.schedule.specs.Calls.{idle, steps}
@@ -20,7 +19,7 @@ use Rattle.consequences.proofs.Together.{after-each}
 
 -- down from red to cyan, never green
 down-never-green : Avoids (redToCyan DirectionEnum.Down) green
-down-never-green = never-through-asked (redToCyan DirectionEnum.Down) (premised .0) green (in-range-shown 64 106 (lit< tt) (lit< tt)) (asked .1)
+down-never-green = never-through-asked (redToCyan DirectionEnum.Down) (premised .0) green (in-range-current 64 106) (asked .1)
 
 -- the lamp alone and the one among other calls: after as many accepted steps they show the same
 always-together : (xs xs' ys ys' : List Call) → alone .calls ≡ xs ++ xs' → among .calls ≡ ys ++ ys' → steps (begun alone .lamp) xs ≡ steps (begun among .lamp) ys → ShowSame (later alone xs) (later among ys)

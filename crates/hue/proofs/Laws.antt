@@ -1,5 +1,5 @@
 -- What follows from the definitions of hues: a hue moved up and down, the distance as one remainder, that a way is small,
--- arrives, and is zero between equal hues alone, where it is a tie, and what is shown. The documents' sums come first.
+-- arrives, and is zero between equal hues alone, where it is a tie, and CurrentHue. The documents' sums come first.
 use mathlib.Core.Path.{_≡_, refl, ap}
 use mathlib.Core.Bool.{Bool, true, false, cond}
 use Prim.Native.Nat.{ℕ, zero, suc, _+_, _-_, _/_, _%_, _<_, _≤_}
@@ -32,9 +32,9 @@ past-the-bottom : movedHue 0 (negℤ (pos 1)) ≡ 65535
 unfolding movedHue
 past-the-bottom = refl
 
--- A.4: the last hue that is shown as 253, and both sides of the first whose upper byte is 255
-shown-ends : (currentHue 65023 ≡ 253) × (currentHue 65279 ≡ 254) × (currentHue 65280 ≡ 254) × (currentHue 65535 ≡ 254)
-shown-ends = (refl, refl, refl, refl)
+-- A.4: the last hue whose CurrentHue is 253, and both sides of the first whose upper byte is 255
+current-ends : (currentHue 65023 ≡ 253) × (currentHue 65279 ≡ 254) × (currentHue 65280 ≡ 254) × (currentHue 65535 ≡ 254)
+current-ends = (refl, refl, refl, refl)
 
 -- ---- a hue that is moved
 
@@ -152,19 +152,19 @@ down-no-tie c t = refl
 pub equal-no-tie : (c : ℕ) (d : DirectionEnum) → c < 65536 → isTie c c d ≡ false
 equal-no-tie c d h = no-half-no-tie c c d (λ e. omega (arith, distance-is c c h))
 
--- ---- the hue that is shown
+-- ---- CurrentHue
 
 -- at most 254
-pub shown-most : (hue : ℕ) → currentHue hue ≤ 254
-shown-most hue = omega arith
+pub current-most : (hue : ℕ) → currentHue hue ≤ 254
+current-most hue = omega arith
 
 -- the stored hue divided by 256 below 65,280, and 254 from there on
-pub shown-below : (hue : ℕ) → hue < 65280 → currentHue hue ≡ hue / 256
-shown-below hue h = omega arith
+pub current-below : (hue : ℕ) → hue < 65280 → currentHue hue ≡ hue / 256
+current-below hue h = omega arith
 
-pub shown-last : (hue : ℕ) → 65280 ≤ hue → currentHue hue ≡ 254
-shown-last hue h = omega arith
+pub current-last : (hue : ℕ) → 65280 ≤ hue → currentHue hue ≡ 254
+current-last hue h = omega arith
 
 -- it grows with the stored hue
-pub shown-grows : (a b : ℕ) → a ≤ b → currentHue a ≤ currentHue b
-shown-grows a b h = omega arith
+pub current-grows : (a b : ℕ) → a ≤ b → currentHue a ≤ currentHue b
+current-grows a b h = omega arith

@@ -5,6 +5,7 @@ use mathlib.Core.Bool.{Bool, false, cond, _&&_}
 use lib.Dec.{leb, ltb, eqb}
 use lib.IntN.{ℤ, pos, negsuc, negℤ, _+ℤ_, _-ℤ_}
 use Rattle.matter.specs.declared.enums.DirectionEnum.{DirectionEnum}
+use Rattle.matter.specs.Limits.{hueLimit}
 use Rattle.hue.specs.declared.HuePath.{HuePath}
 
 -- an integer modulo 65,536: the one of 0 to 65,535 that differs from it by whole turns
@@ -54,4 +55,4 @@ movedHue start part = modulo (pos start +ℤ part)
 -- "the one-byte shown hue, the stored one divided by 256, rounded down"; CurrentHue ends at 254, so document 02, A.4:
 -- "a stored hue of 65,280 or above is shown as 254"
 abbrev pub currentHue : ℕ → ℕ
-currentHue hue = min 254 (hue / 256)
+currentHue hue = min hueLimit (hue / 256)

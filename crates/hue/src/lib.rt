@@ -1,5 +1,5 @@
-// Hues on their circle of 65,536 places: the way from one to another, a hue moved by a part of a way, and the hue
-// that is shown. Document 01, leaf 1.
+// Hues on their circle of 65,536 places: the delta from one to another, a hue moved by a partial delta, and CurrentHue.
+// Document 01, leaf 1.
 // Carried over from project-chip/rs-matter, commit 43f61585a4 (Apache-2.0, see NOTICE), and changed.
 use matter::DirectionEnum;
 ghost use mathlib.Core.Path.{_≡_};
@@ -81,16 +81,16 @@ pub fn moved_hue(start: u16, part: i64) -> u16
 }
 
 // CurrentHue ends there.
-const LAST_CURRENT_HUE: u16 = 254;
+pub const LAST_CURRENT_HUE: u8 = 254;
 
-// CurrentHue: the one byte that is shown of the stored hue, its upper one, at most 254.
+// CurrentHue: the upper byte of the stored hue, at most 254.
 pub fn current_hue(hue: u16) -> u8
     ensures { λ r. ⌜ r ≡ currentHue hue ⌝ }
 {
     let upper = hue / 256;
-    if upper < LAST_CURRENT_HUE {
+    if upper < LAST_CURRENT_HUE as u16 {
         upper as u8
     } else {
-        LAST_CURRENT_HUE as u8
+        LAST_CURRENT_HUE
     }
 }

@@ -70,9 +70,9 @@ fn stamps(line: &[u8], at: usize) -> StampsRead
 fn color(line: &[u8], at: usize) -> ColorRead
     ensures { λ r. ⌜ Reads (colorAt (now (line .entry)) at) (r .value) (r .at) ⌝ }
 {
-    let reported = stamps(line, at);
-    let stamps = reported.value;
-    let hue = numbers::number_16(line, reported.at);
+    let read = stamps(line, at);
+    let stamps = read.value;
+    let hue = numbers::number_16(line, read.at);
     let saturation = numbers::number_8(line, hue.at);
     let mireds = numbers::number_16(line, saturation.at);
     let modes = enums::color_mode(line, mireds.at);

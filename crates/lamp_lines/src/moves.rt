@@ -31,7 +31,7 @@ pub struct TaskRead {
     pub at: usize,
 }
 
-// A way, or `-` for none.
+// A signed delta, or `-` for none.
 fn delta(line: &[u8], at: usize) -> DeltaRead
     ensures { λ r. ⌜ Reads (deltaAt (now (line .entry)) at) (r .value) (r .at) ⌝ }
 {
@@ -42,10 +42,10 @@ fn delta(line: &[u8], at: usize) -> DeltaRead
             at: words::end(line, name),
         };
     }
-    let way = numbers::signed(line, at);
+    let read = numbers::signed(line, at);
     DeltaRead {
-        value: HueDelta::By(way.value),
-        at: way.at,
+        value: HueDelta::By(read.value),
+        at: read.at,
     }
 }
 
@@ -70,9 +70,9 @@ fn target(line: &[u8], at: usize) -> TargetRead
 fn move_to(line: &[u8], at: usize) -> TaskRead
     ensures { λ r. ⌜ Reads (moveToAt (now (line .entry)) at) (r .value) (r .at) ⌝ }
 {
-    let ways = delta(line, at);
-    let delta = ways.value;
-    let targets = target(line, ways.at);
+    let read = delta(line, at);
+    let delta = read.value;
+    let targets = target(line, read.at);
     let saturation = targets.value;
     let ms = numbers::number_32(line, targets.at);
     let enhanced = numbers::flag(line, ms.at);
@@ -152,9 +152,9 @@ fn mireds_move(line: &[u8], at: usize) -> TaskRead
 fn color_loop(line: &[u8], at: usize) -> TaskRead
     ensures { λ r. ⌜ Reads (colorLoopAt (now (line .entry)) at) (r .value) (r .at) ⌝ }
 {
-    let ways = enums::loop_direction(line, at);
-    let direction = ways.value;
-    let seconds = numbers::number_16(line, ways.at);
+    let read = enums::loop_direction(line, at);
+    let direction = read.value;
+    let seconds = numbers::number_16(line, read.at);
     TaskRead {
         value: Task::ColorLoop(ColorLoop {
             direction,

@@ -58,7 +58,8 @@ fn initial_values(line: &[u8], name: usize, at: usize) -> Initial
     }
 }
 
-// The record of a task: the limits of a move of the color temperature stand where its task has the caller's.
+// The record of a task. In a move of the color temperature, the limits that it runs between take the place of the
+// caller's.
 fn record(initial: Initial, task: Task) -> Running
     ensures { λ r. ⌜ r ≡ recordOf (valuesOf initial) task ⌝ }
 {

@@ -9,7 +9,8 @@ use oracle_lib::random::Random;
 
 fn main() {
     let args: Vec<String> = std::env::args().skip(1).collect();
-    let usage = "generate delta|leave|mode_of|remaining|shown|set|corners|random|all SEED COUNT [few]";
+    let usage =
+        "generate delta|leave|mode_of|remaining|shown|set|corners|random|all SEED COUNT [few]";
     let (Some(kind), Some(seed), Some(count)) = (
         args.first(),
         args.get(1).and_then(|x| x.parse().ok()),

@@ -31,8 +31,8 @@ mode-of-requires c κs = search needs
 enum-known-leaf-5 : tie.Need-enum-known-leaf-5
 enum-known-leaf-5 c = search needs
 
-shown-requires : tie.Need-shown-requires
-shown-requires c κs = search needs
+current-hue-requires : tie.Need-current-hue-requires
+current-hue-requires c κs = search needs
 
 same-length : tie.Need-same-length
 same-length c = search needs
@@ -67,7 +67,7 @@ same-length-5 c = search needs
 
 returns-5 : tie.Need-returns-5
 unfolding leafText
-returns-5 c = let made = c .before .before in rw (made .before .before .before .leaf5 .given .1) (made .shown .ensures)
+returns-5 c = let made = c .before .before in rw (made .before .before .before .leaf5 .given .1) (made .current-hue .ensures)
 
 pub ask-spec : {M : Type 1} → statement M
 ask-spec =
@@ -82,7 +82,7 @@ ask-spec =
     enum-known-leaf-4
     mode-of-requires
     enum-known-leaf-5
-    shown-requires
+    current-hue-requires
     same-length
     returns
     same-length-2

@@ -4,7 +4,7 @@ use mathlib.Core.Path.{refl}
 use lib.ListN.{drop}
 use Rattle.matter.specs.declared.enums.EnhancedColorModeEnum.{EnhancedColorModeEnum}
 use Rattle.text.specs.Readers.{Reader, Row, unknown}
-use Rattle.text.proofs.NamedLaws.{Left, pass, take, rest}
+use Rattle.text.proofs.NamedLaws.{Left, pass, take, rest, whole-table}
 use Rattle.call_lines.specs.declared.leaves.Leaf.{Leaf}
 use Rattle.call_lines.specs.Leaves.{leaves, leafAt}
 use borrow.Author.Needs.{needs}
@@ -22,7 +22,7 @@ Rows s rows =
 
 all : (s : tie.After-end) → Rows s leaves
 unfolding leafAt
-all s = record { same = rw (s .end .ensures, s .before .start .ensures) }
+all s = whole-table _ _ _ _ _ _ (s .before .start .ensures) (s .end .ensures)
 
 abbrev from1 : tie.Else1 → tie.After-end
 from1 c = c .before .before .before
@@ -122,13 +122,13 @@ slice-aggregate-is-5 c = search needs
 is-requires-5 : tie.Need-is-requires-5
 is-requires-5 c κs = search needs
 
-shown-read-requires : tie.Need-shown-read-requires
-shown-read-requires c κs = search needs
+current-hue-read-requires : tie.Need-current-hue-read-requires
+current-hue-read-requires c κs = search needs
 
 returns-5 : tie.Need-returns-5
 returns-5 c =
     take (past4 (c .before .before .before .before)) (c .before .before .is5 .ensures) (c .before .if5 .taken)
-    (c .shown-read .ensures)
+    (c .current-hue-read .ensures)
 
 returns-6 : tie.Need-returns-6
 returns-6 c = rest (past5 c) (refl, refl)
@@ -157,6 +157,6 @@ read-spec =
     returns-4
     slice-aggregate-is-5
     is-requires-5
-    shown-read-requires
+    current-hue-read-requires
     returns-5
     returns-6)

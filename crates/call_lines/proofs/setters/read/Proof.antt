@@ -4,7 +4,7 @@ use mathlib.Core.List.{List}
 use mathlib.Core.Path.{refl}
 use lib.ListN.{drop}
 use Rattle.text.specs.Readers.{Reader, Row, unknown}
-use Rattle.text.proofs.NamedLaws.{Left, pass, take, rest}
+use Rattle.text.proofs.NamedLaws.{Left, pass, take, rest, whole-table}
 use Rattle.call_lines.specs.declared.setters.Setting.{Setting}
 use Rattle.call_lines.specs.declared.setters.NewValue.{NewValue}
 use Rattle.call_lines.specs.Setters.{settingOf, settings, settingAt}
@@ -23,7 +23,7 @@ Rows s rows =
 
 all : (s : tie.After-end) → Rows s settings
 unfolding settingAt
-all s = record { same = rw (s .end .ensures, s .before .start .ensures) }
+all s = whole-table _ _ _ _ _ _ (s .before .start .ensures) (s .end .ensures)
 
 abbrev from1 : tie.Else1 → tie.After-end
 from1 c = c .before .before .before

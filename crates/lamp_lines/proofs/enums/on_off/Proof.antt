@@ -4,7 +4,7 @@ use mathlib.Core.Path.{refl}
 use lib.ListN.{drop}
 use Rattle.matter.specs.declared.enums.OnOff.{OnOff}
 use Rattle.text.specs.Readers.{Reader, Row, unknown}
-use Rattle.text.proofs.NamedLaws.{Left, pass, take, rest}
+use Rattle.text.proofs.NamedLaws.{Left, pass, take, rest, whole-table}
 use Rattle.lamp_lines.specs.Enums.{onOffs, onOffAt}
 use borrow.Author.Needs.{needs}
 use Rattle.lamp_lines.proofs.enums.on_off.Statement.{statement}
@@ -21,7 +21,7 @@ Rows s rows =
 
 all : (s : tie.After-end) → Rows s onOffs
 unfolding onOffAt
-all s = record { same = rw (s .end .ensures, s .before .start .ensures) }
+all s = whole-table _ _ _ _ _ _ (s .before .start .ensures) (s .end .ensures)
 
 abbrev from1 : tie.Else1 → tie.After-end
 from1 c = c .before .before .before

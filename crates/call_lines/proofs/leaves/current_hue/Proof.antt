@@ -1,7 +1,7 @@
--- The shown hue in decimal.
+-- CurrentHue in decimal.
 use borrow.Author.Needs.{needs}
-use Rattle.call_lines.proofs.leaves.shown.Statement.{statement}
-use Rattle.call_lines.proofs.leaves.shown.Tie as tie
+use Rattle.call_lines.proofs.leaves.current_hue.Statement.{statement}
+use Rattle.call_lines.proofs.leaves.current_hue.Tie as tie
 
 current-hue-requires : tie.Need-current-hue-requires
 current-hue-requires c κs = search needs
@@ -20,5 +20,5 @@ returns c =
     let made = c .before .before in
     rw (← (made .before .before .current-hue .ensures)) (made .decimal .ensures)
 
-pub shown-spec : {M : Type 1} → statement M
-shown-spec = tie.close (tie.spec current-hue-requires cast-decimal decimal-requires same-length returns)
+pub current-hue-spec : {M : Type 1} → statement M
+current-hue-spec = tie.close (tie.spec current-hue-requires cast-decimal decimal-requires same-length returns)
