@@ -54,7 +54,7 @@ enum {
     /* in a lamp */
     YEMKRUOS_LAMP_CLOCK = 2,
     YEMKRUOS_LAMP_REMAINING = 4,
-    YEMKRUOS_LAMP_HUE = 8,
+    YEMKRUOS_LAMP_HUE = 8, /* the stored one; CurrentHue is it divided by 256, at most 254 */
     YEMKRUOS_LAMP_SATURATION = 9,
     YEMKRUOS_LAMP_MIREDS = 10,
     YEMKRUOS_LAMP_RUNNING = 21, /* 0: idle */
