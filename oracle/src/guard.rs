@@ -1,6 +1,6 @@
 //! What the Rust has not, written by hand: the causes 4 to 8, from document 01's table, looked
 //! at before the Rust is run (1 and 2 are the Rust's own errors); and, of document 02, the tie,
-//! which is put behind the Rust's answer, and the last hue that is shown.
+//! which is put behind the Rust's answer, and CurrentHue from 65,280 on.
 
 use crate::data::*;
 

@@ -21,7 +21,7 @@ fn first_stored(current: u8) -> u16 {
     }
 }
 
-/// The last.
+/// The last stored hue of a CurrentHue. 255 is taken as 254 again.
 fn last_stored(current: u8) -> u16 {
     if current < LAST_CURRENT_HUE {
         (current as u16) * 256 + 255

@@ -87,7 +87,7 @@ fn options_are_heeded() {
     assert!(sent(command.with_options(1, 1)).given_task().is_some());
 }
 
-/// The band of shown hues has the stored hues that show them, and no others.
+/// A band of CurrentHue has the stored hues that show it, and no others.
 #[test]
 fn a_band_of_shown_hues_is_what_shows_them() {
     for (low, high) in [

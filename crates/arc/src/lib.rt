@@ -24,7 +24,7 @@ fn first_stored(current: u8) -> u16
     }
 }
 
-// The last.
+// The last stored hue of a CurrentHue. 255 is taken as 254 again.
 fn last_stored(current: u8) -> u16
     ensures { λ r. ⌜ r ≡ lastStored current ⌝ }
 {

@@ -1,5 +1,5 @@
 -- The port's steps and moves at a rate are the text's, unit by unit: of saturation and mireds within their bounds, of the hue
--- on the circle of 65,536. Of a plain hue they are while it does not wrap.
+-- on the circle of 65,536. Of a plain hue, below 65,280, they are up to 254 and down to one below 0.
 use Prim.Native.Nat.{ℕ, zero, suc, _+_, _-_, _*_, _/_, _%_, _≤_, _<_, min, max}
 use mathlib.Core.Bool.{Bool, true, false, cond, _&&_, true≢false, _||_}
 use mathlib.Core.Path.{_≡_, refl, sym, ap, _∙_}
