@@ -1,10 +1,11 @@
-//! All sides in one process, on the same calls: `bench [ROUNDS] [ROW]`.
+//! All sides in one process, on the same calls: `bench [ROUNDS] [ROW]`, where ROW `row call` is the table of rows of lamps.
 //!
 //! A round runs each side once over a row's calls, in an order that turns from round to round.
 //! The checksums over every number of every answer must agree. The medians are printed.
 
 #[cfg(feature = "archive")]
 mod library;
+mod row_calls;
 mod rows;
 mod rust;
 mod sums;
@@ -144,5 +145,7 @@ fn main() {
             }
         }
         print_row(name, count, &times.map(|mut t| median(&mut t)));
+    }    if "row call".contains(&only) {
+        row_calls::print(rounds);
     }
 }

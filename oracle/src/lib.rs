@@ -43,6 +43,7 @@ pub mod data;
 pub mod maker;
 pub mod protocol;
 pub mod random;
+pub mod rows;
 include!(concat!(env!("OUT_DIR"), "/guard_mod.rs"));
 
 pub use dm::clusters::app::color_control::driver;

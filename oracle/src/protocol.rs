@@ -11,6 +11,7 @@ use crate::color_control_decl::{
 use crate::data::*;
 use crate::driver::{self, Handler, Running};
 use crate::error::ErrorCode;
+use crate::rows::{self, Row};
 use crate::{guard, recorder};
 
 /// The longest line that is read, its newline not counted.
@@ -23,13 +24,16 @@ pub const UNCOMPARABLE: &str = "uncomparable";
 pub struct Player {
     handlers: Vec<&'static dyn Handler>,
     places: HashMap<(u16, u16), usize>,
-    lamp: Option<Lamp>,
-    last: Option<Task>,
+    pub(crate) lamp: Option<Lamp>,
+    pub(crate) last: Option<Task>,
+    pub(crate) row: Option<Row>,
+    /// The place whose lamp is looked at: without one the lamp alone is.
+    focus: Option<usize>,
 }
 
-struct Lamp {
-    fields: Fields,
-    record: Option<Record>,
+pub struct Lamp {
+    pub(crate) fields: Fields,
+    pub(crate) record: Option<Record>,
     /// The place of the handler for these bounds.
     place: Option<usize>,
     /// The record's transition, and the place of its handler: made when it is first needed.
@@ -111,15 +115,32 @@ impl Player {
             places,
             lamp: None,
             last: None,
+            row: None,
+            focus: None,
+        }
+    }
+
+    pub fn look_at(&mut self, place: usize) {
+        self.focus = Some(place);
+    }
+
+    fn looked_at(&self) -> Option<&Lamp> {
+        match self.focus {
+            Some(place) => self.row.as_ref()?.lamps[place].as_ref(),
+            None => self.lamp.as_ref(),
         }
     }
 
     pub fn fields(&self) -> Option<&Fields> {
-        self.lamp.as_ref().map(|l| &l.fields)
+        self.looked_at().map(|l| &l.fields)
     }
 
     pub fn record(&self) -> Option<&Record> {
-        self.lamp.as_ref().and_then(|l| l.record.as_ref())
+        self.looked_at().and_then(|l| l.record.as_ref())
+    }
+
+    pub fn row(&self) -> Option<&Row> {
+        self.row.as_ref()
     }
 
     pub fn last(&self) -> Option<&Task> {
@@ -135,17 +156,18 @@ impl Player {
             out.extend_from_slice(b"error\n");
             return;
         }
-        match read(line) {
-            Some(call) => {
+        match (rows::read(line), read(line)) {
+            (Some(call), _) => self.row_line(call, out),
+            (None, Some(call)) => {
                 let reply = self.play(call);
                 self.write(reply, out)
             }
-            None => out.extend_from_slice(b"error"),
+            (None, None) => out.extend_from_slice(b"error"),
         }
         out.push(b'\n');
     }
 
-    fn write(&self, reply: Reply, out: &mut Vec<u8>) {
+    pub(crate) fn write(&self, reply: Reply, out: &mut Vec<u8>) {
         match reply {
             Reply::Delta(delta, is_tie) => {
                 signed(out, delta.into());
@@ -219,12 +241,24 @@ impl Player {
 
     fn put(&mut self, fields: Fields) {
         self.last = None;
-        self.lamp = Some(Lamp {
+        self.lamp = Some(self.lamp_of(fields));
+    }
+
+    pub(crate) fn lamp_of(&self, fields: Fields) -> Lamp {
+        Lamp {
             fields,
             record: None,
             place: self.places.get(&(fields.min, fields.max)).copied(),
             running: None,
-        });
+        }
+    }
+
+    /// Whether the Rust can be asked for a step of a lamp that runs.
+    pub(crate) fn comparable(&self, lamp: &mut Lamp) -> bool {
+        let Some(place) = lamp.place else {
+            return false;
+        };
+        lamp.bring_about(place, self.handlers[place]) != Ok(false)
     }
 
     fn on_lamp(&mut self, call: Call) -> End {
@@ -455,6 +489,10 @@ impl Player {
 }
 
 impl Lamp {
+    pub fn clock(&self) -> u64 {
+        self.fields.clock
+    }
+
     /// Starts the record's task at its start numbers, if its transition isn't there yet.
     /// The lamp's fields are loaded again before the step. Answers whether it runs.
     fn bring_about(&mut self, place: usize, handler: &'static dyn Handler) -> Result<bool, ()> {
@@ -672,14 +710,14 @@ fn write_running(out: &mut Vec<u8>, task: &Task, saved: &[u64]) {
 
 const MOST_WORDS: usize = 24;
 
-struct Words<'a> {
+pub(crate) struct Words<'a> {
     words: [&'a [u8]; MOST_WORDS],
     count: usize,
     at: usize,
 }
 
 impl<'a> Words<'a> {
-    fn of(line: &'a [u8]) -> Option<Self> {
+    pub(crate) fn of(line: &'a [u8]) -> Option<Self> {
         let mut words = [&line[..0]; MOST_WORDS];
         let mut count = 0;
         for word in line.split(|b| *b == b' ') {
@@ -696,7 +734,11 @@ impl<'a> Words<'a> {
         })
     }
 
-    fn next(&mut self) -> Option<&'a [u8]> {
+    pub(crate) fn is_at_end(&self) -> bool {
+        self.at == self.count
+    }
+
+    pub(crate) fn next(&mut self) -> Option<&'a [u8]> {
         if self.at == self.count {
             return None;
         }
@@ -704,12 +746,12 @@ impl<'a> Words<'a> {
         Some(self.words[self.at - 1])
     }
 
-    fn unsigned(&mut self, most: u64) -> Option<u64> {
+    pub(crate) fn unsigned(&mut self, most: u64) -> Option<u64> {
         let x = magnitude(self.next()?)?;
         (x <= most as u128).then_some(x as u64)
     }
 
-    fn u64(&mut self) -> Option<u64> {
+    pub(crate) fn u64(&mut self) -> Option<u64> {
         self.unsigned(u64::MAX)
     }
 
@@ -721,7 +763,7 @@ impl<'a> Words<'a> {
         self.unsigned(u16::MAX.into()).map(|x| x as u16)
     }
 
-    fn u8(&mut self) -> Option<u8> {
+    pub(crate) fn u8(&mut self) -> Option<u8> {
         self.unsigned(u8::MAX.into()).map(|x| x as u8)
     }
 
@@ -912,7 +954,7 @@ impl<'a> Words<'a> {
         })
     }
 
-    fn call(&mut self) -> Option<Call> {
+    pub(crate) fn call(&mut self) -> Option<Call> {
         Some(match self.next()? {
             b"lamp" => Call::Lamp(self.fields()?),
             b"new" => Call::New(
@@ -961,7 +1003,7 @@ impl<'a> Words<'a> {
 pub fn read(line: &[u8]) -> Option<Call> {
     let mut words = Words::of(line)?;
     let call = words.call()?;
-    (words.at == words.count).then_some(call)
+    words.is_at_end().then_some(call)
 }
 
 /// Digits alone, at least one; what is past 64 bits is cut to a number past them.

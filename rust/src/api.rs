@@ -12,6 +12,7 @@ use crate::matter::{
     DirectionEnum, MoveModeEnum, OnOff, Request, StepModeEnum,
 };
 use crate::notices::{self, Notices};
+use crate::rows::{Row, RowAnswer, RowStepped};
 use crate::tasks::{GivenTask, Task};
 
 /// An enum over the numbers that a made module has as constants, with a text for each.
@@ -62,7 +63,9 @@ numbered! {
         CrossedBounds = CROSSED_BOUNDS: "a physical minimum above the maximum",
         InvalidTask = INVALID_TASK: "an invalid task",
         StepWhileIdle = STEP_WHILE_IDLE: "a step while nothing runs",
-        InvalidLamp = INVALID_LAMP: "an invalid lamp",
+        InvalidLamp = INVALID_LAMP: "an invalid lamp, or a row of more than 32",
+        ShortSlice = SHORT_SLICE: "a slice shorter than sixteen bytes a lamp of the row",
+        NoPlace = NO_PLACE: "a place that the row does not have",
     }
 }
 
@@ -145,24 +148,47 @@ impl Default for Notices {
     }
 }
 
+/// What all answers have in common.
+macro_rules! results {
+    ($($answer:ident)*) => {
+        $(impl $answer {
+            /// The answer of an accepted call, or why it was refused.
+            #[inline]
+            pub fn result(self) -> Result<$answer, Refusal> {
+                match Refusal::of_number(self.number) {
+                    None => Ok(self),
+                    Some(refusal) => Err(refusal),
+                }
+            }
+        })*
+    };
+}
+
+/// What the answers to a single call have in common.
+macro_rules! given_tasks {
+    ($($answer:ident)*) => {
+        $(impl $answer {
+            /// The task that the caller is to start; for [`Task::Stop`], to halt.
+            pub fn given_task(&self) -> Option<Task> {
+                match self.task {
+                    GivenTask::Nothing => None,
+                    GivenTask::Given(task) => Some(task),
+                }
+            }
+        })*
+    };
+}
+
+results! { Answer RowStepped RowAnswer }
+given_tasks! { Answer RowAnswer }
+
+/// The notices of a place in the bytes that a row call wrote, in their order.
+pub fn notices_at(bytes: &[u8], place: usize) -> impl Iterator<Item = Notice> + '_ {
+    let places = bytes.iter().skip(PLACES * place).take(PLACES);
+    places.map_while(|number| Notice::of_number(*number))
+}
+
 impl Answer {
-    /// The answer of an accepted call, or why it was refused.
-    #[inline]
-    pub fn result(self) -> Result<Answer, Refusal> {
-        match Refusal::of_number(self.number) {
-            None => Ok(self),
-            Some(refusal) => Err(refusal),
-        }
-    }
-
-    /// The task that the caller is to start; for [`Task::Stop`], to halt.
-    pub fn given_task(&self) -> Option<Task> {
-        match self.task {
-            GivenTask::Nothing => None,
-            GivenTask::Given(task) => Some(task),
-        }
-    }
-
     /// Whether there is something to step, after [`Answer::wait`] milliseconds.
     pub fn is_running(&self) -> bool {
         self.lamp.running.is_running()
@@ -237,6 +263,31 @@ impl Lamp {
     #[inline]
     pub fn current_hue(&self) -> u8 {
         hue::current_hue(self.color.hue)
+    }
+}
+
+impl Row {
+    /// Sends a command to the lamp at a place, as [`Lamp::command`] does to a lamp alone.
+    #[inline]
+    pub fn command_at(
+        self,
+        place: u8,
+        request: impl Into<Request>,
+        on_off: OnOff,
+        clock: u64,
+    ) -> Result<RowAnswer, Refusal> {
+        let call = Call::Command {
+            request: request.into(),
+            on_off,
+            clock,
+        };
+        self.call_at(place, call).result()
+    }
+
+    /// Starts a task on the lamp at a place.
+    #[inline]
+    pub fn start_at(self, place: u8, task: Task, clock: u64) -> Result<RowAnswer, Refusal> {
+        self.call_at(place, Call::Start { task, clock }).result()
     }
 }
 

@@ -75,6 +75,38 @@
 //! # Ok(())
 //! # }
 //! ```
+//!
+//! # A row
+//!
+//! A [`Row`] has up to 32 lamps. One call steps those that run, at one clock; any other call goes to a place.
+//!
+//! ```
+//! use yemkruos::{ALL_FEATURES, Bounds, Call, Command, DirectionEnum, NewLamp, Notice, OnOff, Refusal, Row, notices_at};
+//!
+//! # fn main() -> Result<(), Refusal> {
+//! let bounds = Bounds { min: 153, max: 500 };
+//! let lamp = NewLamp { bounds, features: ALL_FEATURES, options: 0, clock: 5000 }.make()?;
+//! let mut row = Row::new(2, [lamp; 32]);
+//!
+//! // The second lamp turns to cyan, down and past no green.
+//! let command = Command::move_to_hue(128, DirectionEnum::Down, 2);
+//! let answer = row.command_at(1, command, OnOff::On, 5000)?;
+//! row = answer.row.start_at(1, answer.given_task().unwrap(), 5000)?.row;
+//!
+//! // Sixteen bytes a place: the notices of the lamps that run.
+//! let mut bytes = [0; 32];
+//! let stepped = row.step(&mut bytes, 5100).result()?;
+//! assert_eq!((stepped.row.lamps[0].color.hue, stepped.row.lamps[1].color.hue), (0, 49_152));
+//! assert_eq!(stepped.wait, 100);
+//! assert_eq!(notices_at(&bytes, 0).next(), None);
+//! assert_eq!(notices_at(&bytes, 1).next(), Some(Notice::MarkedDirty));
+//!
+//! // A refusal changes nothing, the bytes neither.
+//! assert_eq!(stepped.row.step(&mut bytes[..31], 5200).result(), Err(Refusal::ShortSlice));
+//! assert_eq!(stepped.row.call_at(2, Call::Halt { clock: 5200 }).result(), Err(Refusal::NoPlace));
+//! # Ok(())
+//! # }
+//! ```
 
 #![no_std]
 #![forbid(unsafe_code)]
@@ -101,17 +133,19 @@ pub mod matter;
 pub mod notices;
 pub mod progress;
 pub mod remaining_time;
+pub mod rows;
 pub mod tasks;
 
 mod api;
 
-pub use api::{ALL_FEATURES, NewLamp, Notice, NoticeIter, Refusal};
+pub use api::{ALL_FEATURES, NewLamp, Notice, NoticeIter, Refusal, notices_at};
 pub use arc::{Band, passes_through, plain_passes_through};
 pub use lamp::{Answer, Call, Lamp};
 pub use matter::{
     Bounds, ColorLoopActionEnum, ColorLoopDirectionEnum, ColorModeEnum, Command, CommandOptions,
     DirectionEnum, EnhancedColorModeEnum, MoveModeEnum, OnOff, Request, StepModeEnum,
 };
+pub use rows::{Row, RowAnswer, RowStepped};
 pub use tasks::Task;
 
 // The README's example is a test.

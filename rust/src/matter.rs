@@ -14,6 +14,8 @@ pub use causes::CROSSED_BOUNDS;
 pub use causes::INVALID_COMMAND;
 pub use causes::INVALID_LAMP;
 pub use causes::INVALID_TASK;
+pub use causes::NO_PLACE;
+pub use causes::SHORT_SLICE;
 pub use causes::STEP_WHILE_IDLE;
 pub use commands::Command;
 pub use commands::CommandOptions;

@@ -3,8 +3,8 @@
 use yemkruos::hue;
 use yemkruos::matter::{self, CLOCK_LIMIT};
 use yemkruos::{
-    ALL_FEATURES, Band, Bounds, Command, DirectionEnum, NewLamp, Notice, OnOff, Refusal,
-    passes_through, plain_passes_through,
+    ALL_FEATURES, Band, Bounds, Call, Command, DirectionEnum, Lamp, NewLamp, Notice, OnOff,
+    Refusal, Row, notices_at, passes_through, plain_passes_through,
 };
 
 const NEW: NewLamp = NewLamp {
@@ -18,7 +18,12 @@ const NEW: NewLamp = NewLamp {
 fn numbers_and_names_agree() {
     let refusals = Refusal::ALL.iter().map(|r| (r.number(), *r));
     // 3 is free.
-    assert!(refusals.clone().map(|(n, _)| n).eq([1, 2, 4, 5, 6, 7, 8]));
+    assert!(
+        refusals
+            .clone()
+            .map(|(n, _)| n)
+            .eq([1, 2, 4, 5, 6, 7, 8, 9, 10])
+    );
     assert!(
         refusals
             .into_iter()
@@ -146,4 +151,101 @@ fn only_two_ways_to_cyan_avoid_green() {
         assert_eq!(passes_through(0, 32_768, direction, green), passes);
         assert_eq!(plain_passes_through(0, 128, direction, green), passes);
     }
+}
+
+/// Three lamps, the first of which turns.
+fn row_of_three() -> Row {
+    let row = Row::new(3, [NEW.make().unwrap(); 32]);
+    let to_cyan = Command::move_to_hue(128, DirectionEnum::Down, 2);
+    let answer = row.command_at(0, to_cyan, OnOff::On, 5000).unwrap();
+    let task = answer.given_task().unwrap();
+    answer.row.start_at(0, task, 5000).unwrap().row
+}
+
+/// Why a row call with a slice of this size is refused: nothing is changed then.
+fn row_refusal(row: Row, size: usize, clock: u64) -> Option<Refusal> {
+    let lent = vec![7; size];
+    let mut bytes = lent.clone();
+    let stepped = row.step(&mut bytes, clock);
+    let refusal = stepped.result().err();
+    if refusal.is_some() {
+        assert_eq!((stepped.row, stepped.wait, bytes), (row, 0, lent));
+    }
+    refusal
+}
+
+#[test]
+fn a_row_call_is_refused_in_its_order() {
+    let row = row_of_three();
+    let broken = |row: Row| {
+        let invalid = Lamp {
+            clock: u64::MAX,
+            ..row.lamps[2]
+        };
+        row.with_lamp(2, invalid)
+    };
+    for count in [33, 255] {
+        assert_eq!(
+            row_refusal(
+                Row {
+                    count,
+                    ..broken(row)
+                },
+                0,
+                0
+            ),
+            Some(Refusal::InvalidLamp)
+        );
+    }
+    assert_eq!(row_refusal(broken(row), 47, 0), Some(Refusal::ShortSlice));
+    assert_eq!(row_refusal(broken(row), 48, 0), Some(Refusal::InvalidLamp));
+    // An idle lamp's clock counts.
+    let late = row
+        .call_at(2, Call::Halt { clock: 5101 })
+        .result()
+        .unwrap()
+        .row;
+    assert_eq!(row_refusal(late, 48, 5100), Some(Refusal::Clock));
+    assert_eq!(row_refusal(late, 48, 5101), None);
+    assert_eq!(
+        row_refusal(Row { count: 0, ..row }, 0, CLOCK_LIMIT + 1),
+        Some(Refusal::Clock)
+    );
+    assert_eq!(row_refusal(Row { count: 0, ..row }, 0, CLOCK_LIMIT), None);
+    assert_eq!(row_refusal(Row { count: 32, ..row }, 512, 5100), None);
+}
+
+#[test]
+fn a_row_call_leaves_idle_lamps_and_bytes_behind_the_row() {
+    let row = row_of_three();
+    let mut bytes = [7; 50];
+    let stepped = row.step(&mut bytes, 5100).result().unwrap();
+    assert_eq!(stepped.row.lamps[1..], row.lamps[1..]);
+    assert_eq!(stepped.row.lamps[0], row.lamps[0].step(5100).lamp);
+    assert!(notices_at(&bytes, 0).eq(row.lamps[0].step(5100).notices));
+    assert_eq!(
+        (&bytes[16..48], &bytes[48..]),
+        ([0; 32].as_slice(), [7, 7].as_slice())
+    );
+    // The last step: nothing runs any more.
+    assert_eq!(stepped.row.step(&mut bytes, 5200).result().unwrap().wait, 0);
+}
+
+#[test]
+fn a_place_that_is_not_there_is_refused_or_left() {
+    let row = row_of_three();
+    for place in [3, 31, 32, 255] {
+        let halt = Call::Halt { clock: 5000 };
+        let answer = row.call_at(place, halt);
+        assert_eq!((answer.result(), answer.row), (Err(Refusal::NoPlace), row));
+        let wide = Row { count: 33, ..row };
+        assert_eq!(
+            wide.call_at(place, halt).result(),
+            Err(Refusal::InvalidLamp)
+        );
+        assert_eq!(row.with_lamp(place, row.lamps[0]), row);
+    }
+    let wide = Row { count: 255, ..row };
+    assert_eq!(wide.with_lamp(31, row.lamps[0]).lamps[31], row.lamps[0]);
+    assert_eq!(wide.with_lamp(32, row.lamps[0]), wide);
 }

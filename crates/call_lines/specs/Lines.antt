@@ -73,16 +73,16 @@ lines =
     ∷ otherLines
 
 -- by the first word, which ends at `at`
-unfoldable pub otherLineAt : Reader Line
-otherLineAt line at = named otherLines (unknown Line.Unreadable) line 0 at
+unfoldable pub otherLineAt : List ℕ → ℕ → ℕ → Read Line
+otherLineAt = named otherLines (unknown Line.Unreadable)
 
-unfoldable pub lineAt : Reader Line
-lineAt line at = named lines (unknown Line.Unreadable) line 0 at
+unfoldable pub lineAt : List ℕ → ℕ → ℕ → Read Line
+lineAt = named lines (unknown Line.Unreadable)
 
 -- a line is what was read where its last word ends it
 unfoldable pub lineRead : List ℕ → Line
 lineRead line =
-    let read : Read Line = lineAt line (endOf line 0) in
+    let read : Read Line = lineAt line 0 (endOf line 0) in
     cond (eqb (read .at) (length line)) (read .value) Line.Unreadable
 
 -- ---- what a lamp answers

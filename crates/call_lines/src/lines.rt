@@ -53,9 +53,9 @@ pub enum Line {
     Unreadable,
 }
 
-struct LineRead {
-    value: Line,
-    at: usize,
+pub struct LineRead {
+    pub value: Line,
+    pub at: usize,
 }
 
 fn call_line(read: CallRead) -> LineRead
@@ -180,62 +180,62 @@ fn unreadable() -> LineRead
 }
 
 // The lines that ask a leaf, make a lamp, show it or change it by hand.
-fn other_line(line: &[u8], at: usize) -> LineRead
-    ensures { λ r. ⌜ Reads (otherLineAt (now (line .entry)) at) (r .value) (r .at) ⌝ }
+fn other_line(line: &[u8], name: usize, at: usize) -> LineRead
+    ensures { λ r. ⌜ Reads (otherLineAt (now (line .entry)) name at) (r .value) (r .at) ⌝ }
 {
-    if words::is(line, 0, b"leaf") {
+    if words::is(line, name, b"leaf") {
         return leaf_line(line, at);
     }
-    if words::is(line, 0, b"set") {
+    if words::is(line, name, b"set") {
         return set_line(line, at);
     }
-    if words::is(line, 0, b"lamp") {
+    if words::is(line, name, b"lamp") {
         return lamp_line(line, at);
     }
-    if words::is(line, 0, b"new") {
+    if words::is(line, name, b"new") {
         return making_line(line, at);
     }
-    if words::is(line, 0, b"poke") {
+    if words::is(line, name, b"poke") {
         return poke_line(line, at);
     }
-    if words::is(line, 0, b"record") {
+    if words::is(line, name, b"record") {
         return record_line(line, at);
     }
-    if words::is(line, 0, b"show") {
+    if words::is(line, name, b"show") {
         return show_line(at);
     }
-    if words::is(line, 0, b"help") {
+    if words::is(line, name, b"help") {
         return help_line(at);
     }
     unreadable()
 }
 
 // The line by its first word, which ends at `at`.
-fn any_line(line: &[u8], at: usize) -> LineRead
-    ensures { λ r. ⌜ Reads (lineAt (now (line .entry)) at) (r .value) (r .at) ⌝ }
+pub fn any_line(line: &[u8], name: usize, at: usize) -> LineRead
+    ensures { λ r. ⌜ Reads (lineAt (now (line .entry)) name at) (r .value) (r .at) ⌝ }
 {
-    if words::is(line, 0, b"cmd") {
+    if words::is(line, name, b"cmd") {
         return call_line(invocations::invoke(line, at));
     }
-    if words::is(line, 0, b"step") {
+    if words::is(line, name, b"step") {
         return call_line(invocations::step(line, at));
     }
-    if words::is(line, 0, b"startlast") {
+    if words::is(line, name, b"startlast") {
         return start_last_line(line, at);
     }
-    if words::is(line, 0, b"start") {
+    if words::is(line, name, b"start") {
         return call_line(invocations::begin(line, at));
     }
-    if words::is(line, 0, b"halt") {
+    if words::is(line, name, b"halt") {
         return call_line(invocations::halt(line, at));
     }
-    other_line(line, at)
+    other_line(line, name, at)
 }
 
 pub fn read(line: &[u8]) -> Line
     ensures { λ r. ⌜ r ≡ lineRead (now (line .entry)) ⌝ }
 {
-    let read = any_line(line, words::end(line, 0));
+    let read = any_line(line, 0, words::end(line, 0));
     if read.at != line.len() {
         return Line::Unreadable;
     }

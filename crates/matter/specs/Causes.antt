@@ -1,5 +1,5 @@
--- Why a call is refused: the numbers of document 01's table. 0 is an accepted call's. 3, which was a mired step's with
--- lo above hi, no longer occurs (document 02, A.12) and stays free.
+-- Why a call is refused: the numbers of document 01's table, and of document 02's additions. 0 is an accepted call's. 3,
+-- which was a mired step's with lo above hi, no longer occurs (document 02, A.12) and stays free.
 use Prim.Native.Nat.{ℕ}
 
 abbrev pub accepted : ℕ
@@ -29,6 +29,14 @@ invalidTask = 6
 abbrev pub stepWhileIdle : ℕ
 stepWhileIdle = 7
 
--- an invalid lamp
+-- an invalid lamp; document 02, A.1: of a row too, or a count above 32
 abbrev pub invalidLamp : ℕ
 invalidLamp = 8
+
+-- document 02, A.1: "9, slice shorter than 16 times the lamps"
+abbrev pub shortSlice : ℕ
+shortSlice = 9
+
+-- document 02, A.1: "10, place not in the row"
+abbrev pub noPlace : ℕ
+noPlace = 10

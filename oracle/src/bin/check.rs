@@ -44,6 +44,7 @@ struct Counts {
     given: BTreeMap<String, u64>,
     passes: BTreeMap<String, u64>,
     lengths: BTreeMap<usize, u64>,
+    row_calls: BTreeMap<String, u64>,
 }
 
 fn add(map: &mut BTreeMap<String, u64>, key: &str) {
@@ -90,7 +91,8 @@ fn main() {
         }
         next(&mut oracle, &mut ours);
         next(&mut replay, &mut theirs);
-        if text.starts_with(b"lamp ") || text.starts_with(b"new ") {
+        let makes = [b"lamp ".as_slice(), b"new ", b"row "];
+        if makes.iter().any(|word| text.starts_with(word)) {
             if ours.starts_with(b"ok") {
                 story.clear();
             }
@@ -114,8 +116,12 @@ fn main() {
             std::process::exit(1);
         }
         compared += 1;
-        count(&mut counts, text, answer, &mut last, &mut runs);
-        corners.see(text, answer);
+        if text.starts_with(b"row") || text.starts_with(b"at ") {
+            count_of_row(&mut counts, text, answer);
+        } else {
+            count(&mut counts, text, answer, &mut last, &mut runs);
+            corners.see(text, answer);
+        }
     }
     next(&mut oracle, &mut ours);
     next(&mut replay, &mut theirs);
@@ -143,6 +149,7 @@ fn main() {
     table("tasks given", counts.given.into_iter());
     let stepped = !counts.passes.is_empty();
     table("starts and steps", counts.passes.into_iter());
+    table("accepted row calls", counts.row_calls.into_iter());
     print_corners(&corners, stepped);
     println!("{compared} calls compared, 0 differences");
 }
@@ -167,6 +174,30 @@ fn print_corners(corners: &Corners, all: bool) {
     if all {
         let whole = corners.rows().len();
         println!("{} of {whole} corners met", whole - missed);
+    }
+}
+
+/// A line of a row: its kind, and how it was answered.
+fn count_of_row(counts: &mut Counts, text: &[u8], answer: &str) {
+    let text = std::str::from_utf8(text).unwrap_or("?");
+    let words: Vec<&str> = text.split(' ').collect();
+    let kind = match words.as_slice() {
+        _ if answer == "error" => "(unreadable, or too early)".to_string(),
+        ["at", _, call, ..] => format!("at .. {call}"),
+        words => words[0].to_string(),
+    };
+    let status = answer.split(" | ").next().unwrap_or("");
+    let whose = if kind == "rowstep" { "row call " } else { "" };
+    add(&mut counts.calls, &kind);
+    add(&mut counts.statuses, &format!("{whose}{status}"));
+    if kind == "rowstep" && status == "ok" {
+        let wait = answer.split(" | ").nth(2).unwrap_or("");
+        let end = if wait == "0" {
+            "nothing runs on"
+        } else {
+            "a lamp runs on"
+        };
+        add(&mut counts.row_calls, end);
     }
 }
 

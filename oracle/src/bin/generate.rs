@@ -4,13 +4,15 @@
 use std::io::{self, Write};
 
 use oracle_lib::maker::{old_and_ms, pair_of_hues, Maker, Said, Stage, HUES, REMAININGS};
-use oracle_lib::protocol::{number, Player, UNCOMPARABLE};
+use oracle_lib::protocol::{number, read, write_fields, Call, Player, UNCOMPARABLE};
 use oracle_lib::random::Random;
+use oracle_lib::rows::MOST;
+use oracle_lib::{driver, guard};
 
 fn main() {
     let args: Vec<String> = std::env::args().skip(1).collect();
     let usage =
-        "generate delta|leave|mode_of|remaining|shown|set|corners|random|all SEED COUNT [few]";
+        "generate delta|leave|mode_of|remaining|shown|set|corners|random|all|rows SEED COUNT [few]";
     let (Some(kind), Some(seed), Some(count)) = (
         args.first(),
         args.get(1).and_then(|x| x.parse().ok()),
@@ -30,6 +32,7 @@ fn main() {
             "mode_of" => "leaf mode_of 3",
             "remaining" => "leaf remaining 0 1100 0",
             "shown" => "leaf shown 65280",
+            "rows" => "rowshow",
             _ => "show",
         },
     };
@@ -48,6 +51,7 @@ fn main() {
             maker.aimed();
             maker.random(count)
         }
+        "rows" => Maker::new(Places::new(Text::new(out), seed), r).random(count),
         _ => {
             eprintln!("{usage}");
             std::process::exit(2);
@@ -136,6 +140,171 @@ impl Stage for Text {
     fn player(&self) -> &Player {
         &self.player
     }
+}
+
+/// A script of a row: what is said of a lamp goes to a place, with row calls between.
+struct Places {
+    text: Text,
+    r: Random,
+    place: usize,
+    gave: bool,
+    line: Vec<u8>,
+}
+
+macro_rules! row_line {
+    ($self:ident, $($x:tt)*) => {{
+        $self.line.clear();
+        write!($self.line, $($x)*).unwrap();
+        $self.text.say(&$self.line)
+    }};
+}
+
+impl Places {
+    fn new(text: Text, seed: u64) -> Self {
+        let mut places = Places {
+            text,
+            r: Random::new(!seed),
+            place: 0,
+            gave: false,
+            line: Vec::new(),
+        };
+        // Before there is a row.
+        row_line!(places, "rowshow");
+        row_line!(places, "at 0 show");
+        row_line!(places, "row 3");
+        places.look_at(0);
+        places
+    }
+
+    fn look_at(&mut self, place: usize) {
+        self.place = place;
+        self.text.player.look_at(place);
+    }
+
+    fn count(&self) -> u64 {
+        self.text.player.row().map_or(0, |row| row.count.into())
+    }
+
+    /// A count: of few lamps as a rule.
+    fn some_count(&mut self) -> u64 {
+        match self.r.below(20) {
+            0 => self.r.pick(&[0, 31, 32, 33, 255]),
+            1 => self.r.below(34),
+            _ => self.r.between(1, 5),
+        }
+    }
+
+    /// A lamp of the row, so that what is said next is of one that is there.
+    fn look_elsewhere(&mut self) {
+        let most = self.count().clamp(1, MOST as u64);
+        let place = self.r.below(most) as usize;
+        self.look_at(place);
+    }
+
+    /// At the lamps' latest clock or soon after it; seldom before, or past the limit.
+    fn row_clock(&mut self) -> u64 {
+        let row = self.text.player.row();
+        let latest = row.and_then(|row| row.placed().map(|l| l.clock()).max());
+        let now = latest.unwrap_or(0);
+        match self.r.below(24) {
+            0 => now.saturating_sub(self.r.pick(&[1, 2, 50, 100])),
+            1 => self.r.pick(&[guard::LIMIT, guard::LIMIT + 1, u64::MAX]),
+            2 | 3 => now.saturating_add(self.r.below(20_000)),
+            4..=6 => now,
+            7..=12 => now.saturating_add(100),
+            13 => now.saturating_add(self.r.pick(&[999, 1000, 1001])),
+            _ => now.saturating_add(self.r.below(300)),
+        }
+    }
+
+    fn row_step(&mut self) {
+        let whole = 16 * self.count();
+        let size = match self.r.below(16) {
+            0 => whole.saturating_sub(1),
+            1 => self.r.below(1026),
+            2 => self.r.pick(&[0, 1024, 1025]),
+            3 | 4 => whole + self.r.below(20),
+            _ => whole,
+        };
+        let fill = self.r.below(256);
+        let clock = self.row_clock();
+        row_line!(self, "rowstep {size} {fill} {clock}");
+    }
+
+    /// What comes between two lines of a lamp.
+    fn between(&mut self) {
+        match self.r.below(40) {
+            0..=21 => self.row_step(),
+            22..=25 => self.look_elsewhere(),
+            26 => {
+                row_line!(self, "rowshow");
+            }
+            27 => {
+                let count = self.some_count();
+                row_line!(self, "rowcount {count}");
+                self.look_elsewhere();
+            }
+            28 if self.r.one_in(4) => {
+                let count = self.some_count();
+                row_line!(self, "row {count}");
+                self.look_elsewhere();
+            }
+            29 => {
+                // A place at the edges, or past them.
+                let count = self.count();
+                let place = self.r.pick(&[count.saturating_sub(1), count, 31, 32, 255]);
+                let what =
+                    self.r
+                        .pick(&["show", "halt 0", "step 5000", "startlast 0", "record idle"]);
+                row_line!(self, "at {} {what}", place.min(255));
+            }
+            _ => {}
+        }
+    }
+}
+
+impl Stage for Places {
+    fn say(&mut self, line: &[u8]) -> Said {
+        let fresh = fresh_line(line);
+        let line = fresh.as_deref().unwrap_or(line);
+        let said = match line.starts_with(b"leaf ") {
+            true => self.text.say(line),
+            false => {
+                let mut there = format!("at {} ", self.place).into_bytes();
+                there.extend_from_slice(line);
+                self.text.say(&there)
+            }
+        };
+        self.gave = self.text.gave();
+        self.between();
+        said
+    }
+
+    fn gave(&self) -> bool {
+        self.gave
+    }
+
+    fn lines(&self) -> u64 {
+        self.text.lines()
+    }
+
+    fn player(&self) -> &Player {
+        self.text.player()
+    }
+}
+
+/// No lamp is made at a place: in the place of a making that is accepted, its lamp is put there.
+fn fresh_line(line: &[u8]) -> Option<Vec<u8>> {
+    let Some(Call::New(min, max, features, options, clock)) = read(line) else {
+        return None;
+    };
+    if clock > guard::LIMIT || min > max {
+        return None;
+    }
+    let mut text = b"lamp ".to_vec();
+    let fields = driver::fresh(min, max, features, options, clock);
+    write_fields(&mut text, &fields);
+    Some(text)
 }
 
 // ---- leaves ----

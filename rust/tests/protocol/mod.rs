@@ -1,6 +1,7 @@
 //! The replay protocol (docs/PROTOCOL.md) over the crate: a call's line in, its answer's line out.
 
 mod read;
+mod rows;
 mod setters;
 mod write;
 
@@ -10,8 +11,10 @@ use yemkruos::lamp::{Answer, Call, Lamp, Made};
 use yemkruos::matter::{Bounds, DirectionEnum, EnhancedColorModeEnum, OnOff};
 use yemkruos::matter::{color_mode_of, should_continue};
 use yemkruos::remaining_time::RemainingTime;
+use yemkruos::rows::Row;
 use yemkruos::tasks::{GivenTask, Running, Task};
 
+use rows::RowLine;
 use setters::{Setter, set};
 
 /// The longest line that is read.
@@ -32,12 +35,14 @@ pub enum Line {
     Leave(OnOff, u8, u8, u8),
     ModeOf(EnhancedColorModeEnum),
     Shown(u16),
+    Row(RowLine),
 }
 
 #[derive(Default)]
 pub struct Player {
     lamp: Option<Lamp>,
     last: Option<Task>,
+    row: Option<Row>,
 }
 
 impl Player {
@@ -78,6 +83,7 @@ impl Player {
                 }
             }
             Line::Lamp(lamp) => self.put(lamp),
+            Line::Row(line) => rows::play(self, line)?,
             line => {
                 let lamp = self.lamp?;
                 let answer = on_lamp(lamp, self.last, line)?;
@@ -91,10 +97,8 @@ impl Player {
     }
 
     fn put(&mut self, lamp: Lamp) -> String {
-        *self = Player {
-            lamp: Some(lamp),
-            last: None,
-        };
+        self.lamp = Some(lamp);
+        self.last = None;
         write::answer(&lamp.refused(0))
     }
 }

@@ -6,7 +6,11 @@ use yemkruos::matter::*;
 use yemkruos::remaining_time::RemainingTime;
 use yemkruos::tasks::*;
 
+use super::rows::RowLine;
 use super::{Line, Setter};
+
+/// The longest slice that a line can lend.
+const LONGEST_SLICE: usize = 1024;
 
 struct Words<'a>(std::slice::Split<'a, u8, fn(&u8) -> bool>);
 
@@ -338,8 +342,19 @@ impl Words<'_> {
         })
     }
 
+    fn row_step(&mut self) -> Option<RowLine> {
+        let size = usize::from(self.u16()?);
+        let (fill, clock) = (self.u8()?, self.u64()?);
+        (size <= LONGEST_SLICE).then_some(RowLine::Step { size, fill, clock })
+    }
+
     fn line(&mut self) -> Option<Line> {
         Some(match self.0.next()? {
+            b"row" => Line::Row(RowLine::Make(self.u8()?)),
+            b"rowcount" => Line::Row(RowLine::Count(self.u8()?)),
+            b"rowshow" => Line::Row(RowLine::Show),
+            b"rowstep" => Line::Row(self.row_step()?),
+            b"at" => Line::Row(RowLine::At(self.u8()?, Box::new(self.line()?))),
             b"lamp" => Line::Lamp(self.lamp()?),
             b"new" => Line::New(self.bounds()?, self.u32()?, self.u8()?, self.u64()?),
             b"poke" => Line::Poke(self.lamp()?),

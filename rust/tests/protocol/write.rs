@@ -2,6 +2,7 @@
 
 use yemkruos::Answer;
 use yemkruos::lamp::Lamp;
+use yemkruos::notices::Notices;
 use yemkruos::tasks::{HueDelta, TargetSaturation, Task};
 
 fn fields(lamp: &Lamp) -> String {
@@ -54,7 +55,7 @@ fn task(task: &Task) -> String {
     }
 }
 
-fn or_none(text: String) -> String {
+pub fn or_none(text: String) -> String {
     if text.is_empty() {
         "-".to_string()
     } else {
@@ -62,28 +63,45 @@ fn or_none(text: String) -> String {
     }
 }
 
+pub fn status(number: u8) -> String {
+    match number {
+        0 => "ok".to_string(),
+        number => format!("refused {number}"),
+    }
+}
+
+fn running(lamp: &Lamp) -> &'static str {
+    match lamp.running.is_running() {
+        true => "running",
+        false => "idle",
+    }
+}
+
+/// A lamp as a row sums it up.
+pub fn lamp_line(lamp: &Lamp) -> String {
+    format!("{} {}", fields(lamp), running(lamp))
+}
+
 pub fn answer(answer: &Answer) -> String {
-    let status = match answer.result() {
-        Ok(_) => "ok".to_string(),
-        Err(refusal) => format!("refused {}", refusal.number()),
-    };
-    let notices: Vec<String> = answer
-        .notices
-        .iter()
-        .map(|n| n.number().to_string())
-        .collect();
+    let given = answer.given_task();
+    parts(
+        answer.number,
+        &answer.lamp,
+        &answer.notices,
+        given,
+        answer.wait,
+    )
+}
+
+pub fn parts(number: u8, lamp: &Lamp, notices: &Notices, given: Option<Task>, wait: u64) -> String {
+    let notices: Vec<String> = notices.iter().map(|n| n.number().to_string()).collect();
     let parts = [
-        status,
-        fields(&answer.lamp),
+        status(number),
+        fields(lamp),
         or_none(notices.join(" ")),
-        or_none(answer.given_task().as_ref().map_or(String::new(), task)),
-        answer.wait.to_string(),
-        if answer.is_running() {
-            "running"
-        } else {
-            "idle"
-        }
-        .to_string(),
+        or_none(given.as_ref().map_or(String::new(), task)),
+        wait.to_string(),
+        running(lamp).to_string(),
     ];
     parts.join(" | ")
 }

@@ -1,0 +1,153 @@
+-- Over every list of row calls and single calls, a lamp of the row is the one that its own calls leave.
+use Prim.Native.Nat.{ℕ, zero, suc, _+_, _*_, _≤_, _<_}
+use mathlib.Core.Bool.{Bool, true, false}
+use mathlib.Core.List.{List, [], _∷_, _++_}
+use mathlib.Core.Path.{_≡_, refl, ap, sym, _∙_, subst}
+use native.Mathlib.Omega.{arith}
+use lib.Dec.{eqb}
+use lib.ListN.{length, take, getD, set, length-set}
+use lib.Seq.{getD-set-same, getD-set-other}
+use borrow.Author.Tests.{eqb-true, eqb-false}
+use Rattle.lamp.specs.declared.Lamp.{Lamp}
+use Rattle.lamp.specs.declared.Call.{Call}
+use Rattle.matter.proofs.Laws.{and-left, and-right}
+use Rattle.lamp.specs.Valid.{lampValid}
+use Rattle.commands.specs.Answers.{answer}
+use Rattle.commands.proofs.Kept.{valid-kept}
+use Rattle.schedule.specs.Calls.{next, after}
+use Rattle.schedule.proofs.Lists.{after-append}
+use Rattle.rows.specs.declared.Row.{Row}
+use Rattle.rows.specs.Rows.{mapTo, visited, noLamp, lampAt, allValid, rowCause, rowStepped, placeCause, answeredAt, withLamps}
+use Rattle.rows.proofs.Causes.{place-there}
+use Rattle.rows.proofs.Laws.{Room, either, its-own, visited-step, no-cause}
+use Rattle.row_schedule.specs.RowClaim.{RowValid}
+use Rattle.row_schedule.specs.RowCalls.{RowCall, each, at, nextRow, afterRow, givenBy, given}
+
+length-mapTo : {A : Type 0} (n : ℕ) (f : A → A) (xs : List A) → length (mapTo n f xs) ≡ length xs
+length-mapTo zero f xs = refl
+length-mapTo (suc n) f [] = refl
+length-mapTo (suc n) f (x ∷ xs) = ap suc (length-mapTo n f xs)
+
+-- what every call keeps
+pub record Stands (k : ℕ) (r : Row) : Type 0 where
+  pub there : k < r .count
+  pub room : Room r
+
+-- the two sides of each call
+each-yes : (r : Row) (size clock : ℕ) → eqb (rowCause r size clock) 0 ≡ true →
+    nextRow r (each size clock) ≡ withLamps r (mapTo (r .count) (λ l. visited l clock .lamp) (r .lamps))
+unfolding rowStepped
+each-yes r size clock e = simp (nextRow, e)
+
+each-no : (r : Row) (size clock : ℕ) → eqb (rowCause r size clock) 0 ≡ false → nextRow r (each size clock) ≡ r
+unfolding rowStepped
+each-no r size clock e = simp (nextRow, e)
+
+at-yes : (r : Row) (place : ℕ) (x : Call) → eqb (placeCause r place) 0 ≡ true →
+    nextRow r (at place x) ≡ withLamps r (set (r .lamps) place (answer (lampAt r place) x .lamp))
+unfolding answeredAt
+at-yes r place x e = simp (nextRow, e)
+
+at-no : (r : Row) (place : ℕ) (x : Call) → eqb (placeCause r place) 0 ≡ false → nextRow r (at place x) ≡ r
+unfolding answeredAt
+at-no r place x e = simp (nextRow, e)
+
+-- one call: the lamp at k after it
+one : (k : ℕ) (r : Row) (x : RowCall) → Stands k r → lampAt (nextRow r x) k ≡ after (lampAt r k) (givenBy k r x)
+unfolding after
+one k r (each size clock) h =
+    either (eqb (rowCause r size clock) 0)
+    (λ e. ap (λ (q : Row). lampAt q k) (each-yes r size clock e)
+    ∙ rw e (its-own (λ l. visited l clock .lamp) (r .count) k (r .lamps) noLamp (h .there) (omega (arith, h .there, h .room .few, h .room .places)) ∙ visited-step (lampAt r k) clock))
+    (λ e. ap (λ (q : Row). lampAt q k) (each-no r size clock e) ∙ rw e)
+one k r (at place x) h =
+    either (eqb place k)
+    (λ f. let same : place ≡ k = eqb-true place k f in
+    let e : eqb (placeCause r place) 0 ≡ true = rw (same, no-cause r k (h .room) (h .there)) in
+    rw f (ap (λ (q : Row). lampAt q k) (at-yes r place x e)
+    ∙ ap (λ (p : ℕ). getD (set (r .lamps) p (answer (lampAt r p) x .lamp)) k noLamp) same
+    ∙ getD-set-same (r .lamps) k _ noLamp (omega (arith, h .there, h .room .few, h .room .places))))
+    (λ f. rw f (either (eqb (placeCause r place) 0)
+    (λ e. ap (λ (q : Row). lampAt q k) (at-yes r place x e) ∙ getD-set-other (r .lamps) place k _ noLamp (λ q. eqb-false place k f (sym q)))
+    (λ e. ap (λ (q : Row). lampAt q k) (at-no r place x e))))
+
+kept : (k : ℕ) (r : Row) (x : RowCall) → Stands k r → Stands k (nextRow r x)
+kept k r (each size clock) h =
+    either (eqb (rowCause r size clock) 0)
+    (λ e. subst (Stands k) (sym (each-yes r size clock e)) (record { there = h .there; room = record { few = h .room .few; places = simp length-mapTo (h .room .places) } }))
+    (λ e. subst (Stands k) (sym (each-no r size clock e)) h)
+kept k r (at place x) h =
+    either (eqb (placeCause r place) 0)
+    (λ e. subst (Stands k) (sym (at-yes r place x e)) (record { there = h .there; room = record { few = h .room .few; places = simp length-set (h .room .places) } }))
+    (λ e. subst (Stands k) (sym (at-no r place x e)) h)
+
+-- no call changes the count
+count-one : (r : Row) (x : RowCall) → nextRow r x .count ≡ r .count
+count-one r (each size clock) =
+    either (eqb (rowCause r size clock) 0) (λ e. ap (λ (q : Row). q .count) (each-yes r size clock e)) (λ e. ap (λ (q : Row). q .count) (each-no r size clock e))
+count-one r (at place x) =
+    either (eqb (placeCause r place) 0) (λ e. ap (λ (q : Row). q .count) (at-yes r place x e)) (λ e. ap (λ (q : Row). q .count) (at-no r place x e))
+
+pub count-after : (r : Row) (xs : List RowCall) → afterRow r xs .count ≡ r .count
+unfolding afterRow
+count-after r [] = refl
+count-after r (x ∷ xs) = count-after (nextRow r x) xs ∙ count-one r x
+
+pub kept-after : (k : ℕ) (r : Row) (xs : List RowCall) → Stands k r → Stands k (afterRow r xs)
+unfolding afterRow
+kept-after k r [] h = h
+kept-after k r (x ∷ xs) h = kept-after k (nextRow r x) xs (kept k r x h)
+
+pub its-calls : (k : ℕ) (r : Row) (xs : List RowCall) → Stands k r → lampAt (afterRow r xs) k ≡ after (lampAt r k) (given k r xs)
+unfolding afterRow given after
+its-calls k r [] h = refl
+its-calls k r (x ∷ xs) h =
+    its-calls k (nextRow r x) xs (kept k r x h)
+    ∙ ap (λ l. after l (given k (nextRow r x) xs)) (one k r x h)
+    ∙ sym (after-append (lampAt r k) (givenBy k r x) (given k (nextRow r x) xs))
+
+-- ---- a row in form stays in form
+
+all-visited : (clock n : ℕ) (xs : List Lamp) → allValid (take n xs) ≡ true →
+    allValid (take n (mapTo n (λ l. visited l clock .lamp) xs)) ≡ true
+all-visited clock zero xs e = refl
+all-visited clock (suc n) [] e = refl
+all-visited clock (suc n) (x ∷ xs) e =
+    let first : lampValid (visited x clock .lamp) ≡ true =
+    ap lampValid (visited-step x clock) ∙ valid-kept x (Call.Step clock) (and-left (lampValid x) _ e)
+    in
+    rw (first, all-visited clock n xs (and-right (lampValid x) _ e))
+
+all-set : (n k : ℕ) (xs : List Lamp) (l : Lamp) → lampValid l ≡ true → allValid (take n xs) ≡ true → allValid (take n (set xs k l)) ≡ true
+all-set zero k xs l v e = refl
+all-set (suc n) k [] l v e = refl
+all-set (suc n) zero (x ∷ xs) l v e = rw (v, and-right (lampValid x) _ e)
+all-set (suc n) (suc k) (x ∷ xs) l v e = rw (and-left (lampValid x) _ e, all-set n k xs l v (and-right (lampValid x) _ e))
+
+-- each lamp of a valid row is valid
+pub each-valid : (n k : ℕ) (ls : List Lamp) → allValid (take n ls) ≡ true → k < n → k < length ls → lampValid (getD ls k noLamp) ≡ true
+each-valid zero k ls v h m = absurd (omega arith)
+each-valid (suc n) k [] v h m = absurd (omega arith)
+each-valid (suc n) zero (l ∷ ls) v h m = and-left (lampValid l) _ v
+each-valid (suc n) (suc k) (l ∷ ls) v h m = each-valid n k ls (and-right (lampValid l) _ v) (omega arith) (omega arith)
+
+pub row-valid-kept : (r : Row) (x : RowCall) → RowValid r → RowValid (nextRow r x)
+row-valid-kept r (each size clock) v =
+    either (eqb (rowCause r size clock) 0)
+    (λ e. subst RowValid (sym (each-yes r size clock e)) (record { places = simp length-mapTo (v .places); count = v .count; lamps = all-visited clock (r .count) (r .lamps) (v .lamps) }))
+    (λ e. subst RowValid (sym (each-no r size clock e)) v)
+row-valid-kept r (at place x) v =
+    either (eqb (placeCause r place) 0)
+    (λ e. let there = place-there r place (eqb-true _ _ e) in
+    let old = each-valid (r .count) place (r .lamps) (v .lamps) (there .1) (omega (arith, there, v .places)) in
+    subst RowValid (sym (at-yes r place x e)) (record { places = simp length-set (v .places); count = v .count; lamps = all-set (r .count) place (r .lamps) _ (valid-kept (lampAt r place) x old) (v .lamps) }))
+    (λ e. subst RowValid (sym (at-no r place x e)) v)
+
+-- ---- "In an accepted call a lamp's record and notices depend on its own record, the call and the clock"
+
+pub row-depends : (r q : Row) (size other clock k : ℕ) → Stands k r → Stands k q → lampAt r k ≡ lampAt q k →
+    rowCause r size clock ≡ 0 → rowCause q other clock ≡ 0 →
+    lampAt (nextRow r (each size clock)) k ≡ lampAt (nextRow q (each other clock)) k
+unfolding after
+row-depends r q size other clock k a b same e f =
+    (rw e at (one k r (each size clock) a)) ∙ ap (λ l. next l (Call.Step clock)) same ∙ sym (rw f at (one k q (each other clock) b))

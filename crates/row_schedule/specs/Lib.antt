@@ -1,0 +1,2 @@
+pub mod RowCalls
+pub mod RowClaim
