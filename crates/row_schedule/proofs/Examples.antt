@@ -1,13 +1,13 @@
 -- Ten lamps that turn together by one row call, and two fades 50 ms apart, by computation.
 use Prim.Native.Nat.{ℕ, zero, suc}
-use mathlib.Core.Bool.{true, false}
+use mathlib.Core.Bool.{false}
 use mathlib.Core.List.{List, [], _∷_, _++_, map}
 use mathlib.Core.Path.{_≡_, refl}
 use lib.ListN.{replicate}
 use lib.IntN.{pos, negℤ}
 use Rattle.matter.specs.All.{allTrue}
 use Rattle.hue.specs.Hue.{movedHue}
-use Rattle.progress.specs.Progress.{permilleOf, partOf, limited}
+use Rattle.progress.specs.Progress.{permilleOf}
 use Rattle.color.specs.Valid.{colorValid}
 use Rattle.color.specs.Setters.{hueSet}
 use Rattle.tasks.specs.declared.HueDelta.{HueDelta}
@@ -23,12 +23,18 @@ use Rattle.lamp.specs.Passes.{hueSaturationMoved, timed}
 use Rattle.commands.specs.Answers.{answer}
 use Rattle.schedule.proofs.Examples as schedule
 use Rattle.rows.specs.declared.Row.{Row}
-use Rattle.rows.specs.Rows.{placed, visited, lesser, rowCause, rowStepped, placeCause, answeredAt}
-use Rattle.row_schedule.specs.RowCalls.{RowCall, each, at, nextRow, afterRow}
+use Rattle.rows.specs.Rows.{placed, visited, rowCause, rowStepped, placeCause, answeredAt}
+use Rattle.row_schedule.specs.RowCalls.{RowCall, each, at, afterRow}
 
--- ten idle lamps at hue 0
+-- idle lamps at hue 0
+abbrev pub ofIdle : ℕ → Row
+ofIdle count = record { count = count; lamps = replicate 32 (schedule.lampAt 0) }
+
 abbrev pub ten : Row
-ten = record { count = 10; lamps = replicate 32 (schedule.lampAt 0) }
+ten = ofIdle 10
+
+abbrev pub two : Row
+two = ofIdle 2
 
 -- half the circle down, in two tenths
 abbrev pub down : Task
@@ -42,16 +48,11 @@ starts (suc n) k = at k (Call.Start down 5000) ∷ starts n (suc k)
 abbrev pub hues : Row → List ℕ
 hues r = map (λ (l : Lamp). l .color .hue) (placed r)
 
-pub ten-turn : hues (afterRow ten (starts 10 0 ++ (each 160 5100 ∷ []))) ≡ replicate 10 49152
-unfolding afterRow rowStepped rowCause answeredAt placeCause visited answer startAnswer stepAnswer firstCause started stepped hueSaturationStart hueSaturationMoved timed taskValid moveToValid lampValid colorValid runningValid hueSet permilleOf movedHue allTrue
-ten-turn = refl
-
--- two fades begun 50 ms apart: a row call by the first one's wait is early for the second; one before the second's start is refused
-pub two-apart : hues (afterRow (record { count = 2; lamps = replicate 32 (schedule.lampAt 0) }) (at 0 (Call.Start down 5000) ∷ at 1 (Call.Start down 5050) ∷ each 32 5049 ∷ each 32 5100 ∷ [])) ≡ 49152 ∷ 57344 ∷ []
-unfolding afterRow rowStepped rowCause answeredAt placeCause visited answer startAnswer stepAnswer firstCause started stepped hueSaturationStart hueSaturationMoved timed taskValid moveToValid lampValid colorValid runningValid hueSet permilleOf movedHue allTrue
-two-apart = refl
-
--- a neighbour started and halted in between leaves the others as they were
-pub neighbour : hues (afterRow ten (starts 9 0 ++ (at 9 (Call.Start down 5000) ∷ at 9 (Call.Halt 5000) ∷ each 160 5200 ∷ []))) ≡ replicate 9 32768 ++ (0 ∷ [])
-unfolding afterRow rowStepped rowCause answeredAt placeCause visited answer startAnswer stepAnswer firstCause started stepped hueSaturationStart hueSaturationMoved timed taskValid moveToValid lampValid colorValid runningValid hueSet permilleOf movedHue allTrue haltAnswer
-neighbour = refl
+-- one row call turns all ten; two fades begun 50 ms apart, where a row call by the first one's wait is early for the second and one
+-- before the second's start is refused; a neighbour started and halted in between leaves the others as they were
+pub turns :
+    (hues (afterRow ten (starts 10 0 ++ (each 160 5100 ∷ []))) ≡ replicate 10 49152)
+    × (hues (afterRow two (at 0 (Call.Start down 5000) ∷ at 1 (Call.Start down 5050) ∷ each 32 5049 ∷ each 32 5100 ∷ [])) ≡ 49152 ∷ 57344 ∷ [])
+    × (hues (afterRow ten (starts 9 0 ++ (at 9 (Call.Start down 5000) ∷ at 9 (Call.Halt 5000) ∷ each 160 5200 ∷ []))) ≡ replicate 9 32768 ++ (0 ∷ []))
+unfolding afterRow rowStepped rowCause answeredAt placeCause visited answer startAnswer stepAnswer haltAnswer firstCause started stepped hueSaturationStart hueSaturationMoved timed taskValid moveToValid lampValid colorValid runningValid hueSet permilleOf movedHue allTrue
+turns = (refl, refl, refl)

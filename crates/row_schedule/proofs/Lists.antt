@@ -1,12 +1,11 @@
 -- Over every list of row calls and single calls, a lamp of the row is the one that its own calls leave.
-use Prim.Native.Nat.{ℕ, zero, suc, _+_, _*_, _≤_, _<_}
-use mathlib.Core.Bool.{Bool, true, false}
-use mathlib.Core.List.{List, [], _∷_, _++_}
+use Prim.Native.Nat.{ℕ, zero, suc, _+_, _≤_, _<_}
+use mathlib.Core.Bool.{true, false}
+use mathlib.Core.List.{List, [], _∷_, _++_, append-assoc}
 use mathlib.Core.Path.{_≡_, refl, ap, sym, _∙_, subst}
 use native.Mathlib.Omega.{arith}
 use lib.Dec.{eqb}
 use lib.ListN.{length, take, getD, set, length-set}
-use lib.Seq.{getD-set-same, getD-set-other}
 use borrow.Author.Tests.{eqb-true, eqb-false}
 use Rattle.lamp.specs.declared.Lamp.{Lamp}
 use Rattle.lamp.specs.declared.Call.{Call}
@@ -14,24 +13,15 @@ use Rattle.matter.proofs.Laws.{and-left, and-right}
 use Rattle.lamp.specs.Valid.{lampValid}
 use Rattle.commands.specs.Answers.{answer}
 use Rattle.commands.proofs.Kept.{valid-kept}
-use Rattle.schedule.specs.Calls.{next, after}
+use Rattle.schedule.specs.Calls.{after}
 use Rattle.schedule.proofs.Lists.{after-append}
 use Rattle.rows.specs.declared.Row.{Row}
 use Rattle.rows.specs.Rows.{mapTo, visited, noLamp, lampAt, allValid, rowCause, rowStepped, placeCause, answeredAt, withLamps}
 use Rattle.rows.proofs.Causes.{place-there}
-use Rattle.rows.proofs.Laws.{Room, either, its-own, visited-step, no-cause}
+use Rattle.rows.proofs.Visiting.{length-mapTo}
+use Rattle.rows.proofs.Laws.{Stands, either, visited-step, row-lamp, row-past, single-lamp, single-others, single-count}
 use Rattle.row_schedule.specs.RowClaim.{RowValid}
 use Rattle.row_schedule.specs.RowCalls.{RowCall, each, at, nextRow, afterRow, givenBy, given}
-
-length-mapTo : {A : Type 0} (n : ℕ) (f : A → A) (xs : List A) → length (mapTo n f xs) ≡ length xs
-length-mapTo zero f xs = refl
-length-mapTo (suc n) f [] = refl
-length-mapTo (suc n) f (x ∷ xs) = ap suc (length-mapTo n f xs)
-
--- what every call keeps
-pub record Stands (k : ℕ) (r : Row) : Type 0 where
-  pub there : k < r .count
-  pub room : Room r
 
 -- the two sides of each call
 each-yes : (r : Row) (size clock : ℕ) → eqb (rowCause r size clock) 0 ≡ true →
@@ -53,23 +43,24 @@ unfolding answeredAt
 at-no r place x e = simp (nextRow, e)
 
 -- one call: the lamp at k after it
-one : (k : ℕ) (r : Row) (x : RowCall) → Stands k r → lampAt (nextRow r x) k ≡ after (lampAt r k) (givenBy k r x)
+one-each : (k : ℕ) (r : Row) (size clock : ℕ) → Stands k r →
+    lampAt (nextRow r (each size clock)) k ≡ after (lampAt r k) (givenBy k r (each size clock))
 unfolding after
-one k r (each size clock) h =
+one-each k r size clock h =
     either (eqb (rowCause r size clock) 0)
-    (λ e. ap (λ (q : Row). lampAt q k) (each-yes r size clock e)
-    ∙ rw e (its-own (λ l. visited l clock .lamp) (r .count) k (r .lamps) noLamp (h .there) (omega (arith, h .there, h .room .few, h .room .places)) ∙ visited-step (lampAt r k) clock))
+    (λ e. rw e (row-lamp r size clock k h (eqb-true _ _ e)))
     (λ e. ap (λ (q : Row). lampAt q k) (each-no r size clock e) ∙ rw e)
-one k r (at place x) h =
+
+one-at : (k : ℕ) (r : Row) (place : ℕ) (x : Call) → Stands k r → lampAt (nextRow r (at place x)) k ≡ after (lampAt r k) (givenBy k r (at place x))
+unfolding after
+one-at k r place x h =
     either (eqb place k)
-    (λ f. let same : place ≡ k = eqb-true place k f in
-    let e : eqb (placeCause r place) 0 ≡ true = rw (same, no-cause r k (h .room) (h .there)) in
-    rw f (ap (λ (q : Row). lampAt q k) (at-yes r place x e)
-    ∙ ap (λ (p : ℕ). getD (set (r .lamps) p (answer (lampAt r p) x .lamp)) k noLamp) same
-    ∙ getD-set-same (r .lamps) k _ noLamp (omega (arith, h .there, h .room .few, h .room .places))))
-    (λ f. rw f (either (eqb (placeCause r place) 0)
-    (λ e. ap (λ (q : Row). lampAt q k) (at-yes r place x e) ∙ getD-set-other (r .lamps) place k _ noLamp (λ q. eqb-false place k f (sym q)))
-    (λ e. ap (λ (q : Row). lampAt q k) (at-no r place x e))))
+    (λ f. rw f (ap (λ (p : ℕ). lampAt (answeredAt r p x .row) k) (eqb-true place k f) ∙ single-lamp r k x h))
+    (λ f. rw f (single-others r place k x (λ q. eqb-false place k f (sym q))))
+
+one : (k : ℕ) (r : Row) (x : RowCall) → Stands k r → lampAt (nextRow r x) k ≡ after (lampAt r k) (givenBy k r x)
+one k r (each size clock) h = one-each k r size clock h
+one k r (at place x) h = one-at k r place x h
 
 kept : (k : ℕ) (r : Row) (x : RowCall) → Stands k r → Stands k (nextRow r x)
 kept k r (each size clock) h =
@@ -85,8 +76,7 @@ kept k r (at place x) h =
 count-one : (r : Row) (x : RowCall) → nextRow r x .count ≡ r .count
 count-one r (each size clock) =
     either (eqb (rowCause r size clock) 0) (λ e. ap (λ (q : Row). q .count) (each-yes r size clock e)) (λ e. ap (λ (q : Row). q .count) (each-no r size clock e))
-count-one r (at place x) =
-    either (eqb (placeCause r place) 0) (λ e. ap (λ (q : Row). q .count) (at-yes r place x e)) (λ e. ap (λ (q : Row). q .count) (at-no r place x e))
+count-one r (at place x) = single-count r place x
 
 pub count-after : (r : Row) (xs : List RowCall) → afterRow r xs .count ≡ r .count
 unfolding afterRow
@@ -114,7 +104,7 @@ all-visited clock zero xs e = refl
 all-visited clock (suc n) [] e = refl
 all-visited clock (suc n) (x ∷ xs) e =
     let first : lampValid (visited x clock .lamp) ≡ true =
-    ap lampValid (visited-step x clock) ∙ valid-kept x (Call.Step clock) (and-left (lampValid x) _ e)
+    ap lampValid (visited-step x clock .0) ∙ valid-kept x (Call.Step clock) (and-left (lampValid x) _ e)
     in
     rw (first, all-visited clock n xs (and-right (lampValid x) _ e))
 
@@ -143,11 +133,44 @@ row-valid-kept r (at place x) v =
     subst RowValid (sym (at-yes r place x e)) (record { places = simp length-set (v .places); count = v .count; lamps = all-set (r .count) place (r .lamps) _ (valid-kept (lampAt r place) x old) (v .lamps) }))
     (λ e. subst RowValid (sym (at-no r place x e)) v)
 
--- ---- "In an accepted call a lamp's record and notices depend on its own record, the call and the clock"
+pub row-valid-after : (r : Row) (xs : List RowCall) → RowValid r → RowValid (afterRow r xs)
+unfolding afterRow
+row-valid-after r [] v = v
+row-valid-after r (x ∷ xs) v = row-valid-after (nextRow r x) xs (row-valid-kept r x v)
 
-pub row-depends : (r q : Row) (size other clock k : ℕ) → Stands k r → Stands k q → lampAt r k ≡ lampAt q k →
-    rowCause r size clock ≡ 0 → rowCause q other clock ≡ 0 →
-    lampAt (nextRow r (each size clock)) k ≡ lampAt (nextRow q (each other clock)) k
-unfolding after
-row-depends r q size other clock k a b same e f =
-    (rw e at (one k r (each size clock) a)) ∙ ap (λ l. next l (Call.Step clock)) same ∙ sym (rw f at (one k q (each other clock) b))
+-- ---- a list behind another
+
+pub after-row-append : (r : Row) (xs ys : List RowCall) → afterRow r (xs ++ ys) ≡ afterRow (afterRow r xs) ys
+unfolding afterRow
+after-row-append r [] ys = refl
+after-row-append r (x ∷ xs) ys = after-row-append (nextRow r x) xs ys
+
+pub given-append : (k : ℕ) (r : Row) (xs ys : List RowCall) → given k r (xs ++ ys) ≡ given k r xs ++ given k (afterRow r xs) ys
+unfolding given afterRow
+given-append k r [] ys = refl
+given-append k r (x ∷ xs) ys =
+    rw (given-append k (nextRow r x) xs ys) (sym (append-assoc (givenBy k r x) (given k (nextRow r x) xs) (given k (afterRow (nextRow r x) xs) ys)))
+
+-- ---- lamps in equal state that are given equal calls stay equal: ten that are started alike, and then row calls
+
+pub stay-equal : (r : Row) (j k : ℕ) (xs : List RowCall) → Stands j r → Stands k r → lampAt r j ≡ lampAt r k →
+    given j r xs ≡ given k r xs → lampAt (afterRow r xs) j ≡ lampAt (afterRow r xs) k
+stay-equal r j k xs a b same e = its-calls j r xs a ∙ rw (same, e) (sym (its-calls k r xs b))
+
+-- a row call, accepted or not, gives two places the same
+pub row-call-given : (r : Row) (j k size clock : ℕ) → givenBy j r (each size clock) ≡ givenBy k r (each size clock)
+row-call-given r j k size clock = refl
+
+-- ---- a lamp past the last place is no part of the row
+
+past-one : (k : ℕ) (r : Row) (x : RowCall) → r .count ≤ k → lampAt (nextRow r x) k ≡ lampAt r k
+past-one k r (each size clock) h = row-past r size clock k h
+past-one k r (at place x) h =
+    either (eqb (placeCause r place) 0)
+    (λ e. let there = place-there r place (eqb-true _ _ e) in single-others r place k x (λ q. omega (arith, there .1, q, h)))
+    (λ e. ap (λ (q : Row). lampAt q k) (at-no r place x e))
+
+pub past-stays : (k : ℕ) (r : Row) (xs : List RowCall) → r .count ≤ k → lampAt (afterRow r xs) k ≡ lampAt r k
+unfolding afterRow
+past-stays k r [] h = refl
+past-stays k r (x ∷ xs) h = past-stays k (nextRow r x) xs (omega (arith, count-one r x, h)) ∙ past-one k r x h

@@ -1,7 +1,8 @@
--- The claim for rows: document 02, A.1, "The schedule rule then speaks of each lamp of a row, for every list of row calls and
--- single calls". One statement ties the lamp at a place to the calls that it is given, and says the claim of demand 3 of it.
+-- The claim for rows: document 02, A.1, "The schedule rule then speaks of each lamp of a row, for every list of row
+-- calls and single calls". One statement ties the lamp at a place to the calls that it is given, and says the claim of
+-- demand 3 of it.
 use Prim.Native.Nat.{ℕ, zero, suc, _*_, _≤_, _<_}
-use mathlib.Core.Bool.{Bool, true, cond}
+use mathlib.Core.Bool.{true, cond}
 use mathlib.Core.List.{List, [], _∷_, _++_}
 use mathlib.Core.Path.{_≡_}
 use lib.ListN.{length, replicate, take, drop}
@@ -14,7 +15,8 @@ use Rattle.commands.specs.Answers.{answer}
 use Rattle.schedule.specs.Calls.{after}
 use Rattle.schedule.specs.Claim.{Everywhere}
 use Rattle.rows.specs.declared.Row.{Row}
-use Rattle.rows.specs.Rows.{lampAt, placed, allValid, rowCause, rowStepped, rowBytes, answeredAt, withAnswer, leastWait}
+use Rattle.rows.specs.Rows.{lampAt, placed, allValid, rowCause, rowStepped, rowBytes, answeredAt, leastWait}
+use Rattle.rows.specs.RowTable.{AnswersAs}
 use Rattle.row_schedule.specs.RowCalls.{RowCall, each, at, afterRow, given, InRangeRowCalls}
 
 -- a row in form, of 32 places
@@ -40,9 +42,9 @@ stepBytes l clock = cond (runs (l .running)) (answer l (Call.Step clock) .notice
 pub record Tied (k : ℕ) (r : Row) (calls : List RowCall) : Type 0 where
   -- after every part of the list
   pub lamp : (ys zs : List RowCall) → calls ≡ ys ++ zs → lampAt (afterRow r ys) k ≡ own k r ys
-  -- a single call there is answered as that lamp answers it
+  -- a single call there is answered as that lamp answers it: number, notices, task and wait
   pub single : (ys : List RowCall) (x : Call) (zs : List RowCall) → calls ≡ ys ++ (at k x ∷ zs) →
-      answeredAt (afterRow r ys) k x ≡ withAnswer (afterRow r ys) k (answer (own k r ys) x)
+      AnswersAs (answeredAt (afterRow r ys) k x) (answer (own k r ys) x)
   -- an accepted row call writes what that lamp's step reports
   pub bytes : (ys : List RowCall) (clock : ℕ) (out : List ℕ) (zs : List RowCall) →
       calls ≡ ys ++ (each (length out) clock ∷ zs) → rowCause (afterRow r ys) (length out) clock ≡ accepted →

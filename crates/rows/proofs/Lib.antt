@@ -3,4 +3,7 @@ pub mod Visiting
 pub mod Causes
 pub mod Laws
 pub mod Waits
+pub mod Bytes
+pub mod Depends
+pub mod Promises
 pub mod RowTable

@@ -14,7 +14,9 @@ use Rattle.tasks.specs.Runs.{runs}
 use mathlib.Core.Bool.{Bool, true, false, cond}
 use lib.Dec.{eqb}
 use borrow.Author.Tests.{eqb-true}
-use Rattle.rows.specs.Rows.{visited, visitsCause, lesser, leastWait, bytesOf, mapTo}
+use Rattle.rows.specs.declared.Row.{Row}
+use Rattle.rows.specs.declared.RowStepped.{RowStepped}
+use Rattle.rows.specs.Rows.{rowOf, withLamps, visited, visitsCause, lesser, leastWait, bytesOf, mapTo}
 use Rattle.rows.proofs.Places.{left, left-cons}
 
 pub lesser-none : (a : ℕ) → lesser a 0 ≡ a
@@ -43,10 +45,15 @@ step-mapTo zero f (x ∷ xs) d = refl
 step-mapTo (suc n) f [] d = refl
 step-mapTo {A} (suc n) f (x ∷ xs) d = ap (λ (ys : List A). f x ∷ ys) (step-mapTo n f xs d)
 
+pub length-mapTo : {A : Type 0} (n : ℕ) (f : A → A) (xs : List A) → length (mapTo n f xs) ≡ length xs
+length-mapTo zero f xs = refl
+length-mapTo (suc n) f [] = refl
+length-mapTo (suc n) f (x ∷ xs) = ap suc (length-mapTo n f xs)
+
 module _ (xs : List Lamp) (n i clock : ℕ) (h : i < n) (k : n ≤ length xs) (d : Lamp) where
-  pub lamps-more : (next : List Lamp) → next ≡ mapTo i (λ l. visited l clock .lamp) xs
-      → set next i (visited (getD xs i d) clock .lamp) ≡ mapTo (i + 1) (λ l. visited l clock .lamp) xs
-  lamps-more next e = rw (e, add-one i) (step-mapTo i (λ l. visited l clock .lamp) xs d)
+  pub lamps-more : (next : Row) (count : ℕ) → next ≡ rowOf count (mapTo i (λ l. visited l clock .lamp) xs)
+      → withLamps next (set (next .lamps) i (visited (getD xs i d) clock .lamp)) ≡ rowOf count (mapTo (i + 1) (λ l. visited l clock .lamp) xs)
+  lamps-more next count e = rw (e, add-one i) (ap (rowOf count) (step-mapTo i (λ l. visited l clock .lamp) xs d))
 
   pub wait-more : (w : ℕ) {whole : ℕ} → lesser w (leastWait clock (left n i xs)) ≡ whole
       → lesser (lesser w (visited (getD xs i d) clock .wait)) (leastWait clock (left n (i + 1) xs)) ≡ whole
@@ -75,3 +82,8 @@ choose-number n l a e = go (eqb n 0) refl
 pub step-number : (l : Lamp) (clock : ℕ) → runs (l .running) ≡ true → stepAnswer l clock .number ≡ firstCause l clock
 unfolding stepAnswer firstCause
 step-number l clock e = choose-number (stepCause l clock) l (done (stepped (atClock l clock) (l .running))) refl ∙ rw e
+
+-- a row call by its parts
+pub by-parts : (r : RowStepped) {number wait : ℕ} {row : Row} → r .number ≡ number → r .row ≡ row → r .wait ≡ wait
+    → r ≡ record { number = number; row = row; wait = wait }
+by-parts r a b c = λ i. record { number = a i; row = b i; wait = c i }

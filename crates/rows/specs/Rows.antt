@@ -16,7 +16,7 @@ use Rattle.tasks.specs.Runs.{runs}
 use Rattle.lamp.specs.declared.Lamp.{Lamp}
 use Rattle.lamp.specs.declared.Answer.{Answer}
 use Rattle.lamp.specs.declared.Call.{Call}
-use Rattle.lamp.specs.Answers.{badClock, firstCause, refusal}
+use Rattle.lamp.specs.Answers.{firstCause, refusal}
 use Rattle.lamp.specs.Calls.{stepAnswer}
 use Rattle.lamp.specs.Valid.{lampValid}
 use Rattle.commands.specs.Answers.{answer}

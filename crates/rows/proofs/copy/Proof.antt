@@ -1,9 +1,9 @@
 -- The bytes written so far are pasted.
-use Prim.Native.Nat.{_≤_, _-_, _+_}
+use Prim.Native.Nat.{_≤_, _-_}
 use mathlib.Core.Path.{_≡_, refl, ap, _∙_}
 use native.Mathlib.Numerals.{add-one}
 use native.Mathlib.Omega.{arith}
-use lib.ListN.{length, take, length-set}
+use lib.ListN.{length, length-set}
 use lib.Seq.{paste, paste-zero, paste-suc, take-paste, drop-paste}
 use borrow.Author.Needs.{needs}
 use Rattle.rows.proofs.copy.Statement.{statement}

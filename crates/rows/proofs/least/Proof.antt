@@ -1,9 +1,8 @@
 -- Each test is one of the definition's clauses.
 use native.Mathlib.Omega.{arith}
-use mathlib.Core.Path.{sym, _∙_}
+use mathlib.Core.Path.{sym}
 use Rattle.rows.proofs.Visiting.{lesser-none, lesser-min}
 use Rattle.rows.specs.Rows.{lesser}
-use borrow.Author.Needs.{needs}
 use Rattle.rows.proofs.least.Statement.{statement}
 use Rattle.rows.proofs.least.Tie as tie
 

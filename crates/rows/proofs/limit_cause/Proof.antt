@@ -1,6 +1,5 @@
 -- The branch is the definition's.
 use borrow.Author.Tests.{lt-ltb, le-ltb}
-use borrow.Author.Needs.{needs}
 use Rattle.rows.proofs.limit_cause.Statement.{statement}
 use Rattle.rows.proofs.limit_cause.Tie as tie
 

@@ -1,7 +1,5 @@
 -- A lamp that runs is stepped, and its step's cause is then the one that every call checks first.
-use native.Mathlib.Omega.{arith}
 use mathlib.Core.Path.{refl, sym, _∙_}
-use Rattle.lamp.specs.declared.Answer.{Answer}
 use Rattle.rows.specs.Rows.{visited}
 use Rattle.rows.proofs.Visiting.{step-number}
 use borrow.Author.Needs.{needs}

@@ -1,12 +1,13 @@
 -- The first cause refuses, the slice's or the worst of the lamps'; else the visits are the row's.
-use Prim.Native.Nat.{_*_, max}
-use mathlib.Core.Path.{_≡_, ap, sym, _∙_}
+use Prim.Native.Nat.{_*_}
+use mathlib.Core.Path.{_≡_, sym, _∙_}
 use mathlib.Core.List.{_++_}
 use native.Mathlib.Nat.{zero-add}
 use native.Mathlib.Omega.{arith}
-use lib.ListN.{length, take, drop, take-append-drop}
+use lib.ListN.{length, drop, take-append-drop}
 use borrow.Author.Tests.{ne-eqb}
-use Rattle.rows.specs.Rows.{placed, bytesOf, sliceCause, limitCause, visitsCause, rowCause, rowStepped, rowBytes}
+use Rattle.rows.specs.Rows.{placed, bytesOf, sliceCause, rowCause, rowStepped, rowBytes}
+use Rattle.rows.proofs.Visiting.{by-parts}
 use Rattle.rows.proofs.Causes.{slice-first, lamps-next, slice-fits}
 use borrow.Author.Needs.{needs}
 use Rattle.rows.proofs.Row.step.Statement.{statement}
@@ -36,8 +37,8 @@ slice-aggregate-visit-all c = search needs
 
 visit-all-requires : tie.Need-visit-all-requires
 visit-all-requires c κs =
-    let a = c .before .before .before .before .before .args in
-    let ok = slice-fits (a .self) (length (a .out .now)) (fits (c .before .before)) in
+    let a = c .before .before .before .before .args in
+    let ok = slice-fits (a .self) (length (a .out .now)) (fits (c .before)) in
     (ok .0, omega (arith, ok .0))
 
 limit-cause-requires : tie.Need-limit-cause-requires
@@ -51,10 +52,10 @@ refused-requires-2 c κs = search needs
 
 -- the worst of the lamps' own causes is the row's
 cause-is : (c : tie.After-first-of) →
-    let a = c .before .before .before .before .before .before .before .before .before .args in c .first-of .result ≡ rowCause (a .self) (length (a .out .now)) (a .clock)
+    let a = c .before .before .before .before .before .before .before .before .args in c .first-of .result ≡ rowCause (a .self) (length (a .out .now)) (a .clock)
 cause-is c =
-    let a = c .before .before .before .before .before .before .before .before .before .args in
-    let lamps = lamps-next (a .self) (length (a .out .now)) (a .clock) (fits (c .before .before .before .before .before .before)) in
+    let a = c .before .before .before .before .before .before .before .before .args in
+    let lamps = lamps-next (a .self) (length (a .out .now)) (a .clock) (fits (c .before .before .before .before .before)) in
     c .first-of .ensures
     ∙ (rw (c .before .limit-cause .ensures, c .before .before .before .visit-all .ensures .2) (sym lamps))
 
@@ -76,9 +77,9 @@ mul-copy c = search needs
 
 copy-requires : tie.Need-copy-requires
 copy-requires c κs =
-    let a = c .before .before .before .before .before .before .before .before .before .before .before .before .before .args in
-    let ok = slice-fits (a .self) (length (a .out .now)) (fits (c .before .before .before .before .before .before .before .before .before .before)) in
-    (omega (arith, ok .0, c .before .before .before .before .before .before .before .visit-all .kept .1 .1 .0), omega (arith, ok .1))
+    let a = c .before .before .before .before .before .before .before .before .before .before .before .before .args in
+    let ok = slice-fits (a .self) (length (a .out .now)) (fits (c .before .before .before .before .before .before .before .before .before)) in
+    (omega (arith, ok .0, c .before .before .before .before .before .before .before .visit-all .kept .1 .0), omega (arith, ok .1))
 
 same-length : tie.Need-same-length
 same-length c = search needs
@@ -86,18 +87,20 @@ same-length c = search needs
 returns-3 : tie.Need-returns-3
 unfolding rowStepped rowBytes
 returns-3 c =
-    let first = c .before .before .before .before .before .before .before .before in
-    let zero = sym (cause-is first) ∙ c .before .before .before .before .before .before .before .if2 .left in
-    let visits = c .before .before .before .before .before .before .before .before .before .before .before .visit-all .ensures in
-    let out = c .before .before .before .copy in
-    let a = c .before .before .before .before .before .before .before .before .before .before .before .before .before .before .before .before .before .args in
+    let first = c .before .before .before .before .before .before .before in
+    let zero = sym (cause-is first) ∙ c .before .before .before .before .before .before .if2 .left in
+    let all = c .before .before .before .before .before .before .before .before .before .before .visit-all in
+    let visits = all .ensures in
+    let out = c .before .before .copy in
+    let a = c .before .before .before .before .before .before .before .before .before .before .before .before .before .before .before .args in
     let many = 16 * a .self .count in
     let front = rw zero-add at (out .ensures .0) in
     let back = rw zero-add at (out .ensures .1) in
     let whole : out .last .1 .1 .0 ≡ bytesOf (a .clock) (placed (a .self)) ++ drop many (a .out .now) =
     sym (take-append-drop many (out .last .1 .1 .0)) ∙ rw (front, back, visits .3)
     in
-    (simp (zero, visits .0, visits .1), simp zero whole)
+    let number : all .result .number ≡ 0 = omega (arith, first .first-of .ensures, c .before .before .before .before .before .before .if2 .left) in
+    (simp zero (by-parts _ number (visits .0) (visits .1)), simp zero whole)
 
 pub step-spec : {M : Type 1} → statement M
 step-spec =

@@ -1,10 +1,8 @@
 -- The test is the definition's.
-use native.Mathlib.Omega.{arith}
 use lib.Dec.{leb}
 use borrow.Author.Tests.{leb-false}
 use Rattle.matter.proofs.Laws.{or-right}
 use Rattle.rows.specs.Rows.{putAt}
-use borrow.Author.Needs.{needs}
 use Rattle.rows.proofs.Row.with_lamp.Statement.{statement}
 use Rattle.rows.proofs.Row.with_lamp.Tie as tie
 

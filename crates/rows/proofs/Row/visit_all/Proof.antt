@@ -4,42 +4,49 @@ use mathlib.Core.Path.{_≡_, refl, ap, sym, _∙_}
 use mathlib.Core.List.{_++_, append-nil}
 use native.Mathlib.Omega.{arith}
 use lib.ListN.{length, take}
-use Rattle.rows.specs.Rows.{mapTo, visited, visitsCause, lesser, leastWait, bytesOf}
-use Rattle.rows.proofs.Places.{left, left-none}
+use Rattle.rows.specs.Rows.{mapTo, withLamps, visited, visitsCause, lesser, leastWait, bytesOf}
+use Rattle.rows.proofs.Places.{left, left-none, length-mapped}
 use Rattle.rows.proofs.Visiting.{lesser-none, lamps-more, wait-more, cause-more, bytes-more}
 use borrow.Author.Needs.{needs}
-use Rattle.rows.proofs.visit_all.Statement.{statement}
-use Rattle.rows.proofs.visit_all.Tie as tie
+use Rattle.rows.proofs.Row.visit_all.Statement.{statement}
+use Rattle.rows.proofs.Row.visit_all.Tie as tie
 
 abbrev Inv-loop : tie.InvT-loop
-Inv-loop count bytes₀ clock lamps n next₀ wait₀ number₀ i₀ bytes next wait number i =
-    (i ≤ n) × (n ≡ count) × (length lamps ≡ 32) × (length bytes ≡ length bytes₀)
-    × (next ≡ mapTo i (λ l. visited l clock .lamp) lamps)
-    × (lesser wait (leastWait clock (left n i lamps)) ≡ leastWait clock (take n lamps))
-    × (max number (visitsCause clock (left n i lamps)) ≡ visitsCause clock (take n lamps))
-    × (take (16 * i) bytes ++ bytesOf clock (left n i lamps) ≡ bytesOf clock (take n lamps))
+Inv-loop bytes₀ clock self n next₀ wait₀ number₀ i₀ bytes next wait number i =
+    (i ≤ n) × (n ≡ self .count) × (length (self .lamps) ≡ 32) × (length bytes ≡ length bytes₀)
+    × (next ≡ withLamps self (mapTo i (λ l. visited l clock .lamp) (self .lamps)))
+    × (lesser wait (leastWait clock (left n i (self .lamps))) ≡ leastWait clock (take n (self .lamps)))
+    × (max number (visitsCause clock (left n i (self .lamps))) ≡ visitsCause clock (take n (self .lamps)))
+    × (take (16 * i) bytes ++ bytesOf clock (left n i (self .lamps)) ≡ bytesOf clock (take n (self .lamps)))
 
 abbrev μ-loop : tie.MeasureT-loop
-μ-loop count bytes₀ clock lamps n next₀ wait₀ number₀ i₀ bytes next wait number i = n - i
+μ-loop bytes₀ clock self n next₀ wait₀ number₀ i₀ bytes next wait number i = n - i
+
+-- the row has 32 places, by its type
+places : (c : tie.Start Inv-loop μ-loop) → length (c .args .t1 .lamps) ≡ 32
+places c = length-mapped _ _ _ (c .args .t1 .lamps) 32 (c .good .0 .1 .1 .1 .0 .1 .0 .1)
+
+cast-n : tie.Need-cast-n Inv-loop μ-loop
+cast-n c = search needs
 
 loop-holds : tie.Need-loop-holds Inv-loop μ-loop
 unfolding lesser
-loop-holds c = (search needs, search needs, search needs, refl, refl, refl, omega arith, refl)
+loop-holds c = (search needs, search needs, places (c .before), refl, refl, refl, omega arith, refl)
 
 mul-lamp : tie.Need-mul-lamp Inv-loop μ-loop
 mul-lamp c = search needs
 
-array-copy-out-lamp : tie.Need-array-copy-out-lamp Inv-loop μ-loop
-array-copy-out-lamp c = search needs
+element-copy-out-lamp : tie.Need-element-copy-out-lamp Inv-loop μ-loop
+element-copy-out-lamp c = search needs
 
 visit-requires : tie.Need-visit-requires Inv-loop μ-loop
 visit-requires c κs = search needs
 
-mul-next : tie.Need-mul-next Inv-loop μ-loop
-mul-next c = search needs
+mul-l : tie.Need-mul-l Inv-loop μ-loop
+mul-l c = search needs
 
-array-set-from-next : tie.Need-array-set-from-next Inv-loop μ-loop
-array-set-from-next c = search needs
+element-set-from-l : tie.Need-element-set-from-l Inv-loop μ-loop
+element-set-from-l c = search needs
 
 mul-put : tie.Need-mul-put Inv-loop μ-loop
 mul-put c = search needs
@@ -66,18 +73,18 @@ loop-again c =
     let l = c .before .before .before .before .before .before .before .before .before .before .before .before in
     let a = l .before .before .args in
     let more = c .before .before .before .before .before .before .before .before .before .before .before .loop-test .taken in
-    let low : l .loop .i < a .count = omega (arith, more, l .loop .inv .0, l .loop .inv .1) in
-    let room : a .count ≤ length (a .t1) = omega (arith, l .loop .inv .2) in
+    let low : l .loop .i < a .t1 .count = omega (arith, more, l .loop .inv .0, l .loop .inv .1) in
+    let room : a .t1 .count ≤ length (a .t1 .lamps) = omega (arith, l .loop .inv .2) in
     let next16 : 16 * (l .loop .i + 1) ≡ 16 * l .loop .i + 16 = omega arith in (
       omega (arith, low),
       refl,
       l .loop .inv .2,
       omega (arith, put .kept .1 .0),
-      rw (visit .ensures .0) (lamps-more (a .t1) (a .count) (l .loop .i) (a .clock) low room _ (l .loop .next) (l .loop .inv .4)),
-      rw (c .before .least .ensures, visit .ensures .2) (wait-more (a .t1) (a .count) (l .loop .i) (a .clock) low room _ (l .loop .wait) (l .loop .inv .5)),
-      rw (c .first-of .ensures, visit .ensures .3) (cause-more (a .t1) (a .count) (l .loop .i) (a .clock) low room _ (l .loop .number) (l .loop .inv .6)),
+      rw (visit .ensures .0) (lamps-more (a .t1 .lamps) (a .t1 .count) (l .loop .i) (a .clock) low room _ (l .loop .next) (a .t1 .count) (l .loop .inv .4)),
+      rw (c .before .least .ensures, visit .ensures .2) (wait-more (a .t1 .lamps) (a .t1 .count) (l .loop .i) (a .clock) low room _ (l .loop .wait) (l .loop .inv .5)),
+      rw (c .first-of .ensures, visit .ensures .3) (cause-more (a .t1 .lamps) (a .t1 .count) (l .loop .i) (a .clock) low room _ (l .loop .number) (l .loop .inv .6)),
       rw (next16, put .ensures .0, visit .ensures .1)
-          (bytes-more (a .t1) (a .count) (l .loop .i) (a .clock) low room _ (take (16 * l .loop .i) (l .loop .bytes)) (l .loop .inv .7)),
+          (bytes-more (a .t1 .lamps) (a .t1 .count) (l .loop .i) (a .clock) low room _ (take (16 * l .loop .i) (l .loop .bytes)) (l .loop .inv .7)),
     )
 
 same-length : tie.Need-same-length Inv-loop μ-loop
@@ -87,8 +94,8 @@ returns : tie.Need-returns Inv-loop μ-loop
 returns c =
     let l = c .before in
     let a = l .before .before .args in
-    let e : l .loop .i ≡ a .count = omega arith in
-    let none = left-none (a .t1) (a .count) (l .loop .i) (omega arith) (omega arith) in
+    let e : l .loop .i ≡ a .t1 .count = omega arith in
+    let none = left-none (a .t1 .lamps) (a .t1 .count) (l .loop .i) (omega arith) (omega arith) in
     let w = l .loop .inv .5 in
     let n = l .loop .inv .6 in
     let b = l .loop .inv .7 in (
@@ -104,12 +111,13 @@ visit-all-spec =
     (tie.spec
     Inv-loop
     μ-loop
+    cast-n
     loop-holds
     mul-lamp
-    array-copy-out-lamp
+    element-copy-out-lamp
     visit-requires
-    mul-next
-    array-set-from-next
+    mul-l
+    element-set-from-l
     mul-put
     put-requires
     least-requires

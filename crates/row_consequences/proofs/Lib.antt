@@ -1,0 +1,2 @@
+pub mod RowTogether
+pub mod Examples
