@@ -79,11 +79,8 @@ givenText (GivenTask.Given task) = taskText task
 abbrev pub statusText : ℕ → List ℕ
 statusText number = cond (eqb number accepted) (ascii "ok") (ascii "refused" ++ numbersText (number ∷ []))
 
-abbrev pub refusedText : ℕ → List ℕ
-refusedText number = statusText number ++ ascii "\n"
-
 abbrev pub runningText : Running → List ℕ
-runningText r = cond (runs r) (ascii " running\n") (ascii " idle\n")
+runningText r = cond (runs r) (ascii " running") (ascii " idle")
 
 -- <notices or -> | <task given or -> | <wait>
 abbrev pub reportedText : Notices → GivenTask → ℕ → List ℕ

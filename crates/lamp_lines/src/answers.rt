@@ -21,16 +21,16 @@ ghost use mathlib.Core.Path.{_≡_};
 ghost use mathlib.Core.List.{_++_};
 ghost use Rattle.text.specs.Ascii.{ascii};
 ghost use Rattle.text.specs.Written.{Written};
-ghost use Rattle.lamp_lines.specs.Answers.{numberText, signedText, numbersText, bit, lampNumbers, noticesText, deltaText, targetText, taskText, givenText, statusText, refusedText, runningText, reportedText, answerText};
+ghost use Rattle.lamp_lines.specs.Answers.{numberText, signedText, numbersText, bit, lampNumbers, noticesText, deltaText, targetText, taskText, givenText, statusText, runningText, reportedText, answerText};
 
-fn bar(out: &mut [u8], at: usize) -> usize
+pub fn bar(out: &mut [u8], at: usize) -> usize
     ensures { λ r. ⌜ Written (now (out .entry)) at (ascii " |") (now (out .exit)) r ⌝ }
 {
     text(out, at, b" |")
 }
 
 // A number after a blank.
-fn number(out: &mut [u8], at: usize, n: u64) -> usize
+pub fn number(out: &mut [u8], at: usize, n: u64) -> usize
     ensures { λ r. ⌜ Written (now (out .entry)) at (numberText n) (now (out .exit)) r ⌝ }
 {
     let next = byte(out, at, b' ');
@@ -71,8 +71,9 @@ fn named(out: &mut [u8], at: usize, name: &[u8], list: &[u64]) -> usize
     numbers(out, next, list)
 }
 
-fn fields(out: &mut [u8], at: usize, lamp: Lamp) -> usize
-    ensures { λ r. ⌜ Written (now (out .entry)) at (numbersText (lampNumbers lamp)) (now (out .exit)) r ⌝ }
+// A lamp's fields, in the protocol's order.
+pub fn lamp_numbers(lamp: Lamp) -> [u64; 18]
+    ensures { λ r. ⌜ r ≡ lampNumbers lamp ⌝ }
 {
     let bounds = lamp.bounds;
     let remaining = lamp.remaining;
@@ -82,7 +83,7 @@ fn fields(out: &mut [u8], at: usize, lamp: Lamp) -> usize
     let emode = color.emode;
     let looping = lamp.looping;
     let direction = looping.direction;
-    let list = [
+    [
         bounds.min as u64,
         bounds.max as u64,
         lamp.clock,
@@ -101,7 +102,13 @@ fn fields(out: &mut [u8], at: usize, lamp: Lamp) -> usize
         looping.time as u64,
         looping.start as u64,
         looping.stored as u64,
-    ];
+    ]
+}
+
+fn fields(out: &mut [u8], at: usize, lamp: Lamp) -> usize
+    ensures { λ r. ⌜ Written (now (out .entry)) at (numbersText (lampNumbers lamp)) (now (out .exit)) r ⌝ }
+{
+    let list = lamp_numbers(lamp);
     numbers(out, at, &list)
 }
 
@@ -228,7 +235,7 @@ fn given(out: &mut [u8], at: usize, given: GivenTask) -> usize
     }
 }
 
-fn status(out: &mut [u8], at: usize, number: u8) -> usize
+pub fn status(out: &mut [u8], at: usize, number: u8) -> usize
     ensures { λ r. ⌜ Written (now (out .entry)) at (statusText number) (now (out .exit)) r ⌝ }
 {
     if number == 0 {
@@ -237,21 +244,13 @@ fn status(out: &mut [u8], at: usize, number: u8) -> usize
     named(out, at, b"refused", &[number as u64])
 }
 
-// A refusal that has no lamp.
-pub fn refused(out: &mut [u8], at: usize, number: u8) -> usize
-    ensures { λ r. ⌜ Written (now (out .entry)) at (refusedText number) (now (out .exit)) r ⌝ }
-{
-    let a = status(out, at, number);
-    byte(out, a, b'\n')
-}
-
 fn ending(out: &mut [u8], at: usize, running: Running) -> usize
     ensures { λ r. ⌜ Written (now (out .entry)) at (runningText running) (now (out .exit)) r ⌝ }
 {
     if running.is_running() {
-        text(out, at, b" running\n")
+        text(out, at, b" running")
     } else {
-        text(out, at, b" idle\n")
+        text(out, at, b" idle")
     }
 }
 

@@ -1,9 +1,10 @@
-// Replays calls on a lamp: each line of standard input is a call, and its answer a line of standard output.
+// Replays calls on a lamp, and on a row of lamps: each line of standard input is a call, and its answer a line of standard output.
+mod session;
 mod state;
 
 use libc::STDIN_FILENO;
 use libc::STDOUT_FILENO;
-use state::State;
+use session::Session;
 use text::words;
 use text::writer;
 ghost use Rattle.io.specs.Counts.{Counts};
@@ -11,10 +12,10 @@ ghost use Rattle.io.specs.Counts.{Counts};
 // Past this place the answers are written out before the next, so that the longest answer has room.
 const NEARLY_FULL: usize = 61440;
 
-// What is kept from one block of input to the next: the state, how much of a line has come, the place after the answers
+// What is kept from one block of input to the next: the session, how much of a line has come, the place after the answers
 // that are not yet written, and whether there may be more.
 struct Replay {
-    state: State,
+    session: Session,
     len: usize,
     at: usize,
     more: bool,
@@ -44,13 +45,13 @@ fn end_line(replay: Replay, line: &[u8], out: &mut [u8]) -> Replay {
         at = 0;
     }
     let n = within(replay.len, line);
-    let before = replay.state;
-    let turn = state::answer(before, &line[..n], out, at);
-    let state = turn.state;
+    let before = replay.session;
+    let reply = session::answer(before, &line[..n], out, at);
+    let after = reply.session;
     Replay {
-        state: state,
+        session: after,
         len: 0,
-        at: turn.at,
+        at: reply.at,
         more: replay.more,
     }
 }
@@ -110,7 +111,7 @@ fn main() {
     let line: &mut [u8] = &mut line_space;
     let out: &mut [u8] = &mut out_space;
     let mut replay = Replay {
-        state: state::nothing_yet(),
+        session: session::nothing_yet(),
         len: 0,
         at: 0,
         more: true,

@@ -1,5 +1,5 @@
-// What is kept from line to line, and the answer to a line. A call that cannot be read, or has no lamp to act on, answers
-// `error` and changes nothing.
+// The lamp that is kept from line to line, and the answer to a line of it. A call that cannot be read, or has no lamp to
+// act on, answers `error` and changes nothing. The newline behind an answer is the caller's.
 use call_lines::leaves;
 use call_lines::leaves::Leaf;
 use call_lines::lines;
@@ -13,9 +13,6 @@ use lamp::Made;
 use lamp_lines::answers;
 use tasks::GivenTask;
 use text::writer;
-
-// A line of more bytes is unreadable.
-const LONGEST: usize = 4095;
 
 pub enum Held {
     Nothing,
@@ -41,8 +38,8 @@ pub(crate) fn nothing_yet() -> State {
     }
 }
 
-fn error(state: State, out: &mut [u8], at: usize) -> Turn {
-    let end = writer::text(out, at, b"error\n");
+pub(crate) fn error(state: State, out: &mut [u8], at: usize) -> Turn {
+    let end = writer::text(out, at, b"error");
     Turn {
         state: state,
         at: end,
@@ -72,7 +69,12 @@ fn help(state: State, out: &mut [u8], at: usize) -> Turn {
           leaf leave <on|off|none> <options> <mask> <override>\n\
           leaf mode_of <emode>\n\
           leaf shown <hue>\n\
-          help\n",
+          row <count>\n\
+          rowcount <count>\n\
+          rowshow\n\
+          rowstep <length> <fill> <clock>\n\
+          at <place> lamp|poke|record|show|cmd|start|startlast|step|halt ...\n\
+          help",
     );
     Turn {
         state: state,
@@ -81,7 +83,7 @@ fn help(state: State, out: &mut [u8], at: usize) -> Turn {
 }
 
 // The task given last, after an answer.
-fn last_task(last: GivenTask, given: GivenTask) -> GivenTask {
+pub(crate) fn last_task(last: GivenTask, given: GivenTask) -> GivenTask {
     match given {
         GivenTask::Nothing => last,
         GivenTask::Given(task) => GivenTask::Given(task),
@@ -109,7 +111,7 @@ fn placed(lamp: Lamp, out: &mut [u8], at: usize) -> Turn {
 }
 
 fn not_made(state: State, number: u8, out: &mut [u8], at: usize) -> Turn {
-    let end = answers::refused(out, at, number);
+    let end = answers::status(out, at, number);
     Turn {
         state: state,
         at: end,
@@ -145,14 +147,14 @@ fn start_last(state: State, clock: u64, out: &mut [u8], at: usize) -> Turn {
 
 fn asked(state: State, leaf: Leaf, out: &mut [u8], at: usize) -> Turn {
     let end = leaves::ask(leaf, out, at);
-    let next = writer::byte(out, end, b'\n');
     Turn {
         state: state,
-        at: next,
+        at: end,
     }
 }
 
-fn run(state: State, line: Line, out: &mut [u8], at: usize) -> Turn {
+// A line of the lamp.
+pub(crate) fn run(state: State, line: Line, out: &mut [u8], at: usize) -> Turn {
     match line {
         Line::Lamp(lamp) => placed(lamp, out, at),
         Line::New(making) => make(state, making, out, at),
@@ -162,24 +164,4 @@ fn run(state: State, line: Line, out: &mut [u8], at: usize) -> Turn {
         Line::Help => help(state, out, at),
         Line::Unreadable => error(state, out, at),
     }
-}
-
-// One line. An empty one, and one that begins with `#`, has no answer.
-pub(crate) fn answer(state: State, line: &[u8], out: &mut [u8], at: usize) -> Turn {
-    if line.len() == 0 {
-        return Turn {
-            state: state,
-            at: at,
-        };
-    }
-    if line[0] == b'#' {
-        return Turn {
-            state: state,
-            at: at,
-        };
-    }
-    if LONGEST < line.len() {
-        return error(state, out, at);
-    }
-    run(state, lines::read(line), out, at)
 }
