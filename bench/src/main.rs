@@ -145,7 +145,8 @@ fn main() {
             }
         }
         print_row(name, count, &times.map(|mut t| median(&mut t)));
-    }    if "row call".contains(&only) {
+    }
+    if "row call".contains(&only) {
         row_calls::print(rounds);
     }
 }

@@ -2,7 +2,8 @@
 //! row call every tenth of a second.
 
 use yemkruos::{
-    ALL_FEATURES, Bounds, Command, DirectionEnum, NewLamp, Notice, OnOff, Refusal, Row, notices_at,
+    ALL_FEATURES, Bounds, Command, DirectionEnum, NewLamp, Notice, OnOff, Refusal, Row, Task,
+    notices_at,
 };
 
 const BLOCKS: u8 = 10;
@@ -15,9 +16,11 @@ fn turn(mut row: Row, command: Command, clock: u64) -> Result<Row, Refusal> {
     for place in 0..BLOCKS {
         let answer = row.command_at(place, command, OnOff::On, clock)?;
         row = answer.row;
-        if let Some(task) = answer.given_task() {
-            row = row.start_at(place, task, clock)?.row;
-        }
+        row = match answer.given_task() {
+            None => row,
+            Some(Task::Stop) => row.halt_at(place, clock)?.row,
+            Some(task) => row.start_at(place, task, clock)?.row,
+        };
     }
     Ok(row)
 }
@@ -46,7 +49,7 @@ fn main() -> Result<(), Refusal> {
             .iter()
             .map(|l| l.color.hue)
             .collect();
-        let written = (0..BLOCKS.into()).filter(|place| {
+        let written = (0..BLOCKS).filter(|place| {
             notices_at(&bytes, *place).any(|notice| notice == Notice::DeviceHueSaturation)
         });
         println!("{clock}: hues {hues:?}, {} LEDs written", written.count());

@@ -182,9 +182,10 @@ macro_rules! given_tasks {
 results! { Answer RowStepped RowAnswer }
 given_tasks! { Answer RowAnswer }
 
-/// The notices of a place in the bytes that a row call wrote, in their order.
-pub fn notices_at(bytes: &[u8], place: usize) -> impl Iterator<Item = Notice> + '_ {
-    let places = bytes.iter().skip(PLACES * place).take(PLACES);
+/// The notices of a place in the bytes that an accepted row call wrote, in their order. A refused one writes none: the bytes
+/// are then what they were before.
+pub fn notices_at(bytes: &[u8], place: u8) -> impl Iterator<Item = Notice> + '_ {
+    let places = bytes.iter().skip(PLACES * usize::from(place)).take(PLACES);
     places.map_while(|number| Notice::of_number(*number))
 }
 
@@ -284,10 +285,16 @@ impl Row {
         self.call_at(place, call).result()
     }
 
-    /// Starts a task on the lamp at a place.
+    /// Starts a task on the lamp at a place. [`Task::Stop`] is no task to start: [`Row::halt_at`] is what it asks for.
     #[inline]
     pub fn start_at(self, place: u8, task: Task, clock: u64) -> Result<RowAnswer, Refusal> {
         self.call_at(place, Call::Start { task, clock }).result()
+    }
+
+    /// Halts the lamp at a place.
+    #[inline]
+    pub fn halt_at(self, place: u8, clock: u64) -> Result<RowAnswer, Refusal> {
+        self.call_at(place, Call::Halt { clock }).result()
     }
 }
 

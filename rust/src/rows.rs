@@ -63,7 +63,7 @@ fn least(a: u64, b: u64) -> u64 {
     if a < b { a } else { b }
 }
 
-/// Of two causes the one that is looked at first: 8 before 4, and either before none.
+/// Of two causes the one that is checked first: 8 before 4, and either before none.
 fn first_of(a: u8, b: u8) -> u8 {
     if a < b { b } else { a }
 }
@@ -130,12 +130,12 @@ impl Row {
         }
     }
 
-    /// What every call looks at first: whether the count is above the most.
+    /// What every call checks first: whether the count is above the most.
     fn too_many(self) -> bool {
         MOST < self.count
     }
 
-    /// What is looked at before the lamps: the count, and the slice.
+    /// What is checked before the lamps: the count, and the slice.
     fn slice_cause(self, size: usize) -> u8 {
         if self.too_many() {
             return INVALID_LAMP;
@@ -175,9 +175,9 @@ impl Row {
 
     /// One call at one clock: every lamp that runs is stepped, in rising place, and reports into its sixteen bytes.
     pub fn step(self, out: &mut [u8], clock: u64) -> RowStepped {
-        let short = self.slice_cause(out.len());
-        if short != ACCEPTED {
-            return self.refused(short);
+        let early = self.slice_cause(out.len());
+        if early != ACCEPTED {
+            return self.refused(early);
         }
         let mut bytes: [u8; 512] = [0; 512];
         let next = self.visit_all(&mut bytes, clock);
@@ -189,7 +189,7 @@ impl Row {
         next
     }
 
-    /// What is looked at before the lamp: the count, and the place.
+    /// What is checked before the lamp: the count, and the place.
     fn place_cause(self, place: u8) -> u8 {
         if self.too_many() {
             return INVALID_LAMP;

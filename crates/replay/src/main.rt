@@ -1,10 +1,10 @@
 // Replays calls on a lamp, and on a row of lamps: each line of standard input is a call, and its answer a line of standard output.
-mod session;
+mod kept;
 mod state;
 
+use kept::Kept;
 use libc::STDIN_FILENO;
 use libc::STDOUT_FILENO;
-use session::Session;
 use text::words;
 use text::writer;
 ghost use Rattle.io.specs.Counts.{Counts};
@@ -12,10 +12,10 @@ ghost use Rattle.io.specs.Counts.{Counts};
 // Past this place the answers are written out before the next, so that the longest answer has room.
 const NEARLY_FULL: usize = 61440;
 
-// What is kept from one block of input to the next: the session, how much of a line has come, the place after the answers
+// What is kept from one block of input to the next: the lamp, the row and the task, how much of a line has come, the place after the answers
 // that are not yet written, and whether there may be more.
 struct Replay {
-    session: Session,
+    kept: Kept,
     len: usize,
     at: usize,
     more: bool,
@@ -45,11 +45,11 @@ fn end_line(replay: Replay, line: &[u8], out: &mut [u8]) -> Replay {
         at = 0;
     }
     let n = within(replay.len, line);
-    let before = replay.session;
-    let reply = session::answer(before, &line[..n], out, at);
-    let after = reply.session;
+    let before = replay.kept;
+    let reply = kept::answer(before, &line[..n], out, at);
+    let after = reply.kept;
     Replay {
-        session: after,
+        kept: after,
         len: 0,
         at: reply.at,
         more: replay.more,
@@ -111,7 +111,7 @@ fn main() {
     let line: &mut [u8] = &mut line_space;
     let out: &mut [u8] = &mut out_space;
     let mut replay = Replay {
-        session: session::nothing_yet(),
+        kept: kept::nothing_yet(),
         len: 0,
         at: 0,
         more: true,

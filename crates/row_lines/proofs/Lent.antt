@@ -12,41 +12,41 @@ use lib.ListN.{length, take, drop, set, getD, drop-of-length-le}
 use lib.Seq.{take-all, take-suc-set}
 use Rattle.text.specs.Words.{same}
 use Rattle.text.proofs.WordLaws.{drop-next}
-use Rattle.row_lines.specs.RowAnswers.{filled}
+use Rattle.row_lines.specs.RowAnswers.{lentBytes}
 
--- what is filled from a place on
+-- what is lentBytes from a place on
 abbrev pub rest : ℕ → ℕ → ℕ → List ℕ
-rest fill n i = filled (fill + i) (n - i)
+rest fill n i = lentBytes (fill + i) (n - i)
 
-pub rest-all : (fill n : ℕ) → rest fill n 0 ≡ filled fill n
+pub rest-all : (fill n : ℕ) → rest fill n 0 ≡ lentBytes fill n
 rest-all fill n = let e : n - 0 ≡ n = omega arith in rw (e, add-zero)
 
 pub rest-next : (fill n i : ℕ) → i < n → rest fill n i ≡ (fill + i) % 256 ∷ rest fill n (i + 1)
-unfolding filled
+unfolding lentBytes
 rest-next fill n i h =
     let e : n - i ≡ suc (n - (i + 1)) = omega arith in
     let f : fill + i + 1 ≡ fill + (i + 1) = omega arith in
     rw (e, f)
 
 pub rest-none : (fill n i : ℕ) → n ≤ i → rest fill n i ≡ []
-unfolding filled
+unfolding lentBytes
 rest-none fill n i h = let e : n - i ≡ 0 = omega arith in rw e
 
-pub filled-length : (fill n : ℕ) → length (filled fill n) ≡ n
-unfolding filled
-filled-length fill zero = refl
-filled-length fill (suc n) = ap suc (filled-length (fill + 1) n)
+pub lent-length : (fill n : ℕ) → length (lentBytes fill n) ≡ n
+unfolding lentBytes
+lent-length fill zero = refl
+lent-length fill (suc n) = ap suc (lent-length (fill + 1) n)
 
 -- ---- filling
 
-pub filled-more : (bytes : List ℕ) (fill n i : ℕ) {whole : List ℕ} → i < n → length bytes ≡ n → take i bytes ++ rest fill n i ≡ whole
+pub lent-more : (bytes : List ℕ) (fill n i : ℕ) {whole : List ℕ} → i < n → length bytes ≡ n → take i bytes ++ rest fill n i ≡ whole
     → take (i + 1) (set bytes i ((fill + i) % 256)) ++ rest fill n (i + 1) ≡ whole
-filled-more bytes fill n i h l e =
+lent-more bytes fill n i h l e =
     let inside : i < length bytes = omega arith in
     rw (add-one i, take-suc-set bytes i ((fill + i) % 256) inside, append-assoc, ← (add-one i)) (rw (rest-next fill n i h) at e)
 
-pub filled-all : (bytes : List ℕ) (fill n i : ℕ) {whole : List ℕ} → n ≤ i → length bytes ≡ n → take i bytes ++ rest fill n i ≡ whole → bytes ≡ whole
-filled-all bytes fill n i h l e =
+pub lent-all : (bytes : List ℕ) (fill n i : ℕ) {whole : List ℕ} → n ≤ i → length bytes ≡ n → take i bytes ++ rest fill n i ≡ whole → bytes ≡ whole
+lent-all bytes fill n i h l e =
     sym (take-all i bytes (omega arith)) ∙ sym (append-nil (take i bytes)) ∙ (rw (rest-none fill n i h) at e)
 
 -- ---- comparing

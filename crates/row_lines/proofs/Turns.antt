@@ -12,16 +12,16 @@ use Rattle.rows.specs.declared.Row.{Row}
 use Rattle.rows.specs.declared.RowStepped.{RowStepped}
 use Rattle.rows.specs.Rows.{rowStepped, rowBytes}
 use Rattle.lamp_lines.specs.Answers.{statusText}
-use Rattle.row_lines.specs.RowAnswers.{filled, thenRow, lentText, says, freshPlace, stepWith, lampMissing}
-use Rattle.row_lines.proofs.Lent.{filled-length}
+use Rattle.row_lines.specs.RowAnswers.{lentBytes, thenRow, lentText, says, freshPlace, stepWith, lampMissing}
+use Rattle.row_lines.proofs.Lent.{lent-length}
 
--- a row call, by the slice as it was filled, and as it was left
+-- a row call, by the slice as it was lentBytes, and as it was left
 pub step-turn : (r : Row) (fill clock : ℕ) (given lent left : List ℕ) (stepped : RowStepped)
-    → lent ≡ filled fill (length given) → stepped ≡ rowStepped r (length lent) clock → left ≡ rowBytes r lent clock
+    → lent ≡ lentBytes fill (length given) → stepped ≡ rowStepped r (length lent) clock → left ≡ rowBytes r lent clock
     → stepWith r (length given) fill clock
     ≡ says (stepped .row) (statusText (stepped .number) ++ thenRow (stepped .row) ++ lentText (stepped .wait) left fill)
 unfolding stepWith
-step-turn r fill clock given lent left stepped e f g = rw (g, f, e, filled-length fill (length given))
+step-turn r fill clock given lent left stepped e f g = rw (g, f, e, lent-length fill (length given))
 
 -- the lamps of a fresh row are those that `new 153 500 31 0 0` makes
 pub fresh-made : making (record { min = 153; max = 500 }) 31 0 0 ≡ Made.Lamp freshPlace

@@ -4,7 +4,7 @@ use mathlib.Core.Bool.{Bool, cond, _||_}
 use mathlib.Core.List.{List, [], _∷_, _++_}
 use mathlib.Core.Path.{_≡_}
 use lib.Dec.{leb, ltb, eqb}
-use lib.ListN.{length, drop}
+use lib.ListN.{length, drop, replicate}
 use Rattle.tasks.specs.declared.GivenTask.{GivenTask}
 use Rattle.lamp.specs.declared.Answer.{Answer}
 use Rattle.lamp.specs.declared.Call.{Call}
@@ -85,20 +85,16 @@ unread r = says r (ascii "error")
 abbrev pub freshPlace : Lamp
 freshPlace = freshLamp (record { min = 153; max = 500 }) 31 0 0
 
-abbrev pub times : ℕ → Lamp → List Lamp
-times zero l = []
-times (suc n) l = l ∷ times n l
-
 -- "Above 32: the count is kept, and there are lamps at places 0 to 31"
 unfoldable pub freshRow : ℕ → Row
-freshRow count = rowOf count (times 32 freshPlace)
+freshRow count = rowOf count (replicate 32 freshPlace)
 
 -- ---- a row call
 
 -- "its byte i is (fill + i) modulo 256 beforehand"
-unfoldable pub filled : ℕ → ℕ → List ℕ
-filled fill zero = []
-filled fill (suc n) = fill % 256 ∷ filled (fill + 1) n
+unfoldable pub lentBytes : ℕ → ℕ → List ℕ
+lentBytes fill zero = []
+lentBytes fill (suc n) = fill % 256 ∷ lentBytes (fill + 1) n
 
 -- "two hexadecimal digits in small letters each, no blanks; `-` for one of length 0"
 unfoldable pub sliceText : List ℕ → List ℕ
@@ -106,7 +102,7 @@ sliceText bytes = cond (eqb (length bytes) 0) (ascii " -") (ascii " " ++ hexText
 
 -- "`kept`: byte for byte what was lent; `written`: not"
 unfoldable pub keptText : List ℕ → ℕ → List ℕ
-keptText bytes fill = cond (same bytes (filled fill (length bytes))) (ascii " kept") (ascii " written")
+keptText bytes fill = cond (same bytes (lentBytes fill (length bytes))) (ascii " kept") (ascii " written")
 
 -- | <wait> | <slice> | kept or written
 abbrev pub lentText : ℕ → List ℕ → ℕ → List ℕ
@@ -119,7 +115,7 @@ stepWith r size fill clock =
     let stepped : RowStepped = rowStepped r size clock in
     says (stepped .row)
     (statusText (stepped .number) ++ thenRow (stepped .row)
-    ++ lentText (stepped .wait) (rowBytes r (filled fill size) clock) fill)
+    ++ lentText (stepped .wait) (rowBytes r (lentBytes fill size) clock) fill)
 
 -- "at most 1024 (above: `error`)"
 unfoldable pub stepRow : Row → RowStep → Turn
@@ -128,9 +124,9 @@ stepRow r s = cond (ltb 1024 (s .size)) (unread r) (stepWith r (s .size) (s .fil
 -- ---- lines at a place
 
 -- "`startlast` where no task was given" is an error
-abbrev pub startOf : GivenTask → ℕ → Asked
-startOf GivenTask.Nothing clock = Asked.Nothing
-startOf (GivenTask.Given task) clock = Asked.Call (Call.Start task clock)
+abbrev pub lastStart : GivenTask → ℕ → Asked
+lastStart GivenTask.Nothing clock = Asked.Nothing
+lastStart (GivenTask.Given task) clock = Asked.Call (Call.Start task clock)
 
 -- single calls; "edits and looks from outside"; "`at <place> set`, `new`, `drive`, `leaf`: `error`"
 abbrev pub onLampAsked : OnLamp → Asked
@@ -143,7 +139,7 @@ onLampAsked (OnLamp.Set setting) = Asked.Nothing
 abbrev pub askedOf : Line → GivenTask → Asked
 askedOf (Line.Lamp l) last = Asked.Place l
 askedOf (Line.OnLamp what) last = onLampAsked what
-askedOf (Line.StartLast clock) last = startOf last clock
+askedOf (Line.StartLast clock) last = lastStart last clock
 askedOf (Line.New making) last = Asked.Nothing
 askedOf (Line.Ask leaf) last = Asked.Nothing
 askedOf Line.Help last = Asked.Nothing

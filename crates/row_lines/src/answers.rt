@@ -37,7 +37,7 @@ ghost use Rattle.text.specs.Words.{same};
 ghost use Rattle.text.specs.Written.{Written};
 ghost use Rattle.rows.specs.Rows.{rowOf};
 ghost use Rattle.lamp_lines.specs.Answers.{numberText, numbersText, lampNumbers, statusText, answerText};
-ghost use Rattle.row_lines.specs.RowAnswers.{summed, lampText, lampsText, rowText, thenRow, Turned, shownRow, unread, freshPlace, freshRow, filled, sliceText, keptText, lentText, stepWith, stepRow, startOf, onLampAsked, askedOf, lampAnswer, lampHidden, calledAt, lampMissing, editedAt, editedOn, answeredPlace, onRow};
+ghost use Rattle.row_lines.specs.RowAnswers.{summed, lampText, lampsText, rowText, thenRow, Turned, shownRow, unread, freshPlace, freshRow, lentBytes, sliceText, keptText, lentText, stepWith, stepRow, lastStart, onLampAsked, askedOf, lampAnswer, lampHidden, calledAt, lampMissing, editedAt, editedOn, answeredPlace, onRow};
 
 // The longest slice that is lent.
 const LONGEST: usize = 1024;
@@ -249,7 +249,7 @@ fn byte_at(from: u8, i: usize) -> u8
 }
 
 fn fill(bytes: &mut [u8], from: u8)
-    ensures { λ _. ⌜ now (bytes .exit) ≡ filled from (length (now (bytes .entry))) ⌝ }
+    ensures { λ _. ⌜ now (bytes .exit) ≡ lentBytes from (length (now (bytes .entry))) ⌝ }
 {
     let mut i = 0;
     while i < bytes.len() {
@@ -258,9 +258,9 @@ fn fill(bytes: &mut [u8], from: u8)
     }
 }
 
-// Whether every byte is as it was filled.
+// Whether every byte is as it was lentBytes.
 fn is_filled(bytes: &[u8], from: u8) -> bool
-    ensures { λ r. ⌜ r ≡ same (now (bytes .entry)) (filled from (length (now (bytes .entry)))) ⌝ }
+    ensures { λ r. ⌜ r ≡ same (now (bytes .entry)) (lentBytes from (length (now (bytes .entry)))) ⌝ }
 {
     let mut i = 0;
     while i < bytes.len() {
@@ -343,7 +343,7 @@ fn step(row: Row, asked: RowStep, out: &mut [u8], at: usize) -> RowTurn
 
 // A start of the task given last.
 fn start_of(last: GivenTask, clock: u64) -> Asked
-    ensures { λ r. ⌜ r ≡ startOf last clock ⌝ }
+    ensures { λ r. ⌜ r ≡ lastStart last clock ⌝ }
 {
     match last {
         GivenTask::Nothing => Asked::Nothing,

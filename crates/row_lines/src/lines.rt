@@ -7,7 +7,7 @@ ghost use mathlib.Core.Path.{_≡_};
 ghost use Rattle.text.specs.Readers.{Reads};
 ghost use Rattle.row_lines.specs.RowLines.{makeAt, countAt, stepRowAt, placeAt, lampLineAt, rowLineAt, rowLineRead};
 
-// A row call: the size of the slice that is lent, and the number that it is filled from.
+// A row call: the size of the slice that is lent, and the number that it is lentBytes from.
 pub struct RowStep {
     pub size: u16,
     pub fill: u8,

@@ -1,4 +1,4 @@
--- The lent slice after a row call, place by place: sixteen bytes of each lamp, then what stood behind.
+-- The caller's slice after a row call, place by place: sixteen bytes of each lamp, then what was behind them.
 use Prim.Native.Nat.{ℕ, zero, suc, _+_, _-_, _*_, _≤_, _<_}
 use mathlib.Core.List.{List, [], _∷_, _++_, append-assoc}
 use mathlib.Core.Path.{_≡_, refl, ap, _∙_}

@@ -13,36 +13,27 @@ use Rattle.lamp.specs.Answers.{firstCause}
 use Rattle.rows.specs.declared.Row.{Row}
 use Rattle.rows.specs.Rows.{placed, allValid, anyLater, rowCause, sliceCause, limitCause, visitsCause, placeCause}
 
--- no lamp's cause is above 8
-at-most : (av al b : Bool) → cond (not av) 8 (cond (al || b) 4 0) ≤ 8
-at-most false al b = omega arith
-at-most true true b = omega arith
-at-most true false true = omega arith
-at-most true false false = omega arith
-
 small : (b : Bool) → cond b 4 0 ≤ 4
 small true = omega arith
 small false = omega arith
 
+-- no lamp's cause is above 8
+at-most : (av al b : Bool) → cond (not av) 8 (cond (al || b) 4 0) ≤ 8
+at-most false al b = omega arith
+at-most true al b = omega (arith, small (al || b))
+
+-- the worst of a lamp's causes and of the others'
+worst : (v a av al b : Bool) →
+    max (cond (not v) 8 (cond (a || b) 4 0)) (cond (not av) 8 (cond (al || b) 4 0)) ≡ cond (not (v && av)) 8 (cond ((a || al) || b) 4 0)
+worst false a av al b = omega (arith, at-most av al b)
+worst true a false al b = omega (arith, small (a || b))
+worst true true true al b = omega (arith, small (al || b))
+worst true false true true b = omega (arith, small b)
+worst true false true false b = omega arith
+
 one-more : (v a b av al : Bool) (rest : ℕ) → max (cond b 4 0) rest ≡ cond (not av) 8 (cond (al || b) 4 0) →
     max (cond b 4 0) (max (cond (not v) 8 (cond (a || b) 4 0)) rest) ≡ cond (not (v && av)) 8 (cond ((a || al) || b) 4 0)
-one-more false a b av al rest e = omega (arith, e, at-most av al b, small b)
-one-more true true true true true rest e = omega (arith, e)
-one-more true true true true false rest e = omega (arith, e)
-one-more true true true false true rest e = omega (arith, e)
-one-more true true true false false rest e = omega (arith, e)
-one-more true true false true true rest e = omega (arith, e)
-one-more true true false true false rest e = omega (arith, e)
-one-more true true false false true rest e = omega (arith, e)
-one-more true true false false false rest e = omega (arith, e)
-one-more true false true true true rest e = omega (arith, e)
-one-more true false true true false rest e = omega (arith, e)
-one-more true false true false true rest e = omega (arith, e)
-one-more true false true false false rest e = omega (arith, e)
-one-more true false false true true rest e = omega (arith, e)
-one-more true false false true false rest e = omega (arith, e)
-one-more true false false false true rest e = omega (arith, e)
-one-more true false false false false rest e = omega (arith, e)
+one-more v a b av al rest e = omega (arith, e, worst v a av al b)
 
 -- the worst of the lamps' own causes and the limit's is the row's
 all-lamps : (clock : ℕ) (ls : List Lamp) →

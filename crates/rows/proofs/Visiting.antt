@@ -67,7 +67,7 @@ module _ (xs : List Lamp) (n i clock : ℕ) (h : i < n) (k : n ≤ length xs) (d
       → (done ++ visited (getD xs i d) clock .notices .places) ++ bytesOf clock (left n (i + 1) xs) ≡ whole
   bytes-more done e = append-assoc done (visited (getD xs i d) clock .notices .places) (bytesOf clock (left n (i + 1) xs)) ∙ (rw (left-cons xs n i d h k) at e)
 
--- what stands behind the bytes written is as it was
+-- the bytes behind those written are as they were
 pub behind-more : (at k : ℕ) (out out₀ last : List ℕ) → drop at out ≡ drop at out₀ → drop (at + k) last ≡ drop (at + k) out → drop (at + k) last ≡ drop (at + k) out₀
 behind-more at k out out₀ last e f = f ∙ sym (drop-drop k at out) ∙ ap (λ x. drop k x) e ∙ drop-drop k at out₀
 

@@ -27,13 +27,13 @@ use Rattle.rows.specs.declared.RowAnswer.{RowAnswer}
 abbrev pub rowOf : ℕ → List Lamp → Row
 rowOf count ls = record { count = count; lamps = ls }
 
--- the lamps that stand in the row
+-- the lamps of the row
 abbrev pub placed : Row → List Lamp
 placed r = take (r .count) (r .lamps)
 
 -- the row with these lamps
 abbrev pub withLamps : Row → List Lamp → Row
-withLamps r ls = record { count = r .count; lamps = ls }
+withLamps r ls = rowOf (r .count) ls
 
 -- ---- a row call
 
@@ -106,7 +106,7 @@ unfoldable pub rowStepped : Row → ℕ → ℕ → RowStepped
 rowStepped r size clock =
     cond (eqb (rowCause r size clock) accepted) (rowAfter r clock) (rowRefusal r (rowCause r size clock))
 
--- the lent slice after the call: "Bytes past the last place stay"
+-- the caller's slice after the call: "Bytes past the last place stay"
 unfoldable pub rowBytes : Row → List ℕ → ℕ → List ℕ
 rowBytes r out clock =
     cond (eqb (rowCause r (length out) clock) accepted) (bytesOf clock (placed r) ++ drop (16 * r .count) out) out
@@ -133,7 +133,7 @@ withAnswer r place a =
       wait = a .wait;
     }
 
--- what stands at a place that there is not
+-- for `getD`, at a place that there is not: no contract has it in an answer
 abbrev pub noLamp : Lamp
 noLamp =
     record {

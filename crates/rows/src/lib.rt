@@ -69,7 +69,7 @@ fn least(a: u64, b: u64) -> u64
     if a < b { a } else { b }
 }
 
-// Of two causes the one that is looked at first: 8 before 4, and either before none.
+// Of two causes the one that is checked first: 8 before 4, and either before none.
 fn first_of(a: u8, b: u8) -> u8
     ensures { λ r. ⌜ r ≡ max a b ⌝ }
 {
@@ -157,14 +157,14 @@ impl Row {
         }
     }
 
-    // What every call looks at first: whether the count is above the most.
+    // What every call checks first: whether the count is above the most.
     fn too_many(self) -> bool
         ensures { λ r. ⌜ r ≡ ltb 32 (self .count) ⌝ }
     {
         MOST < self.count
     }
 
-    // What is looked at before the lamps: the count, and the slice.
+    // What is checked before the lamps: the count, and the slice.
     fn slice_cause(self, size: usize) -> u8
         ensures { λ r. ⌜ r ≡ sliceCause self size ⌝ }
     {
@@ -211,9 +211,9 @@ impl Row {
     pub fn step(self, out: &mut [u8], clock: u64) -> RowStepped
         ensures { λ r. ⌜ (r ≡ rowStepped self (length (now (out .entry))) clock) × (now (out .exit) ≡ rowBytes self (now (out .entry)) clock) ⌝ }
     {
-        let short = self.slice_cause(out.len());
-        if short != ACCEPTED {
-            return self.refused(short);
+        let early = self.slice_cause(out.len());
+        if early != ACCEPTED {
+            return self.refused(early);
         }
         let mut bytes: [u8; 512] = [0; 512];
         let next = self.visit_all(&mut bytes, clock);
@@ -225,7 +225,7 @@ impl Row {
         next
     }
 
-    // What is looked at before the lamp: the count, and the place.
+    // What is checked before the lamp: the count, and the place.
     fn place_cause(self, place: u8) -> u8
         ensures { λ r. ⌜ r ≡ placeCause self place ⌝ }
     {

@@ -177,6 +177,11 @@ fn print_corners(corners: &Corners, all: bool) {
     }
 }
 
+/// Sixteen bytes in hexadecimal with a first notice and zeros at the end, as no other bytes of a script are likely to be.
+fn is_list(bytes: &[u8]) -> bool {
+    bytes.len() == 32 && &bytes[..2] != b"00" && &bytes[28..] == b"0000"
+}
+
 /// A line of a row: its kind, and how it was answered.
 fn count_of_row(counts: &mut Counts, text: &[u8], answer: &str) {
     let text = std::str::from_utf8(text).unwrap_or("?");
@@ -192,6 +197,16 @@ fn count_of_row(counts: &mut Counts, text: &[u8], answer: &str) {
     add(&mut counts.statuses, &format!("{whose}{status}"));
     if kind == "rowstep" && status == "ok" {
         let wait = answer.split(" | ").nth(2).unwrap_or("");
+        let slice = answer.split(" | ").nth(3).unwrap_or("");
+        let reporting = slice.as_bytes().chunks(32).filter(|b| is_list(b)).count();
+        let many = match reporting {
+            0 => "no place reports",
+            1 => "1 place reports",
+            2..=9 => "2 to 9 places report",
+            10..=30 => "10 to 30 places report",
+            _ => "31 or 32 places report",
+        };
+        add(&mut counts.row_calls, many);
         let end = if wait == "0" {
             "nothing runs on"
         } else {

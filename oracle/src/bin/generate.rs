@@ -231,8 +231,41 @@ impl Places {
         row_line!(self, "rowstep {size} {fill} {clock}");
     }
 
+    /// A row of many lamps, most of them running, and row calls until some have ended.
+    fn full_row(&mut self) {
+        let some = self.r.between(6, 32);
+        let count = self.r.pick(&[10, 31, 32, 32, some]);
+        row_line!(self, "row {count}");
+        let clock = self.r.below(2000);
+        for place in 0..count {
+            let late = clock + self.r.pick(&[0, 0, 0, 50, 99]);
+            let way = self.r.between(0, 131_070) as i64 - 65_535;
+            let ms = 100 * self.r.between(1, 12);
+            let rate = self.r.between(1, 300);
+            match self.r.below(8) {
+                0 => row_line!(
+                    self,
+                    "at {place} start loop 1 {} {late}",
+                    self.r.between(1, 3)
+                ),
+                1 => row_line!(self, "at {place} start hue_move 3 {rate} 1 {late}"),
+                2 => row_line!(self, "at {place} start sat_move 1 {} {late}", rate.min(255)),
+                3 => row_line!(self, "at {place} start ct_to {} {ms} {late}", 100 + rate),
+                4 => row_line!(self, "at {place} halt {late}"),
+                _ => row_line!(self, "at {place} start move_to {way} - {ms} 0 {late}"),
+            };
+        }
+        for _ in 0..self.r.between(4, 16) {
+            self.row_step();
+        }
+        self.look_elsewhere();
+    }
+
     /// What comes between two lines of a lamp.
     fn between(&mut self) {
+        if self.r.one_in(300) {
+            self.full_row();
+        }
         match self.r.below(40) {
             0..=21 => self.row_step(),
             22..=25 => self.look_elsewhere(),

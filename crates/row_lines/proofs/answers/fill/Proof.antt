@@ -1,17 +1,17 @@
--- What is filled, with what is left to fill, is the whole.
+-- What is lentBytes, with what is left to fill, is the whole.
 use Prim.Native.Nat.{_+_, _≤_, _-_}
 use mathlib.Core.Path.{_≡_, refl}
 use mathlib.Core.List.{_++_}
 use lib.ListN.{length, take, length-set}
-use Rattle.row_lines.specs.RowAnswers.{filled}
-use Rattle.row_lines.proofs.Lent.{rest, rest-all, filled-more, filled-all}
+use Rattle.row_lines.specs.RowAnswers.{lentBytes}
+use Rattle.row_lines.proofs.Lent.{rest, rest-all, lent-more, lent-all}
 use borrow.Author.Needs.{needs}
 use Rattle.row_lines.proofs.answers.fill.Statement.{statement}
 use Rattle.row_lines.proofs.answers.fill.Tie as tie
 
 abbrev Inv-loop : tie.InvT-loop
 Inv-loop bytes₀ from i₀ bytes i =
-    (i ≤ length bytes₀) × (length bytes ≡ length bytes₀) × (take i bytes ++ rest from (length bytes₀) i ≡ filled from (length bytes₀))
+    (i ≤ length bytes₀) × (length bytes ≡ length bytes₀) × (take i bytes ++ rest from (length bytes₀) i ≡ lentBytes from (length bytes₀))
 
 abbrev μ-loop : tie.MeasureT-loop
 μ-loop bytes₀ from i₀ bytes i = length bytes₀ - i
@@ -37,7 +37,7 @@ loop-again c =
     let a = l .before .before .args in (
       search needs,
       simp length-set (l .loop .inv .1),
-      rw (c .byte-at .ensures) (filled-more (l .loop .bytes) (a .from) (length (a .bytes .now)) (l .loop .i) (search needs) (l .loop .inv .1) (l .loop .inv .2)),
+      rw (c .byte-at .ensures) (lent-more (l .loop .bytes) (a .from) (length (a .bytes .now)) (l .loop .i) (search needs) (l .loop .inv .1) (l .loop .inv .2)),
     )
 
 same-length : tie.Need-same-length Inv-loop μ-loop
@@ -47,7 +47,7 @@ returns : tie.Need-returns Inv-loop μ-loop
 returns c =
     let l = c .before in
     let a = l .before .before .args in
-    filled-all (l .loop .bytes) (a .from) (length (a .bytes .now)) (l .loop .i) (search needs) (l .loop .inv .1) (l .loop .inv .2)
+    lent-all (l .loop .bytes) (a .from) (length (a .bytes .now)) (l .loop .i) (search needs) (l .loop .inv .1) (l .loop .inv .2)
 
 pub fill-spec : {M : Type 1} → statement M
 fill-spec =

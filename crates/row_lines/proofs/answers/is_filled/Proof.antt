@@ -3,14 +3,14 @@ use Prim.Native.Nat.{_≤_, _-_}
 use mathlib.Core.Path.{_≡_, ap, sym, _∙_}
 use lib.ListN.{length, drop}
 use Rattle.text.specs.Words.{same}
-use Rattle.row_lines.specs.RowAnswers.{filled}
+use Rattle.row_lines.specs.RowAnswers.{lentBytes}
 use Rattle.row_lines.proofs.Lent.{rest, rest-all, same-more, same-not, same-all}
 use borrow.Author.Needs.{needs}
 use Rattle.row_lines.proofs.answers.is_filled.Statement.{statement}
 use Rattle.row_lines.proofs.answers.is_filled.Tie as tie
 
 abbrev Inv-loop : tie.InvT-loop
-Inv-loop bytes from i₀ i = (i ≤ length bytes) × (same (drop i bytes) (rest from (length bytes) i) ≡ same bytes (filled from (length bytes)))
+Inv-loop bytes from i₀ i = (i ≤ length bytes) × (same (drop i bytes) (rest from (length bytes) i) ≡ same bytes (lentBytes from (length bytes)))
 
 abbrev μ-loop : tie.MeasureT-loop
 μ-loop bytes from i₀ i = length bytes - i

@@ -17,20 +17,20 @@ use text::writer;
 const LONGEST: usize = 4095;
 
 // The lamp and the task given last, and the row, where there is one.
-pub struct Session {
+pub struct Kept {
     pub state: State,
     pub has_row: bool,
     pub row: Row,
 }
 
-// The session after a line, and the place after its answer.
+// What is kept after a line, and the place after its answer.
 pub struct Reply {
-    pub session: Session,
+    pub kept: Kept,
     pub at: usize,
 }
 
-pub(crate) fn nothing_yet() -> Session {
-    Session {
+pub(crate) fn nothing_yet() -> Kept {
+    Kept {
         state: state::nothing_yet(),
         has_row: false,
         row: answers::fresh_row(0),
@@ -47,7 +47,7 @@ fn with_task(state: State, task: GivenTask) -> State {
 fn with_row(state: State, turn: RowTurn, task: GivenTask) -> Reply {
     let row = turn.row;
     Reply {
-        session: Session {
+        kept: Kept {
             state: with_task(state, task),
             has_row: true,
             row: row,
@@ -57,45 +57,45 @@ fn with_row(state: State, turn: RowTurn, task: GivenTask) -> Reply {
 }
 
 // A new row: the task that was given last is forgotten.
-fn make_row(session: Session, count: u8, out: &mut [u8], at: usize) -> Reply {
-    let before = session.state;
+fn make_row(kept: Kept, count: u8, out: &mut [u8], at: usize) -> Reply {
+    let before = kept.state;
     with_row(before, answers::make(count, out, at), GivenTask::Nothing)
 }
 
 // The lamp's turn, beside the row that there is.
-fn with_turn(session: Session, turn: Turn) -> Reply {
+fn with_turn(kept: Kept, turn: Turn) -> Reply {
     let after = turn.state;
     Reply {
-        session: Session {
+        kept: Kept {
             state: after,
-            ..session
+            ..kept
         },
         at: turn.at,
     }
 }
 
-fn on_row(session: Session, what: OnRow, out: &mut [u8], at: usize) -> Reply {
-    let before = session.state;
-    if !session.has_row {
-        return with_turn(session, state::error(before, out, at));
+fn on_row(kept: Kept, what: OnRow, out: &mut [u8], at: usize) -> Reply {
+    let before = kept.state;
+    if !kept.has_row {
+        return with_turn(kept, state::error(before, out, at));
     }
-    let row = session.row;
+    let row = kept.row;
     let last = before.task;
     let turn = answers::on_row(row, what, last, out, at);
     let given = turn.task;
     with_row(before, turn, state::last_task(last, given))
 }
 
-fn on_lamp(session: Session, line: Line, out: &mut [u8], at: usize) -> Reply {
-    let before = session.state;
-    with_turn(session, state::run(before, line, out, at))
+fn on_lamp(kept: Kept, line: Line, out: &mut [u8], at: usize) -> Reply {
+    let before = kept.state;
+    with_turn(kept, state::run(before, line, out, at))
 }
 
-fn run(session: Session, line: RowLine, out: &mut [u8], at: usize) -> Reply {
+fn run(kept: Kept, line: RowLine, out: &mut [u8], at: usize) -> Reply {
     match line {
-        RowLine::Make(count) => make_row(session, count, out, at),
-        RowLine::OnRow(what) => on_row(session, what, out, at),
-        RowLine::Lamp(line) => on_lamp(session, line, out, at),
+        RowLine::Make(count) => make_row(kept, count, out, at),
+        RowLine::OnRow(what) => on_row(kept, what, out, at),
+        RowLine::Lamp(line) => on_lamp(kept, line, out, at),
     }
 }
 
@@ -116,14 +116,11 @@ fn is_silent(line: &[u8]) -> bool {
 }
 
 // One line, and the newline behind its answer.
-pub(crate) fn answer(session: Session, line: &[u8], out: &mut [u8], at: usize) -> Reply {
+pub(crate) fn answer(kept: Kept, line: &[u8], out: &mut [u8], at: usize) -> Reply {
     if is_silent(line) {
-        return Reply {
-            session: session,
-            at: at,
-        };
+        return Reply { kept: kept, at: at };
     }
-    let mut reply = run(session, read(line), out, at);
+    let mut reply = run(kept, read(line), out, at);
     reply.at = writer::byte(out, reply.at, b'\n');
     reply
 }
