@@ -31,7 +31,7 @@ use Rattle.rows.proofs.Visiting.{step-number}
 use Rattle.row_schedule.specs.RowCalls.{RowCall, each, afterRow}
 use Rattle.row_schedule.specs.RowClaim.{RowValid}
 use Rattle.row_schedule.proofs.Lists.{after-row-append, its-calls, kept-after}
-use Rattle.row_schedule.proofs.Keeps.{stands, in-range-append}
+use Rattle.row_schedule.proofs.Keeps.{in-row, in-range-append}
 use Rattle.row_consequences.specs.RowTogether.{FadeAt, RowTogether}
 
 -- ---- the clock of a lamp never goes back
@@ -165,7 +165,7 @@ lamp-is : (r : Row) (calls : List RowCall) (size clock k : ℕ) (e : Fade) → R
     × (lampAt (afterRow r (calls ++ (each size clock ∷ []))) k ≡ next (later e (e .calls)) (Call.Step clock))
 unfolding afterRow
 lamp-is r calls size clock k e valid a z =
-    let s = stands r valid k (a .there) in
+    let s = in-row r valid k (a .there) in
     let now = kept-after k r calls s in
     let same : lampAt (afterRow r calls) k ≡ later e (e .calls) =
     its-calls k r calls s ∙ rw (a .lamp, a .given) (list-later e)

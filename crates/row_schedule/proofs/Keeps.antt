@@ -17,7 +17,7 @@ use Rattle.schedule.proofs.Keeps.{keeps-schedule}
 use Rattle.rows.specs.declared.Row.{Row}
 use Rattle.rows.specs.Rows.{lampAt, visited, answeredAt, rowCause, rowStepped, rowBytes, leastWait, noLamp}
 use Rattle.rows.specs.RowTable.{AnswersAs}
-use Rattle.rows.proofs.Laws.{Stands, either, visited-step, single-is}
+use Rattle.rows.proofs.Laws.{InRow, either, visited-step, single-is}
 use Rattle.rows.proofs.Bytes.{sixteenAt, bytes-at}
 use Rattle.row_schedule.specs.RowCalls.{RowCall, each, at, nextRow, afterRow, givenBy, given, InRangeRowCall, InRangeRowCalls}
 use Rattle.row_schedule.specs.RowClaim.{RowValid, RowClaim, own, owns, stepBytes}
@@ -50,17 +50,17 @@ step-bytes l clock =
     either (runs (l .running)) (λ e. rw e) (λ e. rw (e, ← visited-step l clock .1, e))
 
 module _ (r : Row) (valid : RowValid r) (k : ℕ) (h : k < r .count) where
-  pub stands : Stands k r
-  stands = record { there = h; room = record { few = valid .count; places = valid .places } }
+  pub in-row : InRow k r
+  in-row = record { there = h; room = record { few = valid .count; places = valid .places } }
 
   single-after : (ys : List RowCall) (x : Call) → AnswersAs (answeredAt (afterRow r ys) k x) (answer (own k r ys) x)
-  single-after ys x = rw (its-calls k r ys stands) at (single-is (afterRow r ys) k x (kept-after k r ys stands))
+  single-after ys x = rw (its-calls k r ys in-row) at (single-is (afterRow r ys) k x (kept-after k r ys in-row))
 
   bytes-after : (ys : List RowCall) (clock : ℕ) (out : List ℕ) → rowCause (afterRow r ys) (length out) clock ≡ 0 →
       sixteenAt k (rowBytes (afterRow r ys) out clock) ≡ stepBytes (own k r ys) clock
   bytes-after ys clock out e =
-      bytes-at (afterRow r ys) out clock k (kept-after k r ys stands) e
-      ∙ ap (λ l. answer l (Call.Step clock) .notices .places) (its-calls k r ys stands)
+      bytes-at (afterRow r ys) out clock k (kept-after k r ys in-row) e
+      ∙ ap (λ l. answer l (Call.Step clock) .notices .places) (its-calls k r ys in-row)
       ∙ step-bytes (own k r ys) clock
 
 -- ---- the lamps of the row are those that their own calls leave
@@ -83,7 +83,7 @@ module _ (r : Row) (valid : RowValid r) (ys : List RowCall) where
   each-own : (n j : ℕ) → j + n ≤ r .count → fromPlace n j (afterRow r ys .lamps) ≡ owns n j r ys
   each-own zero j h = refl
   each-own (suc n) j h =
-      rw (its-calls j r ys (stands r valid j (omega arith)), each-own n (suc j) (omega arith))
+      rw (its-calls j r ys (in-row r valid j (omega arith)), each-own n (suc j) (omega arith))
 
   module _ (k : ℕ) (h : k < r .count) where
     wait-is : (size clock : ℕ) → rowCause (afterRow r ys) size clock ≡ 0 →
@@ -91,7 +91,7 @@ module _ (r : Row) (valid : RowValid r) (ys : List RowCall) where
     unfolding rowStepped
     wait-is size clock e =
         let later = afterRow r ys in
-        let kept = kept-after k r ys (stands r valid k h) in
+        let kept = kept-after k r ys (in-row r valid k h) in
         let count : later .count ≡ r .count = count-after r ys in
         rw e (ap (leastWait clock) (take-places (later .count) (later .lamps) (omega (arith, kept .room .few, kept .room .places))
         ∙ ap (λ n. fromPlace n 0 (later .lamps)) count ∙ each-own (r .count) 0 (omega arith)))
@@ -101,7 +101,7 @@ row-keeps r calls valid t k h small =
     record {
       tied =
           record {
-            lamp = λ ys zs e. its-calls k r ys (stands r valid k h);
+            lamp = λ ys zs e. its-calls k r ys (in-row r valid k h);
             single = λ ys x zs e. single-after r valid k h ys x;
             bytes = λ ys clock out zs e a. bytes-after r valid k h ys clock out a;
             wait = λ ys size clock zs e a. wait-is r valid ys k h size clock a;

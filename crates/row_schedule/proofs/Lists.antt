@@ -19,7 +19,7 @@ use Rattle.rows.specs.declared.Row.{Row}
 use Rattle.rows.specs.Rows.{mapTo, visited, noLamp, lampAt, allValid, rowCause, rowStepped, placeCause, answeredAt, withLamps}
 use Rattle.rows.proofs.Causes.{place-there}
 use Rattle.rows.proofs.Visiting.{length-mapTo}
-use Rattle.rows.proofs.Laws.{Stands, either, visited-step, row-lamp, row-past, single-lamp, single-others, single-count}
+use Rattle.rows.proofs.Laws.{InRow, either, visited-step, row-lamp, row-past, single-lamp, single-others, single-count}
 use Rattle.row_schedule.specs.RowClaim.{RowValid}
 use Rattle.row_schedule.specs.RowCalls.{RowCall, each, at, nextRow, afterRow, givenBy, given}
 
@@ -43,7 +43,7 @@ unfolding answeredAt
 at-no r place x e = simp (nextRow, e)
 
 -- one call: the lamp at k after it
-one-each : (k : ℕ) (r : Row) (size clock : ℕ) → Stands k r →
+one-each : (k : ℕ) (r : Row) (size clock : ℕ) → InRow k r →
     lampAt (nextRow r (each size clock)) k ≡ after (lampAt r k) (givenBy k r (each size clock))
 unfolding after
 one-each k r size clock h =
@@ -51,26 +51,26 @@ one-each k r size clock h =
     (λ e. rw e (row-lamp r size clock k h (eqb-true _ _ e)))
     (λ e. ap (λ (q : Row). lampAt q k) (each-no r size clock e) ∙ rw e)
 
-one-at : (k : ℕ) (r : Row) (place : ℕ) (x : Call) → Stands k r → lampAt (nextRow r (at place x)) k ≡ after (lampAt r k) (givenBy k r (at place x))
+one-at : (k : ℕ) (r : Row) (place : ℕ) (x : Call) → InRow k r → lampAt (nextRow r (at place x)) k ≡ after (lampAt r k) (givenBy k r (at place x))
 unfolding after
 one-at k r place x h =
     either (eqb place k)
     (λ f. rw f (ap (λ (p : ℕ). lampAt (answeredAt r p x .row) k) (eqb-true place k f) ∙ single-lamp r k x h))
     (λ f. rw f (single-others r place k x (λ q. eqb-false place k f (sym q))))
 
-one : (k : ℕ) (r : Row) (x : RowCall) → Stands k r → lampAt (nextRow r x) k ≡ after (lampAt r k) (givenBy k r x)
+one : (k : ℕ) (r : Row) (x : RowCall) → InRow k r → lampAt (nextRow r x) k ≡ after (lampAt r k) (givenBy k r x)
 one k r (each size clock) h = one-each k r size clock h
 one k r (at place x) h = one-at k r place x h
 
-kept : (k : ℕ) (r : Row) (x : RowCall) → Stands k r → Stands k (nextRow r x)
+kept : (k : ℕ) (r : Row) (x : RowCall) → InRow k r → InRow k (nextRow r x)
 kept k r (each size clock) h =
     either (eqb (rowCause r size clock) 0)
-    (λ e. subst (Stands k) (sym (each-yes r size clock e)) (record { there = h .there; room = record { few = h .room .few; places = simp length-mapTo (h .room .places) } }))
-    (λ e. subst (Stands k) (sym (each-no r size clock e)) h)
+    (λ e. subst (InRow k) (sym (each-yes r size clock e)) (record { there = h .there; room = record { few = h .room .few; places = simp length-mapTo (h .room .places) } }))
+    (λ e. subst (InRow k) (sym (each-no r size clock e)) h)
 kept k r (at place x) h =
     either (eqb (placeCause r place) 0)
-    (λ e. subst (Stands k) (sym (at-yes r place x e)) (record { there = h .there; room = record { few = h .room .few; places = simp length-set (h .room .places) } }))
-    (λ e. subst (Stands k) (sym (at-no r place x e)) h)
+    (λ e. subst (InRow k) (sym (at-yes r place x e)) (record { there = h .there; room = record { few = h .room .few; places = simp length-set (h .room .places) } }))
+    (λ e. subst (InRow k) (sym (at-no r place x e)) h)
 
 -- no call changes the count
 count-one : (r : Row) (x : RowCall) → nextRow r x .count ≡ r .count
@@ -83,12 +83,12 @@ unfolding afterRow
 count-after r [] = refl
 count-after r (x ∷ xs) = count-after (nextRow r x) xs ∙ count-one r x
 
-pub kept-after : (k : ℕ) (r : Row) (xs : List RowCall) → Stands k r → Stands k (afterRow r xs)
+pub kept-after : (k : ℕ) (r : Row) (xs : List RowCall) → InRow k r → InRow k (afterRow r xs)
 unfolding afterRow
 kept-after k r [] h = h
 kept-after k r (x ∷ xs) h = kept-after k (nextRow r x) xs (kept k r x h)
 
-pub its-calls : (k : ℕ) (r : Row) (xs : List RowCall) → Stands k r → lampAt (afterRow r xs) k ≡ after (lampAt r k) (given k r xs)
+pub its-calls : (k : ℕ) (r : Row) (xs : List RowCall) → InRow k r → lampAt (afterRow r xs) k ≡ after (lampAt r k) (given k r xs)
 unfolding afterRow given after
 its-calls k r [] h = refl
 its-calls k r (x ∷ xs) h =
@@ -96,7 +96,7 @@ its-calls k r (x ∷ xs) h =
     ∙ ap (λ l. after l (given k (nextRow r x) xs)) (one k r x h)
     ∙ sym (after-append (lampAt r k) (givenBy k r x) (given k (nextRow r x) xs))
 
--- ---- a row in form stays in form
+-- ---- a valid row stays valid
 
 all-visited : (clock n : ℕ) (xs : List Lamp) → allValid (take n xs) ≡ true →
     allValid (take n (mapTo n (λ l. visited l clock .lamp) xs)) ≡ true
@@ -153,7 +153,7 @@ given-append k r (x ∷ xs) ys =
 
 -- ---- lamps in equal state that are given equal calls stay equal: ten that are started alike, and then row calls
 
-pub stay-equal : (r : Row) (j k : ℕ) (xs : List RowCall) → Stands j r → Stands k r → lampAt r j ≡ lampAt r k →
+pub stay-equal : (r : Row) (j k : ℕ) (xs : List RowCall) → InRow j r → InRow k r → lampAt r j ≡ lampAt r k →
     given j r xs ≡ given k r xs → lampAt (afterRow r xs) j ≡ lampAt (afterRow r xs) k
 stay-equal r j k xs a b same e = its-calls j r xs a ∙ rw (same, e) (sym (its-calls k r xs b))
 

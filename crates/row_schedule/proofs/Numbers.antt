@@ -1,4 +1,4 @@
--- From a row in form: the numbers that never come up, whatever the calls; and the row stays typed.
+-- From a valid row: the numbers that never occur, whatever the calls; and the row stays in range.
 use Prim.Native.Nat.{ℕ, _*_, _<_}
 use mathlib.Core.Bool.{Bool, true, false, cond, not, _||_}
 use mathlib.Core.List.{List}
@@ -26,9 +26,9 @@ use Rattle.rows.proofs.RowTable.{table-of-rows}
 use Rattle.row_schedule.specs.RowCalls.{RowCall, each, at, afterRow, InRangeRowCalls}
 use Rattle.row_schedule.specs.RowClaim.{RowValid}
 use Rattle.row_schedule.proofs.Lists.{each-valid, row-valid-after, its-calls, count-after}
-use Rattle.row_schedule.proofs.Keeps.{stands, given-in-range}
+use Rattle.row_schedule.proofs.Keeps.{in-row, given-in-range}
 
--- a lamp in form refuses nothing with 8
+-- a valid lamp refuses nothing with 8
 valid-no-8 : (l : Lamp) (x : Call) → lampValid l ≡ true → cause l x ≡ 8 → ⊥
 valid-no-8 l (Call.Command r onOff clock) v e =
     let t = table .commands l clock r onOff in
@@ -70,7 +70,7 @@ valid-row-no-8 r (at place x) v e =
     valid-no-8 (lampAt r place) x (each-valid (r .count) place (r .lamps) (v .lamps) there (omega (arith, v .places, v .count)))
     (sym (number-is-cause (lampAt r place) x) ∙ sym (t .own (v .count) there .number) ∙ e))
 
--- 8 never comes up in any list of calls
+-- 8 never occurs in any list of calls
 pub never-8 : (r : Row) (ys : List RowCall) (x : RowCall) → RowValid r → numberOf (afterRow r ys) x ≡ 8 → ⊥
 never-8 r ys x v = valid-row-no-8 (afterRow r ys) x (row-valid-after r ys v)
 
@@ -90,4 +90,4 @@ pub row-in-range-after : (r : Row) (ys : List RowCall) → RowValid r → InRang
 row-in-range-after r ys v t w k h =
     let there : k < r .count = omega (arith, count-after r ys, h) in
     let valid = each-valid (r .count) k (r .lamps) (v .lamps) there (omega (arith, v .places, v .count)) in
-    subst InRangeLamp (sym (its-calls k r ys (stands r v k there))) (in-range-after (lampAt r k) _ valid (w k there) (given-in-range k r ys t))
+    subst InRangeLamp (sym (its-calls k r ys (in-row r v k there))) (in-range-after (lampAt r k) _ valid (w k there) (given-in-range k r ys t))

@@ -10,7 +10,7 @@ use Rattle.lamp.specs.InRange.{InRangeCall}
 use Rattle.rows.specs.declared.Row.{Row}
 use Rattle.rows.specs.Rows.{rowCause, rowStepped, answeredAt}
 
--- a row call with a lent slice of so many bytes, and a call at a place
+-- a row call with a slice of so many bytes, and a call at a place
 pub data RowCall : Type 0 where
   each : (size clock : ℕ) → RowCall
   at : (place : ℕ) → Call → RowCall

@@ -19,7 +19,7 @@ use Rattle.rows.specs.Rows.{lampAt, placed, allValid, rowCause, rowStepped, row
 use Rattle.rows.specs.RowTable.{AnswersAs}
 use Rattle.row_schedule.specs.RowCalls.{RowCall, each, at, afterRow, given, InRangeRowCalls}
 
--- a row in form, of 32 places
+-- a valid row, of 32 places
 pub record RowValid (r : Row) : Type 0 where
   pub places : length (r .lamps) ≡ 32
   pub count : r .count ≤ 32

@@ -15,7 +15,7 @@ use Rattle.commands.proofs.Table.{table}
 use Rattle.rows.specs.declared.Row.{Row}
 use Rattle.rows.specs.Rows.{noLamp, lampAt, placed, visited, bytesOf, rowCause, rowBytes}
 use Rattle.rows.proofs.Causes.{slice-fits}
-use Rattle.rows.proofs.Laws.{Stands, Room, either, visited-step, accepted-slice, accepted-few, placed-many}
+use Rattle.rows.proofs.Laws.{InRow, Room, either, visited-step, accepted-slice, accepted-few, placed-many}
 
 -- the sixteen bytes of a place
 abbrev pub sixteenAt : ℕ → List ℕ → List ℕ
@@ -47,7 +47,7 @@ place-bytes clock (suc k) (l ∷ ls) rest h =
     (place-bytes clock k ls rest (omega arith))
 
 -- an accepted row call writes at each place what that lamp's own step reports, an idle one's nothing
-pub bytes-at : (r : Row) (out : List ℕ) (clock k : ℕ) → Stands k r → rowCause r (length out) clock ≡ 0 →
+pub bytes-at : (r : Row) (out : List ℕ) (clock k : ℕ) → InRow k r → rowCause r (length out) clock ≡ 0 →
     sixteenAt k (rowBytes r out clock) ≡ answer (lampAt r k) (Call.Step clock) .notices .places
 unfolding rowBytes
 bytes-at r out clock k h e =

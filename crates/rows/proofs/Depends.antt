@@ -7,13 +7,13 @@ use Rattle.lamp.specs.declared.Call.{Call}
 use Rattle.commands.specs.Answers.{answer}
 use Rattle.rows.specs.declared.Row.{Row}
 use Rattle.rows.specs.Rows.{lampAt, rowCause, rowStepped, rowBytes, answeredAt}
-use Rattle.rows.proofs.Laws.{Stands, row-lamp, single-is, single-lamp, single-others}
+use Rattle.rows.proofs.Laws.{InRow, row-lamp, single-is, single-lamp, single-others}
 use Rattle.rows.proofs.Bytes.{sixteenAt, bytes-at}
 
 -- two rows with the same lamp at a place: the other lamps and the count are free
 pub record AgreeAt (k : ℕ) (r q : Row) : Type 0 where
-  pub left : Stands k r
-  pub right : Stands k q
+  pub left : InRow k r
+  pub right : InRow k q
   pub same : lampAt r k ≡ lampAt q k
 
 -- a row call that both accept, whatever slices are lent: the same record there, and the same sixteen bytes

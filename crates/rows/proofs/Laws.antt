@@ -32,11 +32,11 @@ pub record Room (r : Row) : Type 0 where
   pub few : r .count ≤ 32
   pub places : length (r .lamps) ≡ 32
 
-pub record Stands (k : ℕ) (r : Row) : Type 0 where
+pub record InRow (k : ℕ) (r : Row) : Type 0 where
   pub there : k < r .count
   pub room : Room r
 
-in-array : (k : ℕ) (r : Row) → Stands k r → k < length (r .lamps)
+in-array : (k : ℕ) (r : Row) → InRow k r → k < length (r .lamps)
 in-array k r h = omega (arith, h .there, h .room .few, h .room .places)
 
 pub either : {A : Type 0} (b : Bool) → (b ≡ true → A) → (b ≡ false → A) → A
@@ -101,7 +101,7 @@ accepted-lamps r size clock e = omega (arith, lamps-next r size clock (accepted-
 pub placed-many : (r : Row) → Room r → length (placed r) ≡ r .count
 placed-many r h = length-take-le (r .count) (r .lamps) (omega (arith, h .few, h .places))
 
-pub accepted-first : (r : Row) (size clock k : ℕ) → Stands k r → rowCause r size clock ≡ 0 → firstCause (lampAt r k) clock ≡ 0
+pub accepted-first : (r : Row) (size clock k : ℕ) → InRow k r → rowCause r size clock ≡ 0 → firstCause (lampAt r k) clock ≡ 0
 accepted-first r size clock k h e =
     ap (λ l. firstCause l clock) (sym (getD-take (r .count) (r .lamps) k noLamp (h .there)))
     ∙ none-worst clock k (placed r) (accepted-lamps r size clock e) (omega (arith, placed-many r (h .room), h .there))
@@ -119,13 +119,13 @@ first-none l clock e =
     let f = clock-good (lampValid l) (ltb clock (l .clock)) (ltb clockLimit clock) e in
     (ltb-false clock (l .clock) (f .0), ltb-false clockLimit clock (f .1))
 
-pub own-step : (r : Row) (size clock k : ℕ) → Stands k r → rowCause r size clock ≡ 0 → runs (lampAt r k .running) ≡ true →
+pub own-step : (r : Row) (size clock k : ℕ) → InRow k r → rowCause r size clock ≡ 0 → runs (lampAt r k .running) ≡ true →
     answer (lampAt r k) (Call.Step clock) .number ≡ 0
 unfolding answer
 own-step r size clock k h e running = step-number (lampAt r k) clock running ∙ accepted-first r size clock k h e
 
 -- the lamp at a place after an accepted row call is what its own step leaves
-pub row-lamp : (r : Row) (size clock k : ℕ) → Stands k r → rowCause r size clock ≡ 0 →
+pub row-lamp : (r : Row) (size clock k : ℕ) → InRow k r → rowCause r size clock ≡ 0 →
     lampAt (rowStepped r size clock .row) k ≡ answer (lampAt r k) (Call.Step clock) .lamp
 unfolding rowStepped
 row-lamp r size clock k h e =
@@ -172,7 +172,7 @@ row-accepts r size clock h fits low f =
 
 -- ---- the row call is the single steps of its places, one after another in rising place
 
-pub no-cause : (r : Row) (k : ℕ) → Stands k r → placeCause r k ≡ 0
+pub no-cause : (r : Row) (k : ℕ) → InRow k r → placeCause r k ≡ 0
 unfolding placeCause
 no-cause r k h = rw (le-ltb 32 (r .count) (h .room .few), lt-leb (r .count) k (h .there))
 
@@ -187,7 +187,7 @@ module _ (clock : ℕ) where
   one-more : (n : ℕ) (xs : List Lamp) → set (mapTo n visit xs) n (visit (getD (mapTo n visit xs) n noLamp)) ≡ mapTo (suc n) visit xs
   one-more n xs = rw (past-stays visit n n xs noLamp (omega arith)) (step-mapTo n visit xs noLamp)
 
-  at-place : (r : Row) (k : ℕ) → Stands k r →
+  at-place : (r : Row) (k : ℕ) → InRow k r →
       answeredAt r k (Call.Step clock) .row ≡ withLamps r (set (r .lamps) k (visit (lampAt r k)))
   unfolding answeredAt
   at-place r k h = rw (no-cause r k h, visited-step (lampAt r k) clock .0)
@@ -211,13 +211,13 @@ module _ (clock : ℕ) where
 
 -- ---- a single call is the lamp's own answer at that place, with every other lamp and the count as they were
 
-pub single-is : (r : Row) (k : ℕ) (x : Call) → Stands k r → AnswersAs (answeredAt r k x) (answer (lampAt r k) x)
+pub single-is : (r : Row) (k : ℕ) (x : Call) → InRow k r → AnswersAs (answeredAt r k x) (answer (lampAt r k) x)
 unfolding answeredAt
 single-is r k x h =
     let e = no-cause r k h in
     record { number = rw e; notices = rw e; task = rw e; wait = rw e }
 
-pub single-lamp : (r : Row) (k : ℕ) (x : Call) → Stands k r → lampAt (answeredAt r k x .row) k ≡ answer (lampAt r k) x .lamp
+pub single-lamp : (r : Row) (k : ℕ) (x : Call) → InRow k r → lampAt (answeredAt r k x .row) k ≡ answer (lampAt r k) x .lamp
 unfolding answeredAt
 single-lamp r k x h = rw (no-cause r k h) (getD-set-same (r .lamps) k (answer (lampAt r k) x .lamp) noLamp (in-array k r h))
 
@@ -247,7 +247,7 @@ single-refused r k x n =
 pub made : (count : ℕ) (ls : List Lamp) → (rowOf count ls .count ≡ count) × (rowOf count ls .lamps ≡ ls)
 made count ls = (refl, refl)
 
-pub put-in : (r : Row) (k : ℕ) (l : Lamp) → Stands k r →
+pub put-in : (r : Row) (k : ℕ) (l : Lamp) → InRow k r →
     (lampAt (putAt r k l) k ≡ l) × (putAt r k l .count ≡ r .count) × ((j : ℕ) → (j ≡ k → ⊥) → lampAt (putAt r k l) j ≡ lampAt r j)
 unfolding putAt
 put-in r k l h =

@@ -16,19 +16,19 @@ use Rattle.commands.proofs.Table.{table}
 use Rattle.commands.proofs.Ties.{ties}
 use Rattle.rows.specs.declared.Row.{Row}
 use Rattle.rows.specs.Rows.{lampAt, rowCause, rowBytes, placeCause, answeredAt}
-use Rattle.rows.proofs.Laws.{Stands, either, single-is}
+use Rattle.rows.proofs.Laws.{InRow, either, single-is}
 use Rattle.rows.proofs.Bytes.{sixteenAt, bytes-at}
 
 -- ---- document 02, A.6: 18 "comes in no other case"
 
 -- no sixteen bytes of an accepted row call hold 18
-pub row-never-18 : (r : Row) (out : List ℕ) (clock k : ℕ) → Stands k r → rowCause r (length out) clock ≡ 0 → (byte : ℕ) →
+pub row-never-18 : (r : Row) (out : List ℕ) (clock k : ℕ) → InRow k r → rowCause r (length out) clock ≡ 0 → (byte : ℕ) →
     getD (sixteenAt k (rowBytes r out clock)) byte 0 ≡ hueTie → ⊥
 row-never-18 r out clock k h e byte there =
     true≢false (sym (ties (lampAt r k) (Call.Step clock) .alone byte (rw (bytes-at r out clock k h e) at there)))
 
 -- a single call has 18 at a place of its list exactly where the lamp alone has it there
-pub single-18 : (r : Row) (k : ℕ) (x : Call) → Stands k r → (place : ℕ) →
+pub single-18 : (r : Row) (k : ℕ) (x : Call) → InRow k r → (place : ℕ) →
     (getD (answeredAt r k x .notices .places) place 0 ≡ hueTie) ↔ (getD (answer (lampAt r k) x .notices .places) place 0 ≡ hueTie)
 single-18 r k x h place =
     let same = single-is r k x h .notices in (λ e. rw same at e, λ e. rw same e)
@@ -46,7 +46,7 @@ lamp-few r k x =
     record { reported = f .reported; listed = ap (λ (n : Notices). n .places) (f .listed); few = f .few }
 
 -- the sixteen bytes of each place of an accepted row call
-pub row-few : (r : Row) (out : List ℕ) (clock k : ℕ) → Stands k r → rowCause r (length out) clock ≡ 0 →
+pub row-few : (r : Row) (out : List ℕ) (clock k : ℕ) → InRow k r → rowCause r (length out) clock ≡ 0 →
     FewIn (sixteenAt k (rowBytes r out clock))
 row-few r out clock k h e = rw (bytes-at r out clock k h e) (lamp-few r k (Call.Step clock))
 

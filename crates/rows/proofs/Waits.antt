@@ -23,7 +23,7 @@ use Rattle.lamp.specs.Calls.{done, stepped, stepCause, stepAnswer}
 use Rattle.commands.specs.Answers.{answer}
 use Rattle.rows.specs.declared.Row.{Row}
 use Rattle.rows.specs.Rows.{noLamp, lampAt, placed, visited, lesser, leastWait, rowCause, rowStepped}
-use Rattle.rows.proofs.Laws.{Stands, Room, either, visited-step, accepted-first, accepted-few, placed-many, row-lamp}
+use Rattle.rows.proofs.Laws.{InRow, Room, either, visited-step, accepted-first, accepted-few, placed-many, row-lamp}
 
 -- what an effect asks for is a wait exactly where it leaves its lamp running
 pub record Asks (run : Running) (wait : ℕ) : Type 0 where
@@ -73,7 +73,7 @@ step-cause : (l : Lamp) (clock : ℕ) → runs (l .running) ≡ true → stepCau
 unfolding firstCause
 step-cause l clock e = rw e
 
-pub place-asks : (r : Row) (size clock k : ℕ) → Stands k r → rowCause r size clock ≡ 0 →
+pub place-asks : (r : Row) (size clock k : ℕ) → InRow k r → rowCause r size clock ≡ 0 →
     Asks (lampAt (rowStepped r size clock .row) k .running) (answer (lampAt r k) (Call.Step clock) .wait)
 place-asks r size clock k h e =
     let l = lampAt r k in
@@ -129,7 +129,7 @@ unfolding rowStepped
 row-wait r size clock e = rw e
 
 -- it is at most what each lamp that runs on asks, and no lamp runs on where it is 0
-pub wait-low : (r : Row) (size clock k : ℕ) → Stands k r → rowCause r size clock ≡ 0 →
+pub wait-low : (r : Row) (size clock k : ℕ) → InRow k r → rowCause r size clock ≡ 0 →
     runs (lampAt (rowStepped r size clock .row) k .running) ≡ true →
     (0 < rowStepped r size clock .wait) × (rowStepped r size clock .wait ≤ answer (lampAt r k) (Call.Step clock) .wait)
 wait-low r size clock k h e running =
