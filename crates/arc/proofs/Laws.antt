@@ -10,12 +10,12 @@ use lib.IntN.{ℤ, pos, negsuc, nat_abs}
 use lib.Signed.{le_z}
 use borrow.Author.Tests.{leb-true, leb-false, le-leb, lt-leb, ltb-true, ltb-false}
 use Rattle.matter.specs.declared.enums.DirectionEnum.{DirectionEnum}
-use Rattle.matter.specs.Limits.{hueLimit}
+use Rattle.matter.specs.Limits.{hue_limit}
 use Rattle.matter.proofs.Laws.{and_left, and_right}
-use Rattle.hue.specs.Hue.{distance, pathDelta, movedHue, currentHue}
+use Rattle.hue.specs.Hue.{distance, path_delta, moved_hue, current_hue}
 use Rattle.hue.proofs.Laws.{moved-small, moved_up, moved_down, distance_is, way-small, arrives}
 use Rattle.arc.specs.declared.Band.{Band}
-use Rattle.arc.specs.Arc.{toward, OnArc, inBand, InRangeBand, Passed, meet, passesThrough, firstStored, lastStored, currentHueBand}
+use Rattle.arc.specs.Arc.{toward, OnArc, in_band, InRangeBand, Passed, meet, passes_through, first_stored, last_stored, current_hue_band}
 
 -- ---- a band, by distances
 
@@ -36,8 +36,8 @@ module _ (low high hue : ℕ) (hl : low < 65536) (hh : high < 65536) (hx : hue <
     by_order false false false e k j = sym (outside (omega (arith, leb-false)))
 
 -- a hue of a band is no further up from its low end than its high end is
-pub band-is : (b : Band) (hue : ℕ) → InRangeBand b → hue < 65536 → inBand b hue ≡ leb (distance b.low hue) (distance b.low b.high)
-unfolding inBand
+pub band-is : (b : Band) (hue : ℕ) → InRangeBand b → hue < 65536 → in_band b hue ≡ leb (distance b.low hue) (distance b.low b.high)
+unfolding in_band
 band-is b hue t h =
     by_order b.low b.high hue t.low t.high h (distance_is b.low hue t.low) (distance_is b.low b.high t.low)
     (leb b.low b.high)
@@ -93,7 +93,7 @@ or_else false q e = inr e
 
 module _ (from to : ℕ) (b : Band) (hf : from < 65536) (ht : to < 65536) (t : InRangeBand b) where
   -- where the test holds, the band's low end is in the run, or the run's first hue in the band
-  common : meet from to b.low b.high ≡ true → (hue : ℕ) × (hue < 65536) × (distance from hue ≤ distance from to) × (inBand b hue ≡ true)
+  common : meet from to b.low b.high ≡ true → (hue : ℕ) × (hue < 65536) × (distance from hue ≤ distance from to) × (in_band b hue ≡ true)
   unfolding meet
   common e =
       elim (or_else (leb (distance from b.low) (distance from to)) (leb (distance b.low from) (distance b.low b.high)) e) [
@@ -104,7 +104,7 @@ module _ (from to : ℕ) (b : Band) (hf : from < 65536) (ht : to < 65536) (t : I
       ]
 
   -- and where the two have a hue in common, the test holds
-  finds : (hue : ℕ) → hue < 65536 → distance from hue ≤ distance from to → inBand b hue ≡ true → meet from to b.low b.high ≡ true
+  finds : (hue : ℕ) → hue < 65536 → distance from hue ≤ distance from to → in_band b hue ≡ true → meet from to b.low b.high ≡ true
   unfolding meet
   finds hue h k i =
       go (leb (distance from b.low) (distance from to)) (leb (distance b.low from) (distance b.low b.high)) refl refl
@@ -121,12 +121,12 @@ module _ (from to : ℕ) (b : Band) (hf : from < 65536) (ht : to < 65536) (t : I
 -- ---- the test
 
 module _ (found target : ℕ) (b : Band) (hf : found < 65536) (ht : target < 65536) (t : InRangeBand b) where
-  by_way : (way : ℤ) → nat_abs way ≤ 65535 → movedHue found way ≡ target → (cond (le_z (pos 0) way) (meet found target b.low b.high) (meet target found b.low b.high) ≡ true) ↔ Passed found way b
+  by_way : (way : ℤ) → nat_abs way ≤ 65535 → moved_hue found way ≡ target → (cond (le_z (pos 0) way) (meet found target b.low b.high) (meet target found b.low b.high) ≡ true) ↔ Passed found way b
   by_way (pos n) s a =
       let whole : distance found target ≡ n = omega (arith, distance_is found target hf, moved_up found n) in
       rw (leb-zero n) (
-        λ e. let c = common found target b hf ht t e in record { hue = c.0; onArc = arc-up found n c.0 hf c.1 (omega (arith, c.2)); inside = c.3 },
-        λ p. finds found target b hf ht t p.hue (arc-small p.onArc) (omega (arith, up-arc found n p.hue hf s p.onArc)) p.inside,
+        λ e. let c = common found target b hf ht t e in record { hue = c.0; on_arc = arc-up found n c.0 hf c.1 (omega (arith, c.2)); inside = c.3 },
+        λ p. finds found target b hf ht t p.hue (arc-small p.on_arc) (omega (arith, up-arc found n p.hue hf s p.on_arc)) p.inside,
       )
   by_way (negsuc n) s a =
       let whole : distance target found ≡ suc n = omega (arith, distance_is target found ht, moved_down found (suc n)) in (
@@ -134,27 +134,27 @@ module _ (found target : ℕ) (b : Band) (hf : found < 65536) (ht : target < 655
             let c = common target found b ht hf t e in
             record {
               hue = c.0;
-              onArc = arc-down found n c.0 hf c.1 (omega (arith, c.1, c.2, distance_is c.0 found c.1, distance_is target c.0 ht, distance_is target found ht));
+              on_arc = arc-down found n c.0 hf c.1 (omega (arith, c.1, c.2, distance_is c.0 found c.1, distance_is target c.0 ht, distance_is target found ht));
               inside = c.3;
             },
         λ p.
-            let h = arc-small p.onArc in
+            let h = arc-small p.on_arc in
             finds target found b ht hf t p.hue h
-            (omega (arith, h, down-arc found n p.hue hf s p.onArc, distance_is p.hue found h, distance_is target p.hue ht, distance_is target found ht))
+            (omega (arith, h, down-arc found n p.hue hf s p.on_arc, distance_is p.hue found h, distance_is target p.hue ht, distance_is target found ht))
             p.inside,
       )
 
   -- the test answers true exactly where some hue of the band is on the arc
-  pub exactly : (d : DirectionEnum) → (passesThrough found target d b ≡ true) ↔ Passed found (pathDelta found target d) b
-  unfolding passesThrough
-  exactly d = by_way (pathDelta found target d) (way-small found target d) (arrives found target d hf ht)
+  pub exactly : (d : DirectionEnum) → (passes_through found target d b ≡ true) ↔ Passed found (path_delta found target d) b
+  unfolding passes_through
+  exactly d = by_way (path_delta found target d) (way-small found target d) (arrives found target d hf ht)
 
   -- so where it answers false, no hue on the arc is in the band
-  pub none_inside : (d : DirectionEnum) → passesThrough found target d b ≡ false → (hue : ℕ) → OnArc found (pathDelta found target d) hue → inBand b hue ≡ false
-  none_inside d e hue a = go (inBand b hue) refl
+  pub none_inside : (d : DirectionEnum) → passes_through found target d b ≡ false → (hue : ℕ) → OnArc found (path_delta found target d) hue → in_band b hue ≡ false
+  none_inside d e hue a = go (in_band b hue) refl
     where
-      go : (i : Bool) → inBand b hue ≡ i → i ≡ false
-      go true i = absurd (true≢false (sym ((exactly d).1 (record { hue = hue; onArc = a; inside = i })) ∙ e))
+      go : (i : Bool) → in_band b hue ≡ i → i ≡ false
+      go true i = absurd (true≢false (sym ((exactly d).1 (record { hue = hue; on_arc = a; inside = i })) ∙ e))
       go false i = refl
 
 -- ---- a band by CurrentHue
@@ -168,34 +168,34 @@ same_test a b c d f g = go (leb c d) refl
     go false e = lt-leb a b (g (leb-false c d e))
 
 -- the tests on stored hues are those on CurrentHue
-from_first : (low hue : ℕ) → leb (firstStored low) hue ≡ leb (min hueLimit low) (currentHue hue)
-from_first low hue = same_test (firstStored low) hue (min hueLimit low) (currentHue hue) (λ h. omega arith) (λ h. omega arith)
+from_first : (low hue : ℕ) → leb (first_stored low) hue ≡ leb (min hue_limit low) (current_hue hue)
+from_first low hue = same_test (first_stored low) hue (min hue_limit low) (current_hue hue) (λ h. omega arith) (λ h. omega arith)
 
-to_last : (high hue : ℕ) → hue < 65536 → leb hue (lastStored high) ≡ leb (currentHue hue) (min hueLimit high)
-to_last high hue h = go (ltb high hueLimit) refl
+to_last : (high hue : ℕ) → hue < 65536 → leb hue (last_stored high) ≡ leb (current_hue hue) (min hue_limit high)
+to_last high hue h = go (ltb high hue_limit) refl
   where
-    go : (p : Bool) → ltb high hueLimit ≡ p → leb hue (cond p (high * 256 + 255) 65535) ≡ leb (currentHue hue) (min hueLimit high)
+    go : (p : Bool) → ltb high hue_limit ≡ p → leb hue (cond p (high * 256 + 255) 65535) ≡ leb (current_hue hue) (min hue_limit high)
     go true e =
-        let l = ltb-true high hueLimit e in
-        same_test hue (high * 256 + 255) (currentHue hue) (min hueLimit high) (λ k. omega arith) (λ k. omega arith)
+        let l = ltb-true high hue_limit e in
+        same_test hue (high * 256 + 255) (current_hue hue) (min hue_limit high) (λ k. omega arith) (λ k. omega arith)
     go false e =
-        let l = ltb-false high hueLimit e in
-        same_test hue 65535 (currentHue hue) (min hueLimit high) (λ k. omega arith) (λ k. omega arith)
+        let l = ltb-false high hue_limit e in
+        same_test hue 65535 (current_hue hue) (min hue_limit high) (λ k. omega arith) (λ k. omega arith)
 
-first-to-last : (low high : ℕ) → leb (firstStored low) (lastStored high) ≡ leb (min hueLimit low) (min hueLimit high)
+first-to-last : (low high : ℕ) → leb (first_stored low) (last_stored high) ≡ leb (min hue_limit low) (min hue_limit high)
 first-to-last low high =
-    let shown : currentHue (firstStored low) ≡ min hueLimit low = omega arith in
-    to_last high (firstStored low) (omega arith) ∙ ap (λ (n : ℕ). leb n (min hueLimit high)) shown
+    let shown : current_hue (first_stored low) ≡ min hue_limit low = omega arith in
+    to_last high (first_stored low) (omega arith) ∙ ap (λ (n : ℕ). leb n (min hue_limit high)) shown
 
 -- a stored hue is in the band exactly where its CurrentHue is one of those named, an end above 254 taken as 254
 pub current-is : (low high hue : ℕ) → hue < 65536 →
-    inBand (currentHueBand low high) hue ≡ inBand (record { low = min hueLimit low; high = min hueLimit high }) (currentHue hue)
-unfolding inBand
+    in_band (current_hue_band low high) hue ≡ in_band (record { low = min hue_limit low; high = min hue_limit high }) (current_hue hue)
+unfolding in_band
 current-is low high hue h = rw (first-to-last low high, from_first low hue, to_last high hue h)
 
 -- a band of one number
-one-alone : (n x : ℕ) → (inBand (record { low = n; high = n }) x ≡ true) ↔ (x ≡ n)
-unfolding inBand
+one-alone : (n x : ℕ) → (in_band (record { low = n; high = n }) x ≡ true) ↔ (x ≡ n)
+unfolding in_band
 one-alone n x =
     rw (le-leb n n (omega arith)) (
       λ e. omega (arith, leb-true n x (and_left (leb n x) (leb x n) e), leb-true x n (and_right (leb n x) (leb x n) e)),
@@ -203,14 +203,14 @@ one-alone n x =
     )
 
 -- so the band of one CurrentHue has every stored hue that shows it, and no other
-pub current-alone : (n hue : ℕ) → n ≤ 254 → hue < 65536 → (inBand (currentHueBand n n) hue ≡ true) ↔ (currentHue hue ≡ n)
+pub current-alone : (n hue : ℕ) → n ≤ 254 → hue < 65536 → (in_band (current_hue_band n n) hue ≡ true) ↔ (current_hue hue ≡ n)
 current-alone n hue s h =
-    let same : min hueLimit n ≡ n = omega arith in
-    rw (current-is n n hue h, same) (one-alone n (currentHue hue))
+    let same : min hue_limit n ≡ n = omega arith in
+    rw (current-is n n hue h, same) (one-alone n (current_hue hue))
 
-pub in-range-current : (low high : ℕ) → InRangeBand (currentHueBand low high)
-in-range-current low high = record { low = omega arith; high = go (ltb high hueLimit) refl }
+pub in-range-current : (low high : ℕ) → InRangeBand (current_hue_band low high)
+in-range-current low high = record { low = omega arith; high = go (ltb high hue_limit) refl }
   where
-    go : (p : Bool) → ltb high hueLimit ≡ p → cond p (high * 256 + 255) 65535 < 65536
-    go true e = omega (arith, ltb-true high hueLimit e)
+    go : (p : Bool) → ltb high hue_limit ≡ p → cond p (high * 256 + 255) 65535 < 65536
+    go true e = omega (arith, ltb-true high hue_limit e)
     go false e = omega arith

@@ -3,29 +3,29 @@ use Rattle.std.specs.Prelude.{ℕ, List}
 use Rattle.lamp.specs.declared.Call.{Call}
 use Rattle.text.specs.Words.{start_of, end_of}
 use Rattle.text.specs.Readers.{Read, Reader, give, ◌then◌, number64}
-use Rattle.lamp_lines.specs.Enums.{onOffAt}
-use Rattle.lamp_lines.specs.Moves.{taskAt}
-use Rattle.call_lines.specs.Commands.{optionsAt, commandAt}
+use Rattle.lamp_lines.specs.Enums.{on_off_at}
+use Rattle.lamp_lines.specs.Moves.{task_at}
+use Rattle.call_lines.specs.Commands.{options_at, command_at}
 
 -- the next word is a name; what is read behind it goes by that name
-abbrev pub byNext : {A : Type 0} → (List ℕ → ℕ → ℕ → Read A) → Reader A
-byNext reads line at = reads line (start_of line at) (end_of line (start_of line at))
+abbrev pub by_next : {A : Type 0} → (List ℕ → ℕ → ℕ → Read A) → Reader A
+by_next reads line at = reads line (start_of line at) (end_of line (start_of line at))
 
 -- <name> <on|off|none> <args> <mask> <override> <clock>
-unfoldable pub invokeAt : Reader Call
-invokeAt =
-    byNext λ line name.
-    (give (λ onOff command options clock. Call.Command (record { options = options; command = command }) onOff clock)
-    then onOffAt then (λ l. commandAt l name) then optionsAt then number64) line
+unfoldable pub invoke_at : Reader Call
+invoke_at =
+    by_next λ line name.
+    (give (λ on_off command options clock. Call.Command (record { options = options; command = command }) on_off clock)
+    then on_off_at then (λ l. command_at l name) then options_at then number64) line
 
 -- <task> <clock>
-unfoldable pub beginAt : Reader Call
-beginAt = give Call.Start then byNext taskAt then number64
+unfoldable pub begin_at : Reader Call
+begin_at = give Call.Start then by_next task_at then number64
 
 -- <clock>
-unfoldable pub stepAt : Reader Call
-stepAt = give Call.Step then number64
+unfoldable pub step_at : Reader Call
+step_at = give Call.Step then number64
 
 -- <clock>
-unfoldable pub haltAt : Reader Call
-haltAt = give Call.Halt then number64
+unfoldable pub halt_at : Reader Call
+halt_at = give Call.Halt then number64

@@ -12,48 +12,48 @@ use Rattle.lamp.specs.Passes.{changed}
 use Rattle.commands.specs.Answers.{answer}
 use Rattle.text.specs.Words.{end_of}
 use Rattle.text.specs.Readers.{Read, Reader, give, ◌then◌, number8, number32, number64, Row, ◌means◌, named, unknown}
-use Rattle.lamp_lines.specs.Fields.{boundsAt, idleLampAt}
+use Rattle.lamp_lines.specs.Fields.{bounds_at, idle_lamp_at}
 use Rattle.lamp_lines.specs.Records.{running_at}
 use Rattle.call_lines.specs.declared.setters.Setting.{Setting}
 use Rattle.call_lines.specs.declared.lines.Making.{Making}
 use Rattle.call_lines.specs.declared.lines.OnLamp.{OnLamp}
 use Rattle.call_lines.specs.declared.lines.Line.{Line}
-use Rattle.call_lines.specs.Calls.{invokeAt, beginAt, stepAt, haltAt}
-use Rattle.call_lines.specs.Leaves.{leafAt}
-use Rattle.call_lines.specs.Setters.{settingAt, settingAnswer}
+use Rattle.call_lines.specs.Calls.{invoke_at, begin_at, step_at, halt_at}
+use Rattle.call_lines.specs.Leaves.{leaf_at}
+use Rattle.call_lines.specs.Setters.{setting_at, setting_answer}
 
 -- ---- what a line asks for
 
 -- on the lamp there is
-abbrev pub callLine : Call → Line
-callLine call = Line.OnLamp (OnLamp.Call call)
+abbrev pub call_line : Call → Line
+call_line call = Line.OnLamp (OnLamp.Call call)
 
-abbrev pub pokeLine : Lamp → Line
-pokeLine fields = Line.OnLamp (OnLamp.Poke fields)
+abbrev pub poke_line : Lamp → Line
+poke_line fields = Line.OnLamp (OnLamp.Poke fields)
 
-abbrev pub recordLine : Running → Line
-recordLine running = Line.OnLamp (OnLamp.Record running)
+abbrev pub record_line : Running → Line
+record_line running = Line.OnLamp (OnLamp.Record running)
 
-abbrev pub setLine : Setting → Line
-setLine setting = Line.OnLamp (OnLamp.Set setting)
+abbrev pub set_line : Setting → Line
+set_line setting = Line.OnLamp (OnLamp.Set setting)
 
 -- <min> <max> <features> <options> <clock>
-unfoldable pub makingAt : Reader Line
-makingAt =
+unfoldable pub making_at : Reader Line
+making_at =
     give
     (λ bounds features options clock.
     Line.New (record { bounds = bounds; features = features; options = options; clock = clock }))
-    then boundsAt then number32 then number8 then number64
+    then bounds_at then number32 then number8 then number64
 
 -- those that make a lamp, ask for something on its own, or show the lamp or change it by hand
-abbrev pub otherLines : List (Row Line)
-otherLines =
-    "leaf" means (give Line.Ask then leafAt)
-    ∷ "set" means (give setLine then settingAt)
-    ∷ "lamp" means (give Line.Lamp then idleLampAt)
-    ∷ "new" means makingAt
-    ∷ "poke" means (give pokeLine then idleLampAt)
-    ∷ "record" means (give recordLine then running_at)
+abbrev pub other_lines : List (Row Line)
+other_lines =
+    "leaf" means (give Line.Ask then leaf_at)
+    ∷ "set" means (give set_line then setting_at)
+    ∷ "lamp" means (give Line.Lamp then idle_lamp_at)
+    ∷ "new" means making_at
+    ∷ "poke" means (give poke_line then idle_lamp_at)
+    ∷ "record" means (give record_line then running_at)
     ∷ "show" means give (Line.OnLamp OnLamp.Show)
     ∷ "help" means give Line.Help
     ∷ []
@@ -61,23 +61,23 @@ otherLines =
 -- and before them the calls
 abbrev pub lines : List (Row Line)
 lines =
-    "cmd" means (give callLine then invokeAt)
-    ∷ "step" means (give callLine then stepAt)
+    "cmd" means (give call_line then invoke_at)
+    ∷ "step" means (give call_line then step_at)
     ∷ "startlast" means (give Line.StartLast then number64)
-    ∷ "start" means (give callLine then beginAt)
-    ∷ "halt" means (give callLine then haltAt)
-    ∷ otherLines
+    ∷ "start" means (give call_line then begin_at)
+    ∷ "halt" means (give call_line then halt_at)
+    ∷ other_lines
 
 -- by the first word, which ends at `at`
-unfoldable pub otherLineAt : List ℕ → ℕ → ℕ → Read Line
-otherLineAt = named otherLines (unknown Line.Unreadable)
+unfoldable pub other_line_at : List ℕ → ℕ → ℕ → Read Line
+other_line_at = named other_lines (unknown Line.Unreadable)
 
 unfoldable pub line_at : List ℕ → ℕ → ℕ → Read Line
 line_at = named lines (unknown Line.Unreadable)
 
 -- a line is what was read where its last word ends it
-unfoldable pub lineRead : List ℕ → Line
-lineRead line =
+unfoldable pub line_read : List ℕ → Line
+line_read line =
     let read : Read Line = line_at line 0 (end_of line 0) in
     cond (eqb read.at (length line)) read.value Line.Unreadable
 
@@ -87,16 +87,16 @@ abbrev pub made : Making → Made
 made m = making m.bounds m.features m.options m.clock
 
 -- a lamp that was put in place or shown: nothing is reported
-abbrev pub shownAnswer : Lamp → Answer
-shownAnswer l = refusal l accepted
+abbrev pub shown_answer : Lamp → Answer
+shown_answer l = refusal l accepted
 
 -- the lamp with another running record
-abbrev pub withRecord : Lamp → Running → Lamp
-withRecord l running = changed l l.color running l.remaining
+abbrev pub with_record : Lamp → Running → Lamp
+with_record l running = changed l l.color running l.remaining
 
-unfoldable pub onLamp : Lamp → OnLamp → Answer
-onLamp l (OnLamp.Call call) = answer l call
-onLamp l (OnLamp.Poke fields) = shownAnswer (withRecord fields l.running)
-onLamp l (OnLamp.Record running) = shownAnswer (withRecord l running)
-onLamp l OnLamp.Show = shownAnswer l
-onLamp l (OnLamp.Set setting) = settingAnswer l setting
+unfoldable pub on_lamp : Lamp → OnLamp → Answer
+on_lamp l (OnLamp.Call call) = answer l call
+on_lamp l (OnLamp.Poke fields) = shown_answer (with_record fields l.running)
+on_lamp l (OnLamp.Record running) = shown_answer (with_record l running)
+on_lamp l OnLamp.Show = shown_answer l
+on_lamp l (OnLamp.Set setting) = setting_answer l setting

@@ -1,8 +1,8 @@
 // Reading a call of the lamp: a command, a start, a step or a halt.
 ghost use Rattle.std.specs.Prelude.{◌≡◌};
 ghost use Rattle.text.specs.Readers.{Reads};
-ghost use Rattle.call_lines.specs.Commands.{moveToHueAt, moveHueAt, stepHueAt, enhancedMoveToHueAt, enhancedMoveHueAt, enhancedStepHueAt, moveToSaturationAt, moveSaturationAt, stepSaturationAt, moveToHueAndSaturationAt, moveToColorTemperatureAt, moveColorTemperatureAt, stepColorTemperatureAt, colorLoopSetAt, optionsAt, otherCommandAt, commandAt};
-ghost use Rattle.call_lines.specs.Calls.{invokeAt, beginAt, stepAt, haltAt};
+ghost use Rattle.call_lines.specs.Commands.{move_to_hue_at, move_hue_at, step_hue_at, enhanced_move_to_hue_at, enhanced_move_hue_at, enhanced_step_hue_at, move_to_saturation_at, move_saturation_at, step_saturation_at, move_to_hue_and_saturation_at, move_to_color_temperature_at, move_color_temperature_at, step_color_temperature_at, color_loop_set_at, options_at, other_command_at, command_at};
+ghost use Rattle.call_lines.specs.Calls.{invoke_at, begin_at, step_at, halt_at};
 
 use lamp::Call;
 use lamp_lines::{enums, moves};
@@ -10,26 +10,26 @@ use matter::{Command, CommandOptions, Request};
 use text::words::LOST;
 use text::{numbers, words};
 
-#[derive(Drop)]
+#[derive(Clone, Copy)]
 struct CommandRead {
     value: Command,
     at: usize,
 }
 
-#[derive(Drop)]
+#[derive(Clone, Copy)]
 pub struct OptionsRead {
     pub value: CommandOptions,
     pub at: usize,
 }
 
-#[derive(Drop)]
+#[derive(Clone, Copy)]
 pub struct CallRead {
     pub value: Call,
     pub at: usize,
 }
 
 fn move_to_hue(line: &[u8], at: usize) -> CommandRead
-    ensures { Reads (moveToHueAt line.now at) result.value result.at }
+    ensures { Reads (move_to_hue_at line.now at) result.value result.at }
 {
     let hue = numbers::number_8(line, at);
     let read = enums::path_direction(line, hue.at);
@@ -46,7 +46,7 @@ fn move_to_hue(line: &[u8], at: usize) -> CommandRead
 }
 
 fn move_hue(line: &[u8], at: usize) -> CommandRead
-    ensures { Reads (moveHueAt line.now at) result.value result.at }
+    ensures { Reads (move_hue_at line.now at) result.value result.at }
 {
     let modes = enums::move_mode(line, at);
     let mode = modes.value;
@@ -63,7 +63,7 @@ fn move_hue(line: &[u8], at: usize) -> CommandRead
 }
 
 fn step_hue(line: &[u8], at: usize) -> CommandRead
-    ensures { Reads (stepHueAt line.now at) result.value result.at }
+    ensures { Reads (step_hue_at line.now at) result.value result.at }
 {
     let modes = enums::step_mode(line, at);
     let mode = modes.value;
@@ -80,7 +80,7 @@ fn step_hue(line: &[u8], at: usize) -> CommandRead
 }
 
 fn enhanced_move_to_hue(line: &[u8], at: usize) -> CommandRead
-    ensures { Reads (enhancedMoveToHueAt line.now at) result.value result.at }
+    ensures { Reads (enhanced_move_to_hue_at line.now at) result.value result.at }
 {
     let hue = numbers::number_16(line, at);
     let read = enums::path_direction(line, hue.at);
@@ -97,7 +97,7 @@ fn enhanced_move_to_hue(line: &[u8], at: usize) -> CommandRead
 }
 
 fn enhanced_move_hue(line: &[u8], at: usize) -> CommandRead
-    ensures { Reads (enhancedMoveHueAt line.now at) result.value result.at }
+    ensures { Reads (enhanced_move_hue_at line.now at) result.value result.at }
 {
     let modes = enums::move_mode(line, at);
     let mode = modes.value;
@@ -112,7 +112,7 @@ fn enhanced_move_hue(line: &[u8], at: usize) -> CommandRead
 }
 
 fn enhanced_step_hue(line: &[u8], at: usize) -> CommandRead
-    ensures { Reads (enhancedStepHueAt line.now at) result.value result.at }
+    ensures { Reads (enhanced_step_hue_at line.now at) result.value result.at }
 {
     let modes = enums::step_mode(line, at);
     let mode = modes.value;
@@ -129,7 +129,7 @@ fn enhanced_step_hue(line: &[u8], at: usize) -> CommandRead
 }
 
 fn move_to_saturation(line: &[u8], at: usize) -> CommandRead
-    ensures { Reads (moveToSaturationAt line.now at) result.value result.at }
+    ensures { Reads (move_to_saturation_at line.now at) result.value result.at }
 {
     let saturation = numbers::number_8(line, at);
     let tenths = numbers::number_16(line, saturation.at);
@@ -143,7 +143,7 @@ fn move_to_saturation(line: &[u8], at: usize) -> CommandRead
 }
 
 fn move_saturation(line: &[u8], at: usize) -> CommandRead
-    ensures { Reads (moveSaturationAt line.now at) result.value result.at }
+    ensures { Reads (move_saturation_at line.now at) result.value result.at }
 {
     let modes = enums::move_mode(line, at);
     let mode = modes.value;
@@ -158,7 +158,7 @@ fn move_saturation(line: &[u8], at: usize) -> CommandRead
 }
 
 fn step_saturation(line: &[u8], at: usize) -> CommandRead
-    ensures { Reads (stepSaturationAt line.now at) result.value result.at }
+    ensures { Reads (step_saturation_at line.now at) result.value result.at }
 {
     let modes = enums::step_mode(line, at);
     let mode = modes.value;
@@ -175,7 +175,7 @@ fn step_saturation(line: &[u8], at: usize) -> CommandRead
 }
 
 fn move_to_hue_and_saturation(line: &[u8], at: usize) -> CommandRead
-    ensures { Reads (moveToHueAndSaturationAt line.now at) result.value result.at }
+    ensures { Reads (move_to_hue_and_saturation_at line.now at) result.value result.at }
 {
     let hue = numbers::number_8(line, at);
     let saturation = numbers::number_8(line, hue.at);
@@ -195,7 +195,7 @@ fn move_to_hue_and_saturation(line: &[u8], at: usize) -> CommandRead
 }
 
 fn move_to_color_temperature(line: &[u8], at: usize) -> CommandRead
-    ensures { Reads (moveToColorTemperatureAt line.now at) result.value result.at }
+    ensures { Reads (move_to_color_temperature_at line.now at) result.value result.at }
 {
     let mireds = numbers::number_16(line, at);
     let tenths = numbers::number_16(line, mireds.at);
@@ -209,7 +209,7 @@ fn move_to_color_temperature(line: &[u8], at: usize) -> CommandRead
 }
 
 fn move_color_temperature(line: &[u8], at: usize) -> CommandRead
-    ensures { Reads (moveColorTemperatureAt line.now at) result.value result.at }
+    ensures { Reads (move_color_temperature_at line.now at) result.value result.at }
 {
     let modes = enums::move_mode(line, at);
     let mode = modes.value;
@@ -228,7 +228,7 @@ fn move_color_temperature(line: &[u8], at: usize) -> CommandRead
 }
 
 fn step_color_temperature(line: &[u8], at: usize) -> CommandRead
-    ensures { Reads (stepColorTemperatureAt line.now at) result.value result.at }
+    ensures { Reads (step_color_temperature_at line.now at) result.value result.at }
 {
     let modes = enums::step_mode(line, at);
     let mode = modes.value;
@@ -249,7 +249,7 @@ fn step_color_temperature(line: &[u8], at: usize) -> CommandRead
 }
 
 fn color_loop_set(line: &[u8], at: usize) -> CommandRead
-    ensures { Reads (colorLoopSetAt line.now at) result.value result.at }
+    ensures { Reads (color_loop_set_at line.now at) result.value result.at }
 {
     let flags = numbers::number_8(line, at);
     let actions = enums::loop_action(line, flags.at);
@@ -272,7 +272,7 @@ fn color_loop_set(line: &[u8], at: usize) -> CommandRead
 
 // Those of saturation and color temperature, the color loop and StopMoveStep.
 fn other_command(line: &[u8], name: usize, at: usize) -> CommandRead
-    ensures { Reads (otherCommandAt line.now name at) result.value result.at }
+    ensures { Reads (other_command_at line.now name at) result.value result.at }
 {
     if words::is(line, name, b"move_to_saturation") {
         return move_to_saturation(line, at);
@@ -309,7 +309,7 @@ fn other_command(line: &[u8], name: usize, at: usize) -> CommandRead
 
 // The command whose name begins at `name`, with its arguments from `at` on.
 fn command(line: &[u8], name: usize, at: usize) -> CommandRead
-    ensures { Reads (commandAt line.now name at) result.value result.at }
+    ensures { Reads (command_at line.now name at) result.value result.at }
 {
     if words::is(line, name, b"move_to_hue") {
         return move_to_hue(line, at);
@@ -337,7 +337,7 @@ fn command(line: &[u8], name: usize, at: usize) -> CommandRead
 
 // The mask and the override.
 pub(crate) fn options(line: &[u8], at: usize) -> OptionsRead
-    ensures { Reads (optionsAt line.now at) result.value result.at }
+    ensures { Reads (options_at line.now at) result.value result.at }
 {
     let mask = numbers::number_8(line, at);
     let overrides = numbers::number_8(line, mask.at);
@@ -352,7 +352,7 @@ pub(crate) fn options(line: &[u8], at: usize) -> OptionsRead
 
 // A command's name, the on/off word, its arguments, its options and the clock.
 pub(crate) fn invoke(line: &[u8], at: usize) -> CallRead
-    ensures { Reads (invokeAt line.now at) result.value result.at }
+    ensures { Reads (invoke_at line.now at) result.value result.at }
 {
     let name = words::start(line, at);
     let switch = enums::on_off(line, words::end(line, name));
@@ -373,7 +373,7 @@ pub(crate) fn invoke(line: &[u8], at: usize) -> CallRead
 }
 
 pub(crate) fn begin(line: &[u8], at: usize) -> CallRead
-    ensures { Reads (beginAt line.now at) result.value result.at }
+    ensures { Reads (begin_at line.now at) result.value result.at }
 {
     let name = words::start(line, at);
     let read = moves::task(line, name, words::end(line, name));
@@ -389,7 +389,7 @@ pub(crate) fn begin(line: &[u8], at: usize) -> CallRead
 }
 
 pub(crate) fn step(line: &[u8], at: usize) -> CallRead
-    ensures { Reads (stepAt line.now at) result.value result.at }
+    ensures { Reads (step_at line.now at) result.value result.at }
 {
     let clock = numbers::number_64(line, at);
     CallRead {
@@ -399,7 +399,7 @@ pub(crate) fn step(line: &[u8], at: usize) -> CallRead
 }
 
 pub(crate) fn halt(line: &[u8], at: usize) -> CallRead
-    ensures { Reads (haltAt line.now at) result.value result.at }
+    ensures { Reads (halt_at line.now at) result.value result.at }
 {
     let clock = numbers::number_64(line, at);
     CallRead {

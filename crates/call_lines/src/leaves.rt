@@ -2,7 +2,7 @@
 ghost use Rattle.std.specs.Prelude.{◌≡◌};
 ghost use Rattle.text.specs.Readers.{Reads};
 ghost use Rattle.text.specs.Written.{Written};
-ghost use Rattle.call_lines.specs.Leaves.{deltaAskedAt, remainingAskedAt, leaveAskedAt, modeOfAskedAt, currentHueAskedAt, leafAt, bitText, deltaText, remainingText, leaveText, modeOfText, currentHueText, leafText};
+ghost use Rattle.call_lines.specs.Leaves.{delta_asked_at, remaining_asked_at, leave_asked_at, mode_of_asked_at, current_hue_asked_at, leaf_at, bit_text, delta_text, remaining_text, leave_text, mode_of_text, current_hue_text, leaf_text};
 
 use crate::invocations;
 use lamp_lines::enums;
@@ -11,28 +11,28 @@ use remaining_time::RemainingTime;
 use text::words::LOST;
 use text::{numbers, words, writer};
 
-#[derive(Drop)]
+#[derive(Clone, Copy)]
 pub struct DeltaAsked {
     pub current: u16,
     pub target: u16,
     pub direction: DirectionEnum,
 }
 
-#[derive(Drop)]
+#[derive(Clone, Copy)]
 pub struct RemainingAsked {
     pub old: u16,
     pub ms: u64,
     pub is_start: bool,
 }
 
-#[derive(Drop)]
+#[derive(Clone, Copy)]
 pub struct LeaveAsked {
     pub on_off: OnOff,
     pub options: u8,
     pub given: CommandOptions,
 }
 
-#[derive(Drop)]
+#[derive(Clone, Copy)]
 pub enum Leaf {
     Delta(DeltaAsked),
     Remaining(RemainingAsked),
@@ -41,14 +41,14 @@ pub enum Leaf {
     CurrentHue(u16),
 }
 
-#[derive(Drop)]
+#[derive(Clone, Copy)]
 pub struct LeafRead {
     pub value: Leaf,
     pub at: usize,
 }
 
 fn delta_read(line: &[u8], at: usize) -> LeafRead
-    ensures { Reads (deltaAskedAt line.now at) result.value result.at }
+    ensures { Reads (delta_asked_at line.now at) result.value result.at }
 {
     let current = numbers::number_16(line, at);
     let target = numbers::number_16(line, current.at);
@@ -65,7 +65,7 @@ fn delta_read(line: &[u8], at: usize) -> LeafRead
 }
 
 fn remaining_read(line: &[u8], at: usize) -> LeafRead
-    ensures { Reads (remainingAskedAt line.now at) result.value result.at }
+    ensures { Reads (remaining_asked_at line.now at) result.value result.at }
 {
     let old = numbers::number_16(line, at);
     let ms = numbers::number_64(line, old.at);
@@ -81,7 +81,7 @@ fn remaining_read(line: &[u8], at: usize) -> LeafRead
 }
 
 fn leave_read(line: &[u8], at: usize) -> LeafRead
-    ensures { Reads (leaveAskedAt line.now at) result.value result.at }
+    ensures { Reads (leave_asked_at line.now at) result.value result.at }
 {
     let switch = enums::on_off(line, at);
     let on_off = switch.value;
@@ -99,7 +99,7 @@ fn leave_read(line: &[u8], at: usize) -> LeafRead
 }
 
 fn mode_of_read(line: &[u8], at: usize) -> LeafRead
-    ensures { Reads (modeOfAskedAt line.now at) result.value result.at }
+    ensures { Reads (mode_of_asked_at line.now at) result.value result.at }
 {
     let read = enums::enhanced_mode(line, at);
     let mode = read.value;
@@ -110,7 +110,7 @@ fn mode_of_read(line: &[u8], at: usize) -> LeafRead
 }
 
 fn current_hue_read(line: &[u8], at: usize) -> LeafRead
-    ensures { Reads (currentHueAskedAt line.now at) result.value result.at }
+    ensures { Reads (current_hue_asked_at line.now at) result.value result.at }
 {
     let hue = numbers::number_16(line, at);
     LeafRead {
@@ -121,7 +121,7 @@ fn current_hue_read(line: &[u8], at: usize) -> LeafRead
 
 // The leaf's name and what it is asked.
 pub fn read(line: &[u8], at: usize) -> LeafRead
-    ensures { Reads (leafAt line.now at) result.value result.at }
+    ensures { Reads (leaf_at line.now at) result.value result.at }
 {
     let name = words::start(line, at);
     let end = words::end(line, name);
@@ -147,7 +147,7 @@ pub fn read(line: &[u8], at: usize) -> LeafRead
 }
 
 fn bit(out: &mut [u8], at: usize, b: bool) -> usize
-    ensures { Written out.old at (bitText b) out.new result }
+    ensures { Written out.old at (bit_text b) out.new result }
 {
     if b {
         writer::byte(out, at, b'1')
@@ -157,7 +157,7 @@ fn bit(out: &mut [u8], at: usize, b: bool) -> usize
 }
 
 fn delta(asked: DeltaAsked, out: &mut [u8], at: usize) -> usize
-    ensures { Written out.old at (deltaText asked) out.new result }
+    ensures { Written out.old at (delta_text asked) out.new result }
 {
     let direction = asked.direction;
     let path = hue::hue_path_delta(asked.current, asked.target, direction);
@@ -167,7 +167,7 @@ fn delta(asked: DeltaAsked, out: &mut [u8], at: usize) -> usize
 }
 
 fn remaining(asked: RemainingAsked, out: &mut [u8], at: usize) -> usize
-    ensures { Written out.old at (remainingText asked) out.new result }
+    ensures { Written out.old at (remaining_text asked) out.new result }
 {
     let old = RemainingTime { tenths: asked.old };
     let written = old.write_remaining_time_quietly(asked.ms, asked.is_start);
@@ -178,7 +178,7 @@ fn remaining(asked: RemainingAsked, out: &mut [u8], at: usize) -> usize
 }
 
 fn may_execute(asked: LeaveAsked, out: &mut [u8], at: usize) -> usize
-    ensures { Written out.old at (leaveText asked) out.new result }
+    ensures { Written out.old at (leave_text asked) out.new result }
 {
     let on_off = asked.on_off;
     let given = asked.given;
@@ -187,7 +187,7 @@ fn may_execute(asked: LeaveAsked, out: &mut [u8], at: usize) -> usize
 }
 
 fn mode_of(emode: EnhancedColorModeEnum, out: &mut [u8], at: usize) -> usize
-    ensures { Written out.old at (modeOfText emode) out.new result }
+    ensures { Written out.old at (mode_of_text emode) out.new result }
 {
     let mode = matter::color_mode_of(emode);
     let number = mode.number();
@@ -195,7 +195,7 @@ fn mode_of(emode: EnhancedColorModeEnum, out: &mut [u8], at: usize) -> usize
 }
 
 fn current_hue(stored: u16, out: &mut [u8], at: usize) -> usize
-    ensures { Written out.old at (currentHueText stored) out.new result }
+    ensures { Written out.old at (current_hue_text stored) out.new result }
 {
     let current = hue::current_hue(stored);
     writer::decimal(out, at, current as u64)
@@ -203,7 +203,7 @@ fn current_hue(stored: u16, out: &mut [u8], at: usize) -> usize
 
 // Writes the answer, without a newline.
 pub fn ask(leaf: Leaf, out: &mut [u8], at: usize) -> usize
-    ensures { Written out.old at (leafText leaf) out.new result }
+    ensures { Written out.old at (leaf_text leaf) out.new result }
 {
     match leaf {
         Leaf::Delta(asked) => delta(asked, out, at),

@@ -3,11 +3,11 @@
 ghost use Rattle.std.specs.Prelude.{◌≡◌};
 ghost use Rattle.text.specs.Words.{lost};
 ghost use Rattle.text.specs.Readers.{Reads, give, ◌then◌, number64};
-ghost use Rattle.lamp_lines.specs.Fields.{idleLampAt};
+ghost use Rattle.lamp_lines.specs.Fields.{idle_lamp_at};
 ghost use Rattle.lamp_lines.specs.Records.{running_at};
-ghost use Rattle.call_lines.specs.Leaves.{leafAt};
-ghost use Rattle.call_lines.specs.Setters.{settingAt};
-ghost use Rattle.call_lines.specs.Lines.{callLine, pokeLine, recordLine, setLine, makingAt, otherLineAt, line_at, lineRead, made, shownAnswer, withRecord, onLamp};
+ghost use Rattle.call_lines.specs.Leaves.{leaf_at};
+ghost use Rattle.call_lines.specs.Setters.{setting_at};
+ghost use Rattle.call_lines.specs.Lines.{call_line, poke_line, record_line, set_line, making_at, other_line_at, line_at, line_read, made, shown_answer, with_record, on_lamp};
 
 use crate::invocations::CallRead;
 use crate::leaves::Leaf;
@@ -20,7 +20,7 @@ use tasks::Running;
 use text::words::LOST;
 use text::{numbers, words};
 
-#[derive(Drop)]
+#[derive(Clone, Copy)]
 pub struct Making {
     pub bounds: Bounds,
     pub features: u32,
@@ -29,7 +29,7 @@ pub struct Making {
 }
 
 // What is done on the lamp that there is.
-#[derive(Drop)]
+#[derive(Clone, Copy)]
 pub enum OnLamp {
     Call(Call),
     Poke(Lamp),
@@ -38,7 +38,7 @@ pub enum OnLamp {
     Set(Setting),
 }
 
-#[derive(Drop)]
+#[derive(Clone, Copy)]
 pub enum Line {
     Lamp(Lamp),
     New(Making),
@@ -49,14 +49,14 @@ pub enum Line {
     Unreadable,
 }
 
-#[derive(Drop)]
+#[derive(Clone, Copy)]
 pub struct LineRead {
     pub value: Line,
     pub at: usize,
 }
 
 fn call_line(read: CallRead) -> LineRead
-    ensures { (result.value ≡ callLine read.value) × (result.at ≡ read.at) }
+    ensures { (result.value ≡ call_line read.value) × (result.at ≡ read.at) }
 {
     let call = read.value;
     LineRead {
@@ -66,7 +66,7 @@ fn call_line(read: CallRead) -> LineRead
 }
 
 fn lamp_line(line: &[u8], at: usize) -> LineRead
-    ensures { Reads ((give Line.Lamp then idleLampAt) line.now at) result.value result.at }
+    ensures { Reads ((give Line.Lamp then idle_lamp_at) line.now at) result.value result.at }
 {
     let read = fields::idle_lamp(line, at);
     let lamp = read.value;
@@ -77,7 +77,7 @@ fn lamp_line(line: &[u8], at: usize) -> LineRead
 }
 
 fn poke_line(line: &[u8], at: usize) -> LineRead
-    ensures { Reads ((give pokeLine then idleLampAt) line.now at) result.value result.at }
+    ensures { Reads ((give poke_line then idle_lamp_at) line.now at) result.value result.at }
 {
     let read = fields::idle_lamp(line, at);
     let fields = read.value;
@@ -88,7 +88,7 @@ fn poke_line(line: &[u8], at: usize) -> LineRead
 }
 
 fn making_line(line: &[u8], at: usize) -> LineRead
-    ensures { Reads (makingAt line.now at) result.value result.at }
+    ensures { Reads (making_at line.now at) result.value result.at }
 {
     let limits = fields::bounds(line, at);
     let bounds = limits.value;
@@ -107,7 +107,7 @@ fn making_line(line: &[u8], at: usize) -> LineRead
 }
 
 fn record_line(line: &[u8], at: usize) -> LineRead
-    ensures { Reads ((give recordLine then running_at) line.now at) result.value result.at }
+    ensures { Reads ((give record_line then running_at) line.now at) result.value result.at }
 {
     let read = records::running(line, at);
     let running = read.value;
@@ -128,7 +128,7 @@ fn start_last_line(line: &[u8], at: usize) -> LineRead
 }
 
 fn set_line(line: &[u8], at: usize) -> LineRead
-    ensures { Reads ((give setLine then settingAt) line.now at) result.value result.at }
+    ensures { Reads ((give set_line then setting_at) line.now at) result.value result.at }
 {
     let read = setters::read(line, at);
     let setting = read.value;
@@ -139,7 +139,7 @@ fn set_line(line: &[u8], at: usize) -> LineRead
 }
 
 fn leaf_line(line: &[u8], at: usize) -> LineRead
-    ensures { Reads ((give Line.Ask then leafAt) line.now at) result.value result.at }
+    ensures { Reads ((give Line.Ask then leaf_at) line.now at) result.value result.at }
 {
     let read = leaves::read(line, at);
     let leaf = read.value;
@@ -178,7 +178,7 @@ fn unreadable() -> LineRead
 
 // The lines that ask a leaf, make a lamp, show it or change it by hand.
 fn other_line(line: &[u8], name: usize, at: usize) -> LineRead
-    ensures { Reads (otherLineAt line.now name at) result.value result.at }
+    ensures { Reads (other_line_at line.now name at) result.value result.at }
 {
     if words::is(line, name, b"leaf") {
         return leaf_line(line, at);
@@ -230,7 +230,7 @@ pub fn any_line(line: &[u8], name: usize, at: usize) -> LineRead
 }
 
 pub fn read(line: &[u8]) -> Line
-    ensures { result ≡ lineRead line.now }
+    ensures { result ≡ line_read line.now }
 {
     let read = any_line(line, 0, words::end(line, 0));
     if read.at != line.len() {
@@ -249,14 +249,14 @@ pub fn make(making: Making) -> Made
 
 // A lamp that was put in place, or is shown.
 pub fn shown(lamp: Lamp) -> Answer
-    ensures { result ≡ shownAnswer lamp }
+    ensures { result ≡ shown_answer lamp }
 {
     lamp.refused(ACCEPTED)
 }
 
 // The fields anew, with the record that there is.
 fn poked(lamp: Lamp, fields: Lamp) -> Answer
-    ensures { result ≡ shownAnswer (withRecord fields lamp.running) }
+    ensures { result ≡ shown_answer (with_record fields lamp.running) }
 {
     let running = lamp.running;
     shown(Lamp {
@@ -266,7 +266,7 @@ fn poked(lamp: Lamp, fields: Lamp) -> Answer
 }
 
 fn recorded(lamp: Lamp, running: Running) -> Answer
-    ensures { result ≡ shownAnswer (withRecord lamp running) }
+    ensures { result ≡ shown_answer (with_record lamp running) }
 {
     shown(Lamp {
         running: running,
@@ -275,7 +275,7 @@ fn recorded(lamp: Lamp, running: Running) -> Answer
 }
 
 pub fn on_lamp(lamp: Lamp, what: OnLamp) -> Answer
-    ensures { result ≡ onLamp lamp what }
+    ensures { result ≡ on_lamp lamp what }
 {
     match what {
         OnLamp::Call(call) => commands::call(lamp, call),

@@ -1,7 +1,7 @@
 // A setter on its own: its line, and the lamp at the clock with the colour that was set.
 ghost use Rattle.std.specs.Prelude.{◌≡◌};
 ghost use Rattle.text.specs.Readers.{Reads, give, ◌then◌, number64};
-ghost use Rattle.call_lines.specs.Setters.{setting_of, hueSettingAt, saturationSettingAt, miredsSettingAt, settingAt, settingSet, settingAnswer};
+ghost use Rattle.call_lines.specs.Setters.{setting_of, hue_setting_at, saturation_setting_at, mireds_setting_at, setting_at, setting_set, setting_answer};
 
 use color::{Color, ColorSet};
 use lamp::{Answer, Lamp};
@@ -11,21 +11,21 @@ use tasks::GivenTask;
 use text::words::LOST;
 use text::{numbers, words};
 
-#[derive(Drop)]
+#[derive(Clone, Copy)]
 pub enum NewValue {
     Hue { hue: u16, is_enhanced: bool },
     Saturation(u8),
     Mireds(u16),
 }
 
-#[derive(Drop)]
+#[derive(Clone, Copy)]
 pub struct Setting {
     pub value: NewValue,
     pub is_end: bool,
     pub clock: u64,
 }
 
-#[derive(Drop)]
+#[derive(Clone, Copy)]
 pub struct SettingRead {
     pub value: Setting,
     pub at: usize,
@@ -47,7 +47,7 @@ fn at_clock(line: &[u8], at: usize, value: NewValue, is_end: bool) -> SettingRea
 }
 
 fn hue(line: &[u8], at: usize) -> SettingRead
-    ensures { Reads (hueSettingAt line.now at) result.value result.at }
+    ensures { Reads (hue_setting_at line.now at) result.value result.at }
 {
     let hue = numbers::number_16(line, at);
     let is_end = numbers::flag(line, hue.at);
@@ -60,7 +60,7 @@ fn hue(line: &[u8], at: usize) -> SettingRead
 }
 
 fn saturation(line: &[u8], at: usize) -> SettingRead
-    ensures { Reads (saturationSettingAt line.now at) result.value result.at }
+    ensures { Reads (saturation_setting_at line.now at) result.value result.at }
 {
     let saturation = numbers::number_8(line, at);
     let is_end = numbers::flag(line, saturation.at);
@@ -69,7 +69,7 @@ fn saturation(line: &[u8], at: usize) -> SettingRead
 }
 
 fn mireds(line: &[u8], at: usize) -> SettingRead
-    ensures { Reads (miredsSettingAt line.now at) result.value result.at }
+    ensures { Reads (mireds_setting_at line.now at) result.value result.at }
 {
     let mireds = numbers::number_16(line, at);
     let is_end = numbers::flag(line, mireds.at);
@@ -79,7 +79,7 @@ fn mireds(line: &[u8], at: usize) -> SettingRead
 
 // The setter's name and its numbers.
 pub fn read(line: &[u8], at: usize) -> SettingRead
-    ensures { Reads (settingAt line.now at) result.value result.at }
+    ensures { Reads (setting_at line.now at) result.value result.at }
 {
     let name = words::start(line, at);
     let end = words::end(line, name);
@@ -103,7 +103,7 @@ pub fn read(line: &[u8], at: usize) -> SettingRead
 }
 
 fn set_color(color: Color, setting: Setting) -> ColorSet
-    ensures { result ≡ settingSet color setting }
+    ensures { result ≡ setting_set color setting }
 {
     let value = setting.value;
     match value {
@@ -121,7 +121,7 @@ fn set_color(color: Color, setting: Setting) -> ColorSet
 
 // Refused with 8 or 4, as a halt is.
 pub fn set(lamp: Lamp, setting: Setting) -> Answer
-    ensures { result ≡ settingAnswer lamp setting }
+    ensures { result ≡ setting_answer lamp setting }
 {
     let number = lamp.first_cause(setting.clock);
     if number != ACCEPTED {

@@ -9,8 +9,8 @@ use borrow.Author.Tests.{eqb-true, eqb-false, le-leb, lt-leb}
 use Rattle.matter.specs.declared.enums.EnhancedColorModeEnum.{EnhancedColorModeEnum}
 use Rattle.notices.specs.Notices.{only}
 use Rattle.color.specs.declared.Color.{Color}
-use Rattle.color.specs.Setters.{due, same, changeNotices, hueMode, keptHueMode, hueSet, hueReported, saturationSet, miredsSet}
-use Rattle.color.specs.Changes.{Attribute, Changes, hueAttribute, saturationAttribute, miredsAttribute, SettersChange}
+use Rattle.color.specs.Setters.{due, same, change_notices, hue_mode, kept_hue_mode, hue_set, hue_reported, saturation_set, mireds_set}
+use Rattle.color.specs.Changes.{Attribute, Changes, hue_attribute, saturation_attribute, mireds_attribute, SettersChange}
 
 -- a colour that is set: the number and the modes, with a stamp, and the rest as it was
 record Set (a : Attribute) (c : Color) (new : ℕ) (after : ℕ → Color) : Type 0 where
@@ -22,13 +22,13 @@ record Set (a : Attribute) (c : Color) (new : ℕ) (after : ℕ → Color) : Typ
 
 module _ (a : Attribute) (c : Color) (new clock : ℕ) (active : Bool) (after : ℕ → Color) (s : Set a c new after) where
   -- the notices between 13 and 14, in one list
-  joined : changeNotices active true a.notices ≡ only (not active) 13 ++ a.notices ++ (6 ∷ 7 ∷ 14 ∷ [])
+  joined : change_notices active true a.notices ≡ only (not active) 13 ++ a.notices ++ (6 ∷ 7 ∷ 14 ∷ [])
   joined = simp append_assoc
 
   -- a change: the number is another one, or it is an end; it is reported at an end or a second after the last
   changed : (end due : Bool) → (end ≡ false → a.number c ≡ new → ⊥) → (end ≡ true → due ≡ true) →
       (a.stamp c + 1000 ≤ clock → due ≡ true) → (end ≡ false → clock < a.stamp c + 1000 → due ≡ false) →
-      Changes a c new end clock active (after (cond due clock (a.stamp c))) (changeNotices active due a.notices)
+      Changes a c new end clock active (after (cond due clock (a.stamp c))) (change_notices active due a.notices)
   changed end due other ends old young =
       record {
         equal = λ same e. absurd (other e same);
@@ -43,7 +43,7 @@ module _ (a : Attribute) (c : Color) (new clock : ℕ) (active : Bool) (after : 
   by : (t end d : Bool) → eqb (a.number c) new ≡ t → leb (a.stamp c + 1000) clock ≡ d →
       Changes a c new end clock active
       (cond (t && not end) c (after (cond (end || d) clock (a.stamp c))))
-      (cond (t && not end) [] (changeNotices active (cond (t && not end) false (end || d)) a.notices))
+      (cond (t && not end) [] (change_notices active (cond (t && not end) false (end || d)) a.notices))
   by t true d e f = rw and-false (changed true true (λ h. absurd (true≢false h)) (λ h. refl) (λ h. refl) (λ h. absurd (true≢false h)))
   by true false d e f =
       let same : a.number c ≡ new = eqb-true _ _ e in
@@ -61,16 +61,16 @@ module _ (a : Attribute) (c : Color) (new clock : ℕ) (active : Bool) (after : 
   follows : (end : Bool) →
       Changes a c new end clock active
       (cond (same (a.number c) new end) c (after (cond (due end (a.stamp c) clock) clock (a.stamp c))))
-      (cond (same (a.number c) new end) [] (changeNotices active (cond (same (a.number c) new end) false (due end (a.stamp c) clock)) a.notices))
+      (cond (same (a.number c) new end) [] (change_notices active (cond (same (a.number c) new end) false (due end (a.stamp c) clock)) a.notices))
   follows end = by (eqb (a.number c) new) end (leb (a.stamp c + 1000) clock) refl refl
 
 -- ---- the three setters
 
-hue-emode : (enhanced : Bool) (old : EnhancedColorModeEnum) → (hueAttribute enhanced).EnhancedMode old (hueMode enhanced)
+hue-emode : (enhanced : Bool) (old : EnhancedColorModeEnum) → (hue_attribute enhanced).EnhancedMode old (hue_mode enhanced)
 hue-emode true old = (λ e. refl, λ e. absurd (true≢false e))
 hue-emode false old = (λ e. absurd (true≢false (sym e)), λ e. refl)
 
-kept-emode : (old : EnhancedColorModeEnum) → saturationAttribute.EnhancedMode old (keptHueMode old)
+kept-emode : (old : EnhancedColorModeEnum) → saturation_attribute.EnhancedMode old (kept_hue_mode old)
 kept-emode EnhancedColorModeEnum.CurrentHueAndCurrentSaturation = (λ e. refl, λ e. refl)
 kept-emode EnhancedColorModeEnum.CurrentXAndCurrentY = (λ e. absurd (true≢false (sym e)), λ e. refl)
 kept-emode EnhancedColorModeEnum.ColorTemperatureMireds = (λ e. absurd (true≢false (sym e)), λ e. refl)
@@ -78,21 +78,21 @@ kept-emode EnhancedColorModeEnum.EnhancedCurrentHueAndCurrentSaturation = (λ e.
 
 module _ (c : Color) (new : ℕ) (end : Bool) (clock : ℕ) (active : Bool) where
   hue-changes : (enhanced : Bool) →
-      Changes (hueAttribute enhanced) c new end clock active (hueSet c new end enhanced clock) (hueReported c new end enhanced clock active)
-  unfolding hueSet
+      Changes (hue_attribute enhanced) c new end clock active (hue_set c new end enhanced clock) (hue_reported c new end enhanced clock active)
+  unfolding hue_set
   hue-changes enhanced =
-      follows (hueAttribute enhanced) c new clock active _
+      follows (hue_attribute enhanced) c new clock active _
       (record { number = λ s. refl; mode = λ s. refl; emode = λ s. hue-emode enhanced c.emode; stamp = λ s. refl; rest = λ s. refl }) end
 
   pub setters-change : SettersChange c new end clock active
-  unfolding saturationSet miredsSet
+  unfolding saturation_set mireds_set
   setters-change =
       record {
         hue = hue-changes;
         saturation =
-            follows saturationAttribute c new clock active _
+            follows saturation_attribute c new clock active _
             (record { number = λ s. refl; mode = λ s. refl; emode = λ s. kept-emode c.emode; stamp = λ s. refl; rest = λ s. refl }) end;
         mireds =
-            follows miredsAttribute c new clock active _
+            follows mireds_attribute c new clock active _
             (record { number = λ s. refl; mode = λ s. refl; emode = λ s. refl; stamp = λ s. refl; rest = λ s. refl }) end;
       }

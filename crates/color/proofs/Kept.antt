@@ -11,45 +11,45 @@ use Rattle.matter.specs.declared.limits.Bounds.{Bounds}
 use Rattle.matter.specs.declared.enums.ColorModeEnum.{ColorModeEnum}
 use Rattle.matter.specs.declared.enums.EnhancedColorModeEnum.{EnhancedColorModeEnum}
 use Rattle.matter.proofs.Laws.{cond_both, leb-later, each, all_of}
-use Rattle.matter.specs.Limits.{saturationLimit}
+use Rattle.matter.specs.Limits.{saturation_limit}
 use Rattle.matter.specs.InRange.{Short}
 use Rattle.notices.specs.Names.{EnhancedCurrentHue}
 use Rattle.notices.specs.Notices.{only}
 use Rattle.color.specs.declared.Change.{Change}
 use Rattle.color.specs.declared.Color.{Color}
-use Rattle.color.specs.Valid.{modesAgree, colorValid}
-use Rattle.color.specs.Setters.{due, changeNotices, changeReported, same, hueMode, keptHueMode, hueSet, saturationSet, miredsSet}
+use Rattle.color.specs.Valid.{modes_agree, color_valid}
+use Rattle.color.specs.Setters.{due, change_notices, change_reported, same, hue_mode, kept_hue_mode, hue_set, saturation_set, mireds_set}
 
 -- ---- validity lasts
 
 -- a valid colour is valid at a later clock
-pub color-later : (c : Color) (bounds : Bounds) (clock more : ℕ) → colorValid c bounds clock ≡ true → clock ≤ more → colorValid c bounds more ≡ true
-unfolding colorValid
+pub color-later : (c : Color) (bounds : Bounds) (clock more : ℕ) → color_valid c bounds clock ≡ true → clock ≤ more → color_valid c bounds more ≡ true
+unfolding color_valid
 color-later c bounds clock more validity h =
     let (s, (a, (b, (o, (m, (x, (y, (z, tt)))))))) = each _ validity in
     all_of _ (s, (a, (b, (o, (m, (leb-later _ clock more x h, (leb-later _ clock more y h, (leb-later _ clock more z h, tt))))))))
 
 -- ---- the numbers of a valid colour
 
-module _ (c : Color) (bounds : Bounds) (clock : ℕ) (validity : colorValid c bounds clock ≡ true) where
+module _ (c : Color) (bounds : Bounds) (clock : ℕ) (validity : color_valid c bounds clock ≡ true) where
   -- its saturation is at most 254
-  pub valid-saturation : c.saturation ≤ saturationLimit
-  unfolding colorValid
+  pub valid-saturation : c.saturation ≤ saturation_limit
+  unfolding color_valid
   valid-saturation = leb-true _ _ (each _ validity).0
 
   -- its mireds are no less than the lower bound
   pub valid-above : bounds.min ≤ c.mireds
-  unfolding colorValid
+  unfolding color_valid
   valid-above = leb-true _ _ (each _ validity).1.0
 
   -- and no more than the upper one
   pub valid-below : c.mireds ≤ bounds.max
-  unfolding colorValid
+  unfolding color_valid
   valid-below = leb-true _ _ (each _ validity).1.1.0
 
   -- no stamp is after the clock
   pub valid-stamps : (c.stamps.hue ≤ clock) × (c.stamps.saturation ≤ clock) × (c.stamps.mireds ≤ clock)
-  unfolding colorValid
+  unfolding color_valid
   valid-stamps =
       let (s, (a, (b, (o, (m, (x, (y, (z, tt)))))))) = each _ validity in
       (leb-true _ _ x, leb-true _ _ y, leb-true _ _ z)
@@ -62,64 +62,64 @@ stamped true stamp clock e = le-leb clock clock (omega arith)
 stamped false stamp clock e = e
 
 -- the modes that `set_hue` sets agree
-hue-modes : (enhanced : Bool) → modesAgree ColorModeEnum.CurrentHueAndCurrentSaturation (hueMode enhanced) ≡ true
+hue-modes : (enhanced : Bool) → modes_agree ColorModeEnum.CurrentHueAndCurrentSaturation (hue_mode enhanced) ≡ true
 hue-modes true = refl
 hue-modes false = refl
 
 -- and so do those that `set_saturation` sets
-kept-modes : (e : EnhancedColorModeEnum) → modesAgree ColorModeEnum.CurrentHueAndCurrentSaturation (keptHueMode e) ≡ true
+kept-modes : (e : EnhancedColorModeEnum) → modes_agree ColorModeEnum.CurrentHueAndCurrentSaturation (kept_hue_mode e) ≡ true
 kept-modes EnhancedColorModeEnum.CurrentHueAndCurrentSaturation = refl
 kept-modes EnhancedColorModeEnum.CurrentXAndCurrentY = refl
 kept-modes EnhancedColorModeEnum.ColorTemperatureMireds = refl
 kept-modes EnhancedColorModeEnum.EnhancedCurrentHueAndCurrentSaturation = refl
 
-module _ (c : Color) (bounds : Bounds) (clock : ℕ) (validity : colorValid c bounds clock ≡ true) where
+module _ (c : Color) (bounds : Bounds) (clock : ℕ) (validity : color_valid c bounds clock ≡ true) where
   -- `set_hue` keeps validity
-  pub hue-kept : (new : ℕ) (end enhanced : Bool) → colorValid (hueSet c new end enhanced clock) bounds clock ≡ true
-  unfolding colorValid hueSet
+  pub hue-kept : (new : ℕ) (end enhanced : Bool) → color_valid (hue_set c new end enhanced clock) bounds clock ≡ true
+  unfolding color_valid hue_set
   hue-kept new end enhanced =
       let (s, (a, (b, (o, (m, (x, (y, (z, tt)))))))) = each _ validity in
-      cond_both (λ d. colorValid d bounds clock ≡ true) (same c.hue new end) _ _ (λ e. validity)
+      cond_both (λ d. color_valid d bounds clock ≡ true) (same c.hue new end) _ _ (λ e. validity)
       (λ e. all_of _ (s, (a, (b, (o, (hue-modes enhanced, (stamped (due end c.stamps.hue clock) _ clock x, (y, (z, tt)))))))))
 
   -- `set_saturation` keeps validity, up to 254
-  pub saturation-kept : (new : ℕ) (end : Bool) → new ≤ saturationLimit → colorValid (saturationSet c new end clock) bounds clock ≡ true
-  unfolding colorValid saturationSet
+  pub saturation-kept : (new : ℕ) (end : Bool) → new ≤ saturation_limit → color_valid (saturation_set c new end clock) bounds clock ≡ true
+  unfolding color_valid saturation_set
   saturation-kept new end h =
       let (s, (a, (b, (o, (m, (x, (y, (z, tt)))))))) = each _ validity in
-      cond_both (λ d. colorValid d bounds clock ≡ true) (same c.saturation new end) _ _ (λ e. validity)
-      (λ e. all_of _ (le-leb new saturationLimit h, (a, (b, (o, (kept-modes c.emode, (x, (stamped (due end c.stamps.saturation clock) _ clock y, (z, tt)))))))))
+      cond_both (λ d. color_valid d bounds clock ≡ true) (same c.saturation new end) _ _ (λ e. validity)
+      (λ e. all_of _ (le-leb new saturation_limit h, (a, (b, (o, (kept-modes c.emode, (x, (stamped (due end c.stamps.saturation clock) _ clock y, (z, tt)))))))))
 
   -- `set_color_temperature` keeps validity, within the bounds
-  pub mireds-kept : (new : ℕ) (end : Bool) → bounds.min ≤ new → new ≤ bounds.max → colorValid (miredsSet c new end clock) bounds clock ≡ true
-  unfolding colorValid miredsSet
+  pub mireds-kept : (new : ℕ) (end : Bool) → bounds.min ≤ new → new ≤ bounds.max → color_valid (mireds_set c new end clock) bounds clock ≡ true
+  unfolding color_valid mireds_set
   mireds-kept new end h k =
       let (s, (a, (b, (o, (m, (x, (y, (z, tt)))))))) = each _ validity in
-      cond_both (λ d. colorValid d bounds clock ≡ true) (same c.mireds new end) _ _ (λ e. validity)
+      cond_both (λ d. color_valid d bounds clock ≡ true) (same c.mireds new end) _ _ (λ e. validity)
       (λ e. all_of _ (s, (le-leb _ _ h, (le-leb _ _ k, (o, (refl, (x, (y, (stamped (due end c.stamps.mireds clock) _ clock z, tt)))))))))
 
 -- ---- the hue that a setter leaves
 
 module _ (c : Color) (new : ℕ) (end : Bool) (clock : ℕ) where
   -- `set_hue` leaves the old hue or the new one
-  pub hue-word : (enhanced : Bool) → Short c.hue → Short new → Short (hueSet c new end enhanced clock).hue
-  unfolding hueSet
+  pub hue-word : (enhanced : Bool) → Short c.hue → Short new → Short (hue_set c new end enhanced clock).hue
+  unfolding hue_set
   hue-word enhanced h k = cond_both (λ (d : Color). Short d.hue) (same c.hue new end) _ _ (λ e. h) (λ e. k)
 
   -- `set_saturation` leaves the hue
-  pub saturation-hue : (saturationSet c new end clock).hue ≡ c.hue
-  unfolding saturationSet
+  pub saturation-hue : (saturation_set c new end clock).hue ≡ c.hue
+  unfolding saturation_set
   saturation-hue = cond_both (λ (d : Color). d.hue ≡ c.hue) (same c.saturation new end) _ _ (λ e. refl) (λ e. refl)
 
   -- `set_color_temperature` leaves the hue
-  pub mireds-hue : (miredsSet c new end clock).hue ≡ c.hue
-  unfolding miredsSet
+  pub mireds-hue : (mireds_set c new end clock).hue ≡ c.hue
+  unfolding mireds_set
   mireds-hue = cond_both (λ (d : Color). d.hue ≡ c.hue) (same c.mireds new end) _ _ (λ e. refl) (λ e. refl)
 
 -- ---- a setter reports few
 
 -- a setter reports nothing, or four notices and its attribute's
-reported-few : (quiet active reported : Bool) (attributes : List ℕ) → length (cond quiet [] (changeNotices active reported attributes)) ≤ 4 + length attributes
+reported-few : (quiet active reported : Bool) (attributes : List ℕ) → length (cond quiet [] (change_notices active reported attributes)) ≤ 4 + length attributes
 reported-few true active reported xs = omega arith
 reported-few false true true xs = simp length-append (omega arith)
 reported-few false true false xs = omega arith
@@ -127,7 +127,7 @@ reported-few false false true xs = simp length-append (omega arith)
 reported-few false false false xs = omega arith
 
 -- a change reports at most five, and one more where it is of an enhanced hue
-pub change-few : (change : Change) (active : Bool) → length (changeReported change active) ≤ 5 + length (only change.enhanced EnhancedCurrentHue)
+pub change-few : (change : Change) (active : Bool) → length (change_reported change active) ≤ 5 + length (only change.enhanced EnhancedCurrentHue)
 change-few change active =
     omega
     (arith, reported-few change.same active change.due (change.attribute ∷ only change.enhanced EnhancedCurrentHue))

@@ -8,11 +8,11 @@ use lib.Dec.{leb}
 use borrow.Author.Tests.{leb-true, leb-false, le-leb, lt-leb}
 use Rattle.notices.specs.declared.Numeral.{Numeral}
 use Rattle.notices.specs.Notices.{only}
-use Rattle.notices.specs.Numerals.{consed, inFront}
-use Rattle.notices.specs.Names.{EnhancedCurrentHue, ColorMode, EnhancedColorMode, markedDirty}
+use Rattle.notices.specs.Numerals.{consed, in_front}
+use Rattle.notices.specs.Names.{EnhancedCurrentHue, ColorMode, EnhancedColorMode, marked_dirty}
 use Rattle.notices.proofs.Numerals.{Below, none, more, below-append, below-only}
 use Rattle.color.specs.declared.Change.{Change}
-use Rattle.color.specs.Setters.{changeNotices, changeReported}
+use Rattle.color.specs.Setters.{change_notices, change_reported}
 
 -- a second or more from the stamp to the clock, by the difference or by the sum
 by : (stamp clock : ℕ) (b : Bool) → stamp ≤ clock → leb 1000 (clock - stamp) ≡ b → leb (stamp + 1000) clock ≡ b
@@ -24,10 +24,10 @@ second-old stamp clock h = sym (by stamp clock (leb 1000 (clock - stamp)) h refl
 
 -- a change's notices, one after the other in front of a list
 pub change-in-front : (active due enhanced : Bool) (attribute : ℕ) (l : Numeral) →
-    inFront (only (not active) 13)
-    (inFront (only due attribute) (inFront (only (due && enhanced) 3) (inFront (only due 6) (inFront (only due 7) (consed l 14)))))
-    ≡ inFront (changeNotices active due (attribute ∷ only enhanced 3)) l
-unfolding inFront
+    in_front (only (not active) 13)
+    (in_front (only due attribute) (in_front (only (due && enhanced) 3) (in_front (only due 6) (in_front (only due 7) (consed l 14)))))
+    ≡ in_front (change_notices active due (attribute ∷ only enhanced 3)) l
+unfolding in_front
 change-in-front true true true attribute l = refl
 change-in-front true true false attribute l = refl
 change-in-front true false enhanced attribute l = refl
@@ -46,10 +46,10 @@ module _ (bound : ℕ) (high : 14 < bound) where
   due_below false enhanced attribute h = none
 
   notices-below : (t d active enhanced : Bool) (attribute : ℕ) → attribute < bound →
-      Below bound (cond t [] (changeNotices active d (attribute ∷ only enhanced EnhancedCurrentHue)))
+      Below bound (cond t [] (change_notices active d (attribute ∷ only enhanced EnhancedCurrentHue)))
   notices-below true d active enhanced attribute h = none
   notices-below false d active enhanced attribute h =
-      below-append (below-only (not active) markedDirty (omega arith)) (below-append (due_below d enhanced attribute h) (more (omega arith) none))
+      below-append (below-only (not active) marked_dirty (omega arith)) (below-append (due_below d enhanced attribute h) (more (omega arith) none))
 
-  pub change-below : (change : Change) (active : Bool) → change.attribute < bound → Below bound (changeReported change active)
+  pub change-below : (change : Change) (active : Bool) → change.attribute < bound → Below bound (change_reported change active)
   change-below change active h = notices-below change.same change.due active change.enhanced change.attribute h

@@ -5,7 +5,7 @@ use Rattle.matter.specs.declared.enums.ColorModeEnum.{ColorModeEnum}
 use Rattle.matter.specs.declared.enums.EnhancedColorModeEnum.{EnhancedColorModeEnum}
 use Rattle.notices.specs.Notices.{only}
 use Rattle.color.specs.declared.Color.{Color}
-use Rattle.color.specs.Setters.{hueSet, hueReported, saturationSet, saturationReported, miredsSet, miredsReported}
+use Rattle.color.specs.Setters.{hue_set, hue_reported, saturation_set, saturation_reported, mireds_set, mireds_reported}
 
 -- the number that a setter sets, its stamp, the numbers and stamps of the other two, and its attribute's notices; the
 -- color mode that it sets, and what it makes of the enhanced one
@@ -40,15 +40,15 @@ pub record Changes (a : Attribute) (c : Color) (new : ℕ) (end : Bool) (clock :
   pub rest : a.others after ≡ a.others c
 
 -- a hue mode, plain or enhanced
-abbrev pub isHueMode : EnhancedColorModeEnum → Bool
-isHueMode EnhancedColorModeEnum.CurrentHueAndCurrentSaturation = true
-isHueMode EnhancedColorModeEnum.CurrentXAndCurrentY = false
-isHueMode EnhancedColorModeEnum.ColorTemperatureMireds = false
-isHueMode EnhancedColorModeEnum.EnhancedCurrentHueAndCurrentSaturation = true
+abbrev pub is_hue_mode : EnhancedColorModeEnum → Bool
+is_hue_mode EnhancedColorModeEnum.CurrentHueAndCurrentSaturation = true
+is_hue_mode EnhancedColorModeEnum.CurrentXAndCurrentY = false
+is_hue_mode EnhancedColorModeEnum.ColorTemperatureMireds = false
+is_hue_mode EnhancedColorModeEnum.EnhancedCurrentHueAndCurrentSaturation = true
 
 -- the hue: CurrentHue, and as enhanced EnhancedCurrentHue and the enhanced mode
-abbrev pub hueAttribute : Bool → Attribute
-hueAttribute enhanced =
+abbrev pub hue_attribute : Bool → Attribute
+hue_attribute enhanced =
     record {
       number = λ c. c.hue;
       stamp = λ c. c.stamps.hue;
@@ -62,8 +62,8 @@ hueAttribute enhanced =
     }
 
 -- the saturation: "`set_saturation` keeps an enhanced mode that is already a hue one"
-abbrev pub saturationAttribute : Attribute
-saturationAttribute =
+abbrev pub saturation_attribute : Attribute
+saturation_attribute =
     record {
       number = λ c. c.saturation;
       stamp = λ c. c.stamps.saturation;
@@ -72,12 +72,12 @@ saturationAttribute =
       mode = ColorModeEnum.CurrentHueAndCurrentSaturation;
       EnhancedMode =
           λ old new.
-          (isHueMode old ≡ true → new ≡ old)
-          × (isHueMode old ≡ false → new ≡ EnhancedColorModeEnum.CurrentHueAndCurrentSaturation);
+          (is_hue_mode old ≡ true → new ≡ old)
+          × (is_hue_mode old ≡ false → new ≡ EnhancedColorModeEnum.CurrentHueAndCurrentSaturation);
     }
 
-abbrev pub miredsAttribute : Attribute
-miredsAttribute =
+abbrev pub mireds_attribute : Attribute
+mireds_attribute =
     record {
       number = λ c. c.mireds;
       stamp = λ c. c.stamps.mireds;
@@ -89,10 +89,10 @@ miredsAttribute =
 
 pub record SettersChange (c : Color) (new : ℕ) (end : Bool) (clock : ℕ) (active : Bool) : Type 0 where
   pub hue : (enhanced : Bool) →
-      Changes (hueAttribute enhanced) c new end clock active
-      (hueSet c new end enhanced clock) (hueReported c new end enhanced clock active)
+      Changes (hue_attribute enhanced) c new end clock active
+      (hue_set c new end enhanced clock) (hue_reported c new end enhanced clock active)
   pub saturation :
-      Changes saturationAttribute c new end clock active
-      (saturationSet c new end clock) (saturationReported c new end clock active)
+      Changes saturation_attribute c new end clock active
+      (saturation_set c new end clock) (saturation_reported c new end clock active)
   pub mireds :
-      Changes miredsAttribute c new end clock active (miredsSet c new end clock) (miredsReported c new end clock active)
+      Changes mireds_attribute c new end clock active (mireds_set c new end clock) (mireds_reported c new end clock active)

@@ -4,7 +4,7 @@ use Rattle.matter.specs.declared.enums.ColorModeEnum.{ColorModeEnum}
 use Rattle.matter.specs.declared.enums.EnhancedColorModeEnum.{EnhancedColorModeEnum}
 use Rattle.notices.specs.Notices.{only}
 use Rattle.notices.specs.Names.{CurrentHue, EnhancedCurrentHue, CurrentSaturation, ColorTemperatureMireds, ColorMode}
-use Rattle.notices.specs.Names.{EnhancedColorMode, markedDirty, scenesNotified}
+use Rattle.notices.specs.Names.{EnhancedColorMode, marked_dirty, scenes_notified}
 use Rattle.color.specs.declared.Color.{Color}
 use Rattle.color.specs.declared.Change.{Change}
 use Rattle.color.specs.declared.ColorSet.{ColorSet}
@@ -15,10 +15,10 @@ due end stamp clock = end || leb (stamp + 1000) clock
 
 -- "With every such change 13 comes first and 14 last. Between them, notices of the attribute and of both modes"; "13 is
 -- withheld in the setters while the loop is active"
-abbrev pub changeNotices : Bool → Bool → List ℕ → List ℕ
-changeNotices active reported attributes =
-    only (not active) markedDirty
-    ++ (cond reported (attributes ++ (ColorMode ∷ EnhancedColorMode ∷ [])) [] ++ (scenesNotified ∷ []))
+abbrev pub change_notices : Bool → Bool → List ℕ → List ℕ
+change_notices active reported attributes =
+    only (not active) marked_dirty
+    ++ (cond reported (attributes ++ (ColorMode ∷ EnhancedColorMode ∷ [])) [] ++ (scenes_notified ∷ []))
 
 -- "An equal number, not at the end of a transition, changes nothing and notifies nothing, modes included. Otherwise
 -- number and modes are set": from the old number, the new one and whether it is an end
@@ -26,44 +26,44 @@ abbrev pub same : ℕ → ℕ → Bool → Bool
 same old new end = eqb old new && not end
 
 -- the enhanced mode of a hue
-abbrev pub hueMode : Bool → EnhancedColorModeEnum
-hueMode enhanced =
+abbrev pub hue_mode : Bool → EnhancedColorModeEnum
+hue_mode enhanced =
     cond enhanced EnhancedColorModeEnum.EnhancedCurrentHueAndCurrentSaturation
     EnhancedColorModeEnum.CurrentHueAndCurrentSaturation
 
 -- "`set_saturation` keeps an enhanced mode that is already a hue one"
-abbrev pub keptHueMode : EnhancedColorModeEnum → EnhancedColorModeEnum
-keptHueMode EnhancedColorModeEnum.CurrentHueAndCurrentSaturation = EnhancedColorModeEnum.CurrentHueAndCurrentSaturation
-keptHueMode EnhancedColorModeEnum.CurrentXAndCurrentY = EnhancedColorModeEnum.CurrentHueAndCurrentSaturation
-keptHueMode EnhancedColorModeEnum.ColorTemperatureMireds = EnhancedColorModeEnum.CurrentHueAndCurrentSaturation
-keptHueMode EnhancedColorModeEnum.EnhancedCurrentHueAndCurrentSaturation =
+abbrev pub kept_hue_mode : EnhancedColorModeEnum → EnhancedColorModeEnum
+kept_hue_mode EnhancedColorModeEnum.CurrentHueAndCurrentSaturation = EnhancedColorModeEnum.CurrentHueAndCurrentSaturation
+kept_hue_mode EnhancedColorModeEnum.CurrentXAndCurrentY = EnhancedColorModeEnum.CurrentHueAndCurrentSaturation
+kept_hue_mode EnhancedColorModeEnum.ColorTemperatureMireds = EnhancedColorModeEnum.CurrentHueAndCurrentSaturation
+kept_hue_mode EnhancedColorModeEnum.EnhancedCurrentHueAndCurrentSaturation =
     EnhancedColorModeEnum.EnhancedCurrentHueAndCurrentSaturation
 
 -- what a change reports, with the loop active or not: nothing where the number is the same
-abbrev pub changeReported : Change → Bool → List ℕ
-changeReported change active =
+abbrev pub change_reported : Change → Bool → List ℕ
+change_reported change active =
     cond change.same []
-    (changeNotices active change.due (change.attribute ∷ only change.enhanced EnhancedCurrentHue))
+    (change_notices active change.due (change.attribute ∷ only change.enhanced EnhancedCurrentHue))
 
 -- a setter's change, from whether the number is the same and whether the attribute is due
-abbrev pub changeOf : Bool → Bool → ℕ → Bool → Change
-changeOf same due attribute enhanced =
+abbrev pub change_of : Bool → Bool → ℕ → Bool → Change
+change_of same due attribute enhanced =
     record { same = same; due = cond same false due; attribute = attribute; enhanced = enhanced }
 
 -- where nothing is set
-abbrev pub noChange : Change
-noChange = record { same = true; due = false; attribute = 0; enhanced = false }
+abbrev pub no_change : Change
+no_change = record { same = true; due = false; attribute = 0; enhanced = false }
 
 -- `set_hue` at this clock: the colour after it
-unfoldable pub hueSet : Color → ℕ → Bool → Bool → ℕ → Color
-hueSet c new end enhanced clock =
+unfoldable pub hue_set : Color → ℕ → Bool → Bool → ℕ → Color
+hue_set c new end enhanced clock =
     cond (same c.hue new end) c
     (record {
       hue = new;
       saturation = c.saturation;
       mireds = c.mireds;
       mode = ColorModeEnum.CurrentHueAndCurrentSaturation;
-      emode = hueMode enhanced;
+      emode = hue_mode enhanced;
       stamps =
           record {
             hue = cond (due end c.stamps.hue clock) clock c.stamps.hue;
@@ -73,29 +73,29 @@ hueSet c new end enhanced clock =
     })
 
 -- the change
-abbrev pub hueChange : Color → ℕ → Bool → Bool → ℕ → Change
-hueChange c new end enhanced clock =
-    changeOf (same c.hue new end) (due end c.stamps.hue clock) CurrentHue enhanced
+abbrev pub hue_change : Color → ℕ → Bool → Bool → ℕ → Change
+hue_change c new end enhanced clock =
+    change_of (same c.hue new end) (due end c.stamps.hue clock) CurrentHue enhanced
 
 -- both, as `set_hue` answers them
-abbrev pub setHue : Color → ℕ → Bool → Bool → ℕ → ColorSet
-setHue c new end enhanced clock =
-    record { color = hueSet c new end enhanced clock; change = hueChange c new end enhanced clock }
+abbrev pub set_hue : Color → ℕ → Bool → Bool → ℕ → ColorSet
+set_hue c new end enhanced clock =
+    record { color = hue_set c new end enhanced clock; change = hue_change c new end enhanced clock }
 
 -- what the change reports, with the loop active or not
-abbrev pub hueReported : Color → ℕ → Bool → Bool → ℕ → Bool → List ℕ
-hueReported c new end enhanced clock active = changeReported (hueChange c new end enhanced clock) active
+abbrev pub hue_reported : Color → ℕ → Bool → Bool → ℕ → Bool → List ℕ
+hue_reported c new end enhanced clock active = change_reported (hue_change c new end enhanced clock) active
 
 -- `set_saturation` at this clock: the colour after it
-unfoldable pub saturationSet : Color → ℕ → Bool → ℕ → Color
-saturationSet c new end clock =
+unfoldable pub saturation_set : Color → ℕ → Bool → ℕ → Color
+saturation_set c new end clock =
     cond (same c.saturation new end) c
     (record {
       hue = c.hue;
       saturation = new;
       mireds = c.mireds;
       mode = ColorModeEnum.CurrentHueAndCurrentSaturation;
-      emode = keptHueMode c.emode;
+      emode = kept_hue_mode c.emode;
       stamps =
           record {
             hue = c.stamps.hue;
@@ -105,22 +105,22 @@ saturationSet c new end clock =
     })
 
 -- the change
-abbrev pub saturationChange : Color → ℕ → Bool → ℕ → Change
-saturationChange c new end clock =
-    changeOf (same c.saturation new end) (due end c.stamps.saturation clock) CurrentSaturation false
+abbrev pub saturation_change : Color → ℕ → Bool → ℕ → Change
+saturation_change c new end clock =
+    change_of (same c.saturation new end) (due end c.stamps.saturation clock) CurrentSaturation false
 
 -- both, as `set_saturation` answers them
-abbrev pub setSaturation : Color → ℕ → Bool → ℕ → ColorSet
-setSaturation c new end clock =
-    record { color = saturationSet c new end clock; change = saturationChange c new end clock }
+abbrev pub set_saturation : Color → ℕ → Bool → ℕ → ColorSet
+set_saturation c new end clock =
+    record { color = saturation_set c new end clock; change = saturation_change c new end clock }
 
 -- what it reports
-abbrev pub saturationReported : Color → ℕ → Bool → ℕ → Bool → List ℕ
-saturationReported c new end clock active = changeReported (saturationChange c new end clock) active
+abbrev pub saturation_reported : Color → ℕ → Bool → ℕ → Bool → List ℕ
+saturation_reported c new end clock active = change_reported (saturation_change c new end clock) active
 
 -- `set_color_temperature` at this clock: the colour after it
-unfoldable pub miredsSet : Color → ℕ → Bool → ℕ → Color
-miredsSet c new end clock =
+unfoldable pub mireds_set : Color → ℕ → Bool → ℕ → Color
+mireds_set c new end clock =
     cond (same c.mireds new end) c
     (record {
       hue = c.hue;
@@ -137,15 +137,15 @@ miredsSet c new end clock =
     })
 
 -- the change
-abbrev pub miredsChange : Color → ℕ → Bool → ℕ → Change
-miredsChange c new end clock =
-    changeOf (same c.mireds new end) (due end c.stamps.mireds clock) ColorTemperatureMireds false
+abbrev pub mireds_change : Color → ℕ → Bool → ℕ → Change
+mireds_change c new end clock =
+    change_of (same c.mireds new end) (due end c.stamps.mireds clock) ColorTemperatureMireds false
 
 -- both, as `set_color_temperature` answers them
-abbrev pub setMireds : Color → ℕ → Bool → ℕ → ColorSet
-setMireds c new end clock =
-    record { color = miredsSet c new end clock; change = miredsChange c new end clock }
+abbrev pub set_mireds : Color → ℕ → Bool → ℕ → ColorSet
+set_mireds c new end clock =
+    record { color = mireds_set c new end clock; change = mireds_change c new end clock }
 
 -- what it reports
-abbrev pub miredsReported : Color → ℕ → Bool → ℕ → Bool → List ℕ
-miredsReported c new end clock active = changeReported (miredsChange c new end clock) active
+abbrev pub mireds_reported : Color → ℕ → Bool → ℕ → Bool → List ℕ
+mireds_reported c new end clock active = change_reported (mireds_change c new end clock) active

@@ -2,29 +2,29 @@
 use Rattle.std.specs.Prelude.{ℕ, Bool, [], ◌∷◌, leb, eqb}
 use Rattle.matter.specs.declared.enums.ColorModeEnum.{ColorModeEnum}
 use Rattle.matter.specs.declared.enums.EnhancedColorModeEnum.{EnhancedColorModeEnum}
-use Rattle.matter.specs.All.{allTrue}
-use Rattle.matter.specs.Limits.{saturationLimit}
-use Rattle.matter.specs.Numbers.{colorModeNumber}
-use Rattle.matter.specs.Rules.{colorModeOf}
+use Rattle.matter.specs.All.{all_true}
+use Rattle.matter.specs.Limits.{saturation_limit}
+use Rattle.matter.specs.Numbers.{color_mode_number}
+use Rattle.matter.specs.Rules.{color_mode_of}
 use Rattle.matter.specs.declared.limits.Bounds.{Bounds}
 use Rattle.color.specs.declared.Color.{Color}
 
 -- the two modes agree: the one is the other's
-abbrev pub modesAgree : ColorModeEnum → EnhancedColorModeEnum → Bool
-modesAgree mode emode = eqb (colorModeNumber mode) (colorModeNumber (colorModeOf emode))
+abbrev pub modes_agree : ColorModeEnum → EnhancedColorModeEnum → Bool
+modes_agree mode emode = eqb (color_mode_number mode) (color_mode_number (color_mode_of emode))
 
-unfoldable pub colorValid : Color → Bounds → ℕ → Bool
-colorValid c bounds clock =
-    allTrue
+unfoldable pub color_valid : Color → Bounds → ℕ → Bool
+color_valid c bounds clock =
+    all_true
     ( -- "saturation above 254"
-    leb c.saturation saturationLimit
+    leb c.saturation saturation_limit
     -- "mireds outside the bounds"
     ∷ leb bounds.min c.mireds
     ∷ leb c.mireds bounds.max
     -- "bounds crossed"
     ∷ leb bounds.min bounds.max
     -- "the two modes disagree"
-    ∷ modesAgree c.mode c.emode
+    ∷ modes_agree c.mode c.emode
     -- "a notice stamp after the clock"
     ∷ leb c.stamps.hue clock
     ∷ leb c.stamps.saturation clock

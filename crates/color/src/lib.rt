@@ -2,17 +2,17 @@
 // setters with what they tell: document 01, leaves 4 and 5.
 // Carried over from project-chip/rs-matter, commit 43f61585a4 (Apache-2.0, see NOTICE), and changed.
 ghost use Rattle.std.specs.Prelude.{◌≡◌, cond};
-ghost use Rattle.notices.specs.Numerals.{inFront};
-ghost use Rattle.color.specs.Setters.{due, changeReported, hueMode, keptHueMode, noChange, setHue, setSaturation, setMireds};
-ghost use Rattle.color.specs.Valid.{modesAgree, colorValid};
-ghost use Rattle.color.specs.Making.{newColor};
+ghost use Rattle.notices.specs.Numerals.{in_front};
+ghost use Rattle.color.specs.Setters.{due, change_reported, hue_mode, kept_hue_mode, no_change, set_hue, set_saturation, set_mireds};
+ghost use Rattle.color.specs.Valid.{modes_agree, color_valid};
+ghost use Rattle.color.specs.Making.{new_color};
 
 use matter::{Bounds, ColorModeEnum, EnhancedColorModeEnum, color_mode_of, default_color_mode};
 use notices::Numeral;
 use progress::clamped_sum;
 
 // The clocks at which each attribute was last reported.
-#[derive(Drop)]
+#[derive(Clone, Copy)]
 pub struct Stamps {
     pub hue: u64,
     pub saturation: u64,
@@ -20,7 +20,7 @@ pub struct Stamps {
 }
 
 // EnhancedCurrentHue, CurrentSaturation, ColorTemperatureMireds, ColorMode, EnhancedColorMode, and their stamps.
-#[derive(Drop)]
+#[derive(Clone, Copy)]
 pub struct Color {
     pub hue: u16,
     pub saturation: u8,
@@ -32,7 +32,7 @@ pub struct Color {
 
 // What a setter has to report: whether the number stays the same, which reports nothing; else whether the attribute is due; its
 // notice; and whether it is an enhanced hue.
-#[derive(Drop)]
+#[derive(Clone, Copy)]
 pub struct Change {
     pub same: bool,
     pub due: bool,
@@ -41,7 +41,7 @@ pub struct Change {
 }
 
 // The colour after a setter, and the change.
-#[derive(Drop)]
+#[derive(Clone, Copy)]
 pub struct ColorSet {
     pub color: Color,
     pub change: Change,
@@ -69,7 +69,7 @@ fn stamp_at(reported: bool, clock: u64, stamp: u64) -> u64
 }
 
 fn hue_mode(is_enhanced: bool) -> EnhancedColorModeEnum
-    ensures { result ≡ hueMode is_enhanced }
+    ensures { result ≡ hue_mode is_enhanced }
 {
     if is_enhanced {
         EnhancedColorModeEnum::EnhancedCurrentHueAndCurrentSaturation
@@ -80,7 +80,7 @@ fn hue_mode(is_enhanced: bool) -> EnhancedColorModeEnum
 
 // The enhanced mode after a saturation is set: a hue one stays.
 fn kept_hue_mode(emode: EnhancedColorModeEnum) -> EnhancedColorModeEnum
-    ensures { result ≡ keptHueMode emode }
+    ensures { result ≡ kept_hue_mode emode }
 {
     match emode {
         EnhancedColorModeEnum::CurrentHueAndCurrentSaturation => {
@@ -99,7 +99,7 @@ fn kept_hue_mode(emode: EnhancedColorModeEnum) -> EnhancedColorModeEnum
 }
 
 fn modes_agree(mode: ColorModeEnum, emode: EnhancedColorModeEnum) -> bool
-    ensures { result ≡ modesAgree mode emode }
+    ensures { result ≡ modes_agree mode emode }
 {
     mode.number() == color_mode_of(emode).number()
 }
@@ -107,7 +107,7 @@ fn modes_agree(mode: ColorModeEnum, emode: EnhancedColorModeEnum) -> bool
 impl Change {
     // Where nothing is set.
     pub fn none() -> Self
-        ensures { result ≡ noChange }
+        ensures { result ≡ no_change }
     {
         Change {
             same: true,
@@ -120,7 +120,7 @@ impl Change {
     // The change's notices in front of a list: persistence first, unless the loop is active; where it is due the attribute,
     // with an enhanced hue that too, and both modes; scenes last.
     pub fn cons(self, list: Numeral, loop_active: bool) -> Numeral
-        ensures { result ≡ inFront (changeReported self loop_active) list }
+        ensures { result ≡ in_front (change_reported self loop_active) list }
     {
         if self.same {
             return list;
@@ -138,7 +138,7 @@ impl Change {
 impl Color {
     // The colour of a fresh lamp with these features and bounds.
     pub fn new(feature_map: u32, bounds: Bounds) -> Self
-        ensures { result ≡ newColor feature_map bounds }
+        ensures { result ≡ new_color feature_map bounds }
     {
         let emode = default_color_mode(feature_map);
         Color {
@@ -157,7 +157,7 @@ impl Color {
 
     // Sets the hue, and reports it as plain or enhanced.
     pub fn set_hue(self, new_eh: u16, is_end: bool, is_enhanced: bool, clock: u64) -> ColorSet
-        ensures { result ≡ setHue self new_eh is_end is_enhanced clock }
+        ensures { result ≡ set_hue self new_eh is_end is_enhanced clock }
     {
         if (self.hue == new_eh) & !is_end {
             return ColorSet {
@@ -196,7 +196,7 @@ impl Color {
 
     // Sets the saturation.
     pub fn set_saturation(self, new_sat: u8, is_end: bool, clock: u64) -> ColorSet
-        ensures { result ≡ setSaturation self new_sat is_end clock }
+        ensures { result ≡ set_saturation self new_sat is_end clock }
     {
         if (self.saturation == new_sat) & !is_end {
             return ColorSet {
@@ -236,7 +236,7 @@ impl Color {
 
     // Sets the mireds.
     pub fn set_color_temperature(self, new_mireds: u16, is_end: bool, clock: u64) -> ColorSet
-        ensures { result ≡ setMireds self new_mireds is_end clock }
+        ensures { result ≡ set_mireds self new_mireds is_end clock }
     {
         if (self.mireds == new_mireds) & !is_end {
             return ColorSet {
@@ -274,7 +274,7 @@ impl Color {
 
     // Whether a lamp with this colour, these bounds and this clock can be valid.
     pub fn is_valid(self, bounds: Bounds, clock: u64) -> bool
-        ensures { result ≡ colorValid self bounds clock }
+        ensures { result ≡ color_valid self bounds clock }
     {
         let mode = self.mode;
         let emode = self.emode;

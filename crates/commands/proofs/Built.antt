@@ -10,33 +10,33 @@ use Rattle.matter.specs.declared.commands.Request.{Request}
 use Rattle.matter.specs.declared.enums.ColorLoopActionEnum.{ColorLoopActionEnum}
 use Rattle.matter.specs.declared.enums.ColorLoopDirectionEnum.{ColorLoopDirectionEnum}
 use Rattle.matter.specs.declared.enums.OnOff.{OnOff}
-use Rattle.matter.specs.Flags.{hasFlag, updateAction, updateDirection, updateTime, updateStartHue}
+use Rattle.matter.specs.Flags.{has_flag, update_action, update_direction, update_time, update_start_hue}
 use Rattle.matter.proofs.Laws.{cond_both}
 use Rattle.notices.specs.Notices.{noted}
-use Rattle.notices.specs.Numerals.{empty, inFront, placed}
+use Rattle.notices.specs.Numerals.{empty, in_front, placed}
 use Rattle.notices.proofs.Numerals.{Below, Bytes, none, more, below-append, below-only, placed-noted}
 use Rattle.color.specs.declared.Color.{Color}
-use Rattle.color.specs.Setters.{hueChange, hueReported}
+use Rattle.color.specs.Setters.{hue_change, hue_reported}
 use Rattle.color.proofs.Laws.{change-below}
 use Rattle.lamp.specs.declared.Answer.{Answer}
 use Rattle.lamp.specs.declared.Lamp.{Lamp}
-use Rattle.lamp.specs.Answers.{atClock}
+use Rattle.lamp.specs.Answers.{at_clock}
 use Rattle.commands.specs.declared.outcomes.Outcome.{Outcome}
-use Rattle.commands.specs.Answers.{commandCause, commandDone, commandAnswer}
-use Rattle.commands.specs.Commands.{CommandEffect, withLoop, updatedReported, acted, deactivated, activated, loopSet}
-use Rattle.commands.specs.Outcomes.{outcomeOf}
+use Rattle.commands.specs.Answers.{command_cause, command_done, command_answer}
+use Rattle.commands.specs.Commands.{CommandEffect, with_loop, updated_reported, acted, deactivated, activated, loop_set}
+use Rattle.commands.specs.Outcomes.{outcome_of}
 use Rattle.commands.proofs.Kept.{done-by, done-any, commands-few}
 
 -- ---- a command reports bytes, and the colour loop's nothing from 18 on
 
 module _ (bound : ℕ) (high : 17 < bound) where
-  hue-below : (c : Color) (new : ℕ) (clock : ℕ) (active : Bool) → Below bound (hueReported c new true true clock active)
-  hue-below c new clock active = change-below bound (omega arith) (hueChange c new true true clock) active (omega arith)
+  hue-below : (c : Color) (new : ℕ) (clock : ℕ) (active : Bool) → Below bound (hue_reported c new true true clock active)
+  hue-below c new clock active = change-below bound (omega arith) (hue_change c new true true clock) active (omega arith)
 
-  updated-below : (flags : ℕ) → Below bound (updatedReported flags)
+  updated-below : (flags : ℕ) → Below bound (updated_reported flags)
   updated-below flags =
       below-append
-      (below-append (below-append (below-only (hasFlag flags updateDirection) 9 (omega arith)) (below-only (hasFlag flags updateTime) 10 (omega arith))) (below-only (hasFlag flags updateStartHue) 11 (omega arith)))
+      (below-append (below-append (below-only (has_flag flags update_direction) 9 (omega arith)) (below-only (has_flag flags update_time) 10 (omega arith))) (below-only (has_flag flags update_start_hue) 11 (omega arith)))
       (more {x = 13} (omega arith) none)
 
   stored-below : (active : Bool) → Below bound (cond active [] (12 ∷ 8 ∷ []))
@@ -63,15 +63,15 @@ module _ (bound : ℕ) (high : 17 < bound) where
   acted-below l reported ColorLoopActionEnum.ActivateFromEnhancedCurrentHue b = activated-below l reported l.color.hue b
 
   pub loop-below : (l : Lamp) (flags : ℕ) (action : ColorLoopActionEnum) (direction : ColorLoopDirectionEnum) (time hue : ℕ) →
-      Below bound (loopSet l flags action direction time hue).reported
-  unfolding loopSet
+      Below bound (loop_set l flags action direction time hue).reported
+  unfolding loop_set
   loop-below l flags action direction time hue =
-      cond_both (λ (e : CommandEffect). Below bound e.reported) (hasFlag flags updateAction) _ _
+      cond_both (λ (e : CommandEffect). Below bound e.reported) (has_flag flags update_action) _ _
       (λ a. acted-below _ _ action (updated-below flags)) (λ a. updated-below flags)
 
-commands-bytes : (l : Lamp) (r : Request) (onOff : OnOff) → Bytes (commandDone l r onOff).reported
-commands-bytes l r onOff =
-    done-by l (λ (e : CommandEffect). Bytes e.reported) (λ t tie. more {x = 17} (omega arith) (below-only tie 18 (omega arith))) r onOff none
+commands-bytes : (l : Lamp) (r : Request) (on_off : OnOff) → Bytes (command_done l r on_off).reported
+commands-bytes l r on_off =
+    done-by l (λ (e : CommandEffect). Bytes e.reported) (λ t tie. more {x = 17} (omega arith) (below-only tie 18 (omega arith))) r on_off none
     (λ flags action direction time hue e. loop-below 256 (omega arith) l flags action direction time hue)
 
 -- ---- the answer
@@ -81,34 +81,34 @@ abbrev pub answer_of : Lamp → ℕ → Outcome → Answer
 answer_of l clock o =
     record {
       number = o.number;
-      lamp = withLoop (atClock l (cond (eqb o.number 0) clock l.clock)) o.color o.looping;
+      lamp = with_loop (at_clock l (cond (eqb o.number 0) clock l.clock)) o.color o.looping;
       notices = placed o.reported;
       task = o.task;
       wait = 0;
     }
 
 no-list : placed empty ≡ noted []
-unfolding inFront
+unfolding in_front
 no-list = placed-noted [] none (omega arith)
 
-module _ (l : Lamp) (r : Request) (onOff : OnOff) (clock : ℕ) where
+module _ (l : Lamp) (r : Request) (on_off : OnOff) (clock : ℕ) where
   abbrev at : Lamp
-  at = atClock l clock
+  at = at_clock l clock
 
   abbrev done : CommandEffect
-  done = commandDone at r onOff
+  done = command_done at r on_off
 
-  list : placed (inFront done.reported empty) ≡ noted done.reported
-  list = placed-noted done.reported (commands-bytes at r onOff) (le_trans (commands-few at r onOff) (omega arith))
+  list : placed (in_front done.reported empty) ≡ noted done.reported
+  list = placed-noted done.reported (commands-bytes at r on_off) (le_trans (commands-few at r on_off) (omega arith))
 
-  lamp : withLoop at done.lamp.color done.lamp.looping ≡ done.lamp
-  lamp = done-any at (λ m. withLoop at m.color m.looping ≡ m) (λ c s. refl) r onOff
+  lamp : with_loop at done.lamp.color done.lamp.looping ≡ done.lamp
+  lamp = done-any at (λ m. with_loop at m.color m.looping ≡ m) (λ c s. refl) r on_off
 
-  built-by : (t : Bool) → eqb (commandCause l r clock) 0 ≡ t →
-      answer_of l clock (outcomeOf l r onOff clock) ≡ commandAnswer l r onOff clock
-  unfolding commandAnswer outcomeOf
+  built-by : (t : Bool) → eqb (command_cause l r clock) 0 ≡ t →
+      answer_of l clock (outcome_of l r on_off clock) ≡ command_answer l r on_off clock
+  unfolding command_answer outcome_of
   built-by true z = simp (z, list, lamp)
   built-by false z = simp (z, no-list)
 
-  pub built : answer_of l clock (outcomeOf l r onOff clock) ≡ commandAnswer l r onOff clock
-  built = built-by (eqb (commandCause l r clock) 0) refl
+  pub built : answer_of l clock (outcome_of l r on_off clock) ≡ command_answer l r on_off clock
+  built = built-by (eqb (command_cause l r clock) 0) refl

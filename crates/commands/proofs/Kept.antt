@@ -12,48 +12,48 @@ use Rattle.matter.specs.declared.commands.Request.{Request}
 use Rattle.matter.specs.declared.enums.ColorLoopActionEnum.{ColorLoopActionEnum}
 use Rattle.matter.specs.declared.enums.ColorLoopDirectionEnum.{ColorLoopDirectionEnum}
 use Rattle.matter.specs.declared.enums.OnOff.{OnOff}
-use Rattle.matter.specs.Flags.{hasFlag, updateAction, updateDirection, updateTime, updateStartHue}
+use Rattle.matter.specs.Flags.{has_flag, update_action, update_direction, update_time, update_start_hue}
 use Rattle.matter.proofs.Laws.{cond_both}
 use Rattle.matter.specs.InRange.{Short, InRangeCommand}
 use Rattle.notices.proofs.Laws.{only_one}
-use Rattle.notices.specs.Names.{ColorLoopActive, ColorLoopDirection, ColorLoopTime, ColorLoopStartEnhancedHue, ColorLoopStoredEnhancedHue, hueTie}
+use Rattle.notices.specs.Names.{ColorLoopActive, ColorLoopDirection, ColorLoopTime, ColorLoopStartEnhancedHue, ColorLoopStoredEnhancedHue, hue_tie}
 use Rattle.notices.specs.Notices.{only}
 use Rattle.color.specs.declared.Color.{Color}
 use Rattle.color.proofs.Kept.{hue-kept, hue-word, change-few}
-use Rattle.color.specs.Setters.{hueChange}
-use Rattle.color.specs.Setters.{hueSet}
+use Rattle.color.specs.Setters.{hue_change}
+use Rattle.color.specs.Setters.{hue_set}
 use Rattle.tasks.specs.declared.GivenTask.{GivenTask}
 use Rattle.tasks.specs.declared.Running.{Running}
 use Rattle.tasks.specs.declared.Task.{Task}
 use Rattle.lamp.specs.declared.Lamp.{Lamp}
 use Rattle.lamp.specs.declared.LoopSettings.{LoopSettings}
 use Rattle.lamp.specs.declared.Answer.{Answer}
-use Rattle.lamp.specs.Answers.{atClock, firstCause, refusal}
-use Rattle.lamp.specs.Calls.{startCause, stepCause, startAnswer, stepAnswer, haltAnswer}
-use Rattle.lamp.specs.Valid.{lampValid}
+use Rattle.lamp.specs.Answers.{at_clock, first_cause, refusal}
+use Rattle.lamp.specs.Calls.{start_cause, step_cause, start_answer, step_answer, halt_answer}
+use Rattle.lamp.specs.Valid.{lamp_valid}
 use Rattle.lamp.proofs.Kept.{valid-clock, valid-color, valid-running, valid-of, no-cause, ready, start-ready, step-ready, choose-both, start-valid, step-valid, halt-valid}
 use Rattle.lamp.specs.Passes.{changed}
 use Rattle.lamp.specs.declared.Call.{Call}
 use Rattle.lamp.specs.InRange.{InRangeLamp, InRangeCall}
 use Rattle.lamp.proofs.InRangeKept.{started-any, stepped-any, in-range-of, clock-in-range, changed-in-range, started-in-range, stepped-in-range}
-use Rattle.commands.specs.Answers.{afterClock, allowed, commandCause, commandDone, commandAnswer, cause, answer, granted, clockOf, isLoopSet}
-use Rattle.commands.specs.Ties.{aim_of, aimTies}
-use Rattle.commands.specs.Commands.{CommandEffect, skip, givingWith, checks, withLoop, updated, updatedReported, acted, deactivated, activated, loopSet, commandEffect}
+use Rattle.commands.specs.Answers.{after_clock, allowed, command_cause, command_done, command_answer, cause, answer, granted, clock_of, is_loop_set}
+use Rattle.commands.specs.Ties.{aim_of, aim_ties}
+use Rattle.commands.specs.Commands.{CommandEffect, skip, giving_with, checks, with_loop, updated, updated_reported, acted, deactivated, activated, loop_set, command_effect}
 
 -- ---- an answer is a refusal with its cause, or what is granted where there is none
 
 module _ (l : Lamp) where
   -- what holds of both holds of the answer
   pub answer-both : (P : Answer → Type 0) (x : Call) → (cause l x ≡ 0 → P (granted l x)) → ((cause l x ≡ 0 → ⊥) → P (refusal l (cause l x))) → P (answer l x)
-  unfolding cause answer commandAnswer startAnswer stepAnswer haltAnswer
-  answer-both P (Call.Command r onOff clock) h k = choose-both P (commandCause l r clock) l _ h k
-  answer-both P (Call.Start task clock) h k = choose-both P (startCause l task clock) l _ h k
-  answer-both P (Call.Step clock) h k = choose-both P (stepCause l clock) l _ h k
-  answer-both P (Call.Halt clock) h k = choose-both P (firstCause l clock) l _ h k
+  unfolding cause answer command_answer start_answer step_answer halt_answer
+  answer-both P (Call.Command r on_off clock) h k = choose-both P (command_cause l r clock) l _ h k
+  answer-both P (Call.Start task clock) h k = choose-both P (start_cause l task clock) l _ h k
+  answer-both P (Call.Step clock) h k = choose-both P (step_cause l clock) l _ h k
+  answer-both P (Call.Halt clock) h k = choose-both P (first_cause l clock) l _ h k
 
   -- what is granted has number 0
   granted-number : (x : Call) → (granted l x).number ≡ 0
-  granted-number (Call.Command r onOff clock) = refl
+  granted-number (Call.Command r on_off clock) = refl
   granted-number (Call.Start task clock) = refl
   granted-number (Call.Step clock) = refl
   granted-number (Call.Halt clock) = refl
@@ -67,9 +67,9 @@ module _ (l : Lamp) where
   refused-same x n = answer-both (λ a. a ≡ refusal l (cause l x)) x (λ e. absurd (n e)) (λ e. refl)
 
   -- where a call is accepted, the lamp at its clock is valid
-  pub granted-ready : (x : Call) → cause l x ≡ 0 → lampValid (atClock l (clockOf x)) ≡ true
-  unfolding cause commandCause
-  granted-ready (Call.Command r onOff clock) e = ready l clock (no-cause (firstCause l clock) (afterClock r) e).0
+  pub granted-ready : (x : Call) → cause l x ≡ 0 → lamp_valid (at_clock l (clock_of x)) ≡ true
+  unfolding cause command_cause
+  granted-ready (Call.Command r on_off clock) e = ready l clock (no-cause (first_cause l clock) (after_clock r) e).0
   granted-ready (Call.Start task clock) e = (start-ready l clock task e).0
   granted-ready (Call.Step clock) e = step-ready l clock e
   granted-ready (Call.Halt clock) e = ready l clock e
@@ -78,15 +78,15 @@ module _ (l : Lamp) where
 
 module _ (l : Lamp) (P : CommandEffect → Type 0) where
   -- what holds of the first, a tie's notice behind it where there is one, and of the last holds of a command that runs
-  pub effect-by : (c : Command) → ((task : Task) → P (givingWith l task (only (aimTies l.color.hue (aim_of c)) hueTie))) → ((flags : ℕ) (action : ColorLoopActionEnum) (direction : ColorLoopDirectionEnum) (time hue : ℕ) → c ≡ Command.ColorLoopSet flags action direction time hue → P (loopSet l flags action direction time hue)) → P (commandEffect l c)
-  unfolding commandEffect
+  pub effect-by : (c : Command) → ((task : Task) → P (giving_with l task (only (aim_ties l.color.hue (aim_of c)) hue_tie))) → ((flags : ℕ) (action : ColorLoopActionEnum) (direction : ColorLoopDirectionEnum) (time hue : ℕ) → c ≡ Command.ColorLoopSet flags action direction time hue → P (loop_set l flags action direction time hue)) → P (command_effect l c)
+  unfolding command_effect
   effect-by (Command.MoveToHue hue direction time) gives loops = gives _
   effect-by (Command.MoveHue mode rate enhanced) gives loops = gives _
   effect-by (Command.StepHue mode size time) gives loops = gives _
   effect-by (Command.MoveToSaturation saturation time) gives loops = gives _
   effect-by (Command.MoveSaturation mode rate) gives loops = gives _
   effect-by (Command.StepSaturation mode size time) gives loops = gives _
-  effect-by (Command.MoveToHueAndSaturation hue saturation time enhanced enhancedHue) gives loops = gives _
+  effect-by (Command.MoveToHueAndSaturation hue saturation time enhanced enhanced_hue) gives loops = gives _
   effect-by (Command.EnhancedMoveToHue hue direction time) gives loops = gives _
   effect-by (Command.EnhancedMoveHue mode rate) gives loops = gives _
   effect-by (Command.EnhancedStepHue mode size time) gives loops = gives _
@@ -97,27 +97,27 @@ module _ (l : Lamp) (P : CommandEffect → Type 0) where
   effect-by Command.StopMoveStep gives loops = gives _
 
   -- and with the second, of any
-  pub done-by : ((task : Task) (tie : Bool) → P (givingWith l task (only tie hueTie))) → (r : Request) (onOff : OnOff) → P (skip l) → ((flags : ℕ) (action : ColorLoopActionEnum) (direction : ColorLoopDirectionEnum) (time hue : ℕ) → r.command ≡ Command.ColorLoopSet flags action direction time hue → P (loopSet l flags action direction time hue)) → P (commandDone l r onOff)
-  done-by gives r onOff passes loops =
+  pub done-by : ((task : Task) (tie : Bool) → P (giving_with l task (only tie hue_tie))) → (r : Request) (on_off : OnOff) → P (skip l) → ((flags : ℕ) (action : ColorLoopActionEnum) (direction : ColorLoopDirectionEnum) (time hue : ℕ) → r.command ≡ Command.ColorLoopSet flags action direction time hue → P (loop_set l flags action direction time hue)) → P (command_done l r on_off)
+  done-by gives r on_off passes loops =
       cond_both P (checks r.command).stop _ _ (λ e. gives Task.Stop false)
-      (λ e. cond_both P (allowed l r onOff) _ _ (λ t. effect-by r.command (λ task. gives task (aimTies l.color.hue (aim_of r.command))) loops) (λ t. passes))
+      (λ e. cond_both P (allowed l r on_off) _ _ (λ t. effect-by r.command (λ task. gives task (aim_ties l.color.hue (aim_of r.command))) loops) (λ t. passes))
 
 -- a command other than the colour loop's leaves the lamp
-quiet-done : (l : Lamp) (r : Request) (onOff : OnOff) → isLoopSet r.command ≡ false → (commandDone l r onOff).lamp ≡ l
-quiet-done l r onOff h =
-    done-by l (λ (e : CommandEffect). e.lamp ≡ l) (λ t tie. refl) r onOff refl (λ flags action direction time hue e. absurd (true≢false (sym (ap isLoopSet e) ∙ h)))
+quiet-done : (l : Lamp) (r : Request) (on_off : OnOff) → is_loop_set r.command ≡ false → (command_done l r on_off).lamp ≡ l
+quiet-done l r on_off h =
+    done-by l (λ (e : CommandEffect). e.lamp ≡ l) (λ t tie. refl) r on_off refl (λ flags action direction time hue e. absurd (true≢false (sym (ap is_loop_set e) ∙ h)))
 
 -- accepted, it sets the clock alone
-pub quiet-command : (l : Lamp) (r : Request) (onOff : OnOff) (clock : ℕ) → isLoopSet r.command ≡ false → cause l (Call.Command r onOff clock) ≡ 0 → (answer l (Call.Command r onOff clock)).lamp ≡ atClock l clock
-quiet-command l r onOff clock h z =
-    answer-both l (λ a. a.lamp ≡ atClock l clock) (Call.Command r onOff clock) (λ e. quiet-done (atClock l clock) r onOff h) (λ n. absurd (n z))
+pub quiet-command : (l : Lamp) (r : Request) (on_off : OnOff) (clock : ℕ) → is_loop_set r.command ≡ false → cause l (Call.Command r on_off clock) ≡ 0 → (answer l (Call.Command r on_off clock)).lamp ≡ at_clock l clock
+quiet-command l r on_off clock h z =
+    answer-both l (λ a. a.lamp ≡ at_clock l clock) (Call.Command r on_off clock) (λ e. quiet-done (at_clock l clock) r on_off h) (λ n. absurd (n z))
 
 -- ---- the colour loop's command
 
 -- `Q` holds of the lamp's hue and settings; `P` holds of every lamp with such settings that keeps its hue or has such a one set
-module _ (l : Lamp) (Q : ℕ → Type 0) (hue : Q l.color.hue) (time : Q l.looping.time) (first : Q l.looping.start) (stored : Q l.looping.stored) (P : Lamp → Type 0) (kept : (s : LoopSettings) → Q s.time → Q s.start → Q s.stored → P (withLoop l l.color s)) (set : (new : ℕ) (s : LoopSettings) → Q new → Q s.time → Q s.start → Q s.stored → P (withLoop l (hueSet l.color new true true l.clock) s)) where
+module _ (l : Lamp) (Q : ℕ → Type 0) (hue : Q l.color.hue) (time : Q l.looping.time) (first : Q l.looping.start) (stored : Q l.looping.stored) (P : Lamp → Type 0) (kept : (s : LoopSettings) → Q s.time → Q s.start → Q s.stored → P (with_loop l l.color s)) (set : (new : ℕ) (s : LoopSettings) → Q new → Q s.time → Q s.start → Q s.stored → P (with_loop l (hue_set l.color new true true l.clock) s)) where
   -- then `P` holds after an action
-  acted-by : (reported : List ℕ) (action : ColorLoopActionEnum) (u : LoopSettings) → Q u.time → Q u.start → Q u.stored → P (acted (withLoop l l.color u) reported action).lamp
+  acted-by : (reported : List ℕ) (action : ColorLoopActionEnum) (u : LoopSettings) → Q u.time → Q u.start → Q u.stored → P (acted (with_loop l l.color u) reported action).lamp
   unfolding activated deactivated
   acted-by reported ColorLoopActionEnum.Deactivate u t f s =
       cond_both (λ (e : CommandEffect). P e.lamp) u.active _ _ (λ e. set u.stored _ s t f s) (λ e. kept u t f s)
@@ -127,34 +127,34 @@ module _ (l : Lamp) (Q : ℕ → Type 0) (hue : Q l.color.hue) (time : Q l.loopi
       set l.color.hue _ hue t f (cond_both Q u.active _ _ (λ e. s) (λ e. hue))
 
   -- and after the command, if `Q` holds of its time and hue
-  loop-by : (flags : ℕ) (action : ColorLoopActionEnum) (direction : ColorLoopDirectionEnum) (newTime newHue : ℕ) → Q newTime → Q newHue → P (loopSet l flags action direction newTime newHue).lamp
-  unfolding loopSet
-  loop-by flags action direction newTime newHue t h =
-      let u : LoopSettings = updated l.looping flags direction newTime newHue in
-      let ut : Q u.time = cond_both Q (hasFlag flags updateTime) _ _ (λ e. t) (λ e. time) in
-      let uf : Q u.start = cond_both Q (hasFlag flags updateStartHue) _ _ (λ e. h) (λ e. first) in
-      cond_both (λ (e : CommandEffect). P e.lamp) (hasFlag flags updateAction) _ _ (λ e. acted-by (updatedReported flags) action u ut uf stored) (λ e. kept u ut uf stored)
+  loop-by : (flags : ℕ) (action : ColorLoopActionEnum) (direction : ColorLoopDirectionEnum) (new_time new_hue : ℕ) → Q new_time → Q new_hue → P (loop_set l flags action direction new_time new_hue).lamp
+  unfolding loop_set
+  loop-by flags action direction new_time new_hue t h =
+      let u : LoopSettings = updated l.looping flags direction new_time new_hue in
+      let ut : Q u.time = cond_both Q (has_flag flags update_time) _ _ (λ e. t) (λ e. time) in
+      let uf : Q u.start = cond_both Q (has_flag flags update_start_hue) _ _ (λ e. h) (λ e. first) in
+      cond_both (λ (e : CommandEffect). P e.lamp) (has_flag flags update_action) _ _ (λ e. acted-by (updated_reported flags) action u ut uf stored) (λ e. kept u ut uf stored)
 
 -- what holds whatever colour and settings of the loop are left holds after any command
-pub done-any : (l : Lamp) (P : Lamp → Type 0) → ((c : Color) (s : LoopSettings) → P (withLoop l c s)) → (r : Request) (onOff : OnOff) → P (commandDone l r onOff).lamp
-done-any l P any r onOff =
-    done-by l (λ (e : CommandEffect). P e.lamp) (λ t tie. any l.color l.looping) r onOff (any l.color l.looping)
+pub done-any : (l : Lamp) (P : Lamp → Type 0) → ((c : Color) (s : LoopSettings) → P (with_loop l c s)) → (r : Request) (on_off : OnOff) → P (command_done l r on_off).lamp
+done-any l P any r on_off =
+    done-by l (λ (e : CommandEffect). P e.lamp) (λ t tie. any l.color l.looping) r on_off (any l.color l.looping)
     (λ flags action direction time hue e. loop-by l (λ n. Unit) tt tt tt tt P (λ s t f u. any _ s) (λ new s n t f u. any _ s) flags action direction time hue tt tt)
 
 -- a command keeps validity
-done-valid : (l : Lamp) (r : Request) (onOff : OnOff) → lampValid l ≡ true → lampValid (commandDone l r onOff).lamp ≡ true
-unfolding lampValid
-done-valid l r onOff validity =
-    done-by l (λ (e : CommandEffect). lampValid e.lamp ≡ true) (λ t tie. validity) r onOff validity
-    (λ flags action direction time hue e. loop-by l (λ n. Unit) tt tt tt tt (λ m. lampValid m ≡ true) (λ s t f u. validity) (λ new s n t f u. valid-of (withLoop l (hueSet l.color new true true l.clock) s) (valid-clock l validity) (hue-kept _ _ _ (valid-color l validity) new true true) (valid-running l validity)) flags action direction time hue tt tt)
+done-valid : (l : Lamp) (r : Request) (on_off : OnOff) → lamp_valid l ≡ true → lamp_valid (command_done l r on_off).lamp ≡ true
+unfolding lamp_valid
+done-valid l r on_off validity =
+    done-by l (λ (e : CommandEffect). lamp_valid e.lamp ≡ true) (λ t tie. validity) r on_off validity
+    (λ flags action direction time hue e. loop-by l (λ n. Unit) tt tt tt tt (λ m. lamp_valid m ≡ true) (λ s t f u. validity) (λ new s n t f u. valid-of (with_loop l (hue_set l.color new true true l.clock) s) (valid-clock l validity) (hue-kept _ _ _ (valid-color l validity) new true true) (valid-running l validity)) flags action direction time hue tt tt)
 
 -- and widths
-done-in-range : (l : Lamp) (r : Request) (onOff : OnOff) → InRangeLamp l → InRangeCommand r.command → lampValid (commandDone l r onOff).lamp ≡ true → InRangeLamp (commandDone l r onOff).lamp
-done-in-range l r onOff in_range t =
-    done-by l (λ (e : CommandEffect). lampValid e.lamp ≡ true → InRangeLamp e.lamp) (λ task tie f. in_range) r onOff (λ f. in_range)
+done-in-range : (l : Lamp) (r : Request) (on_off : OnOff) → InRangeLamp l → InRangeCommand r.command → lamp_valid (command_done l r on_off).lamp ≡ true → InRangeLamp (command_done l r on_off).lamp
+done-in-range l r on_off in_range t =
+    done-by l (λ (e : CommandEffect). lamp_valid e.lamp ≡ true → InRangeLamp e.lamp) (λ task tie f. in_range) r on_off (λ f. in_range)
     (λ flags action direction time hue e.
     let t' : InRangeCommand (Command.ColorLoopSet flags action direction time hue) = rw e at t in
-    loop-by l Short in_range.hue in_range.loopTime in_range.loopStart in_range.loopStored (λ m. lampValid m ≡ true → InRangeLamp m)
+    loop-by l Short in_range.hue in_range.loop_time in_range.loop_start in_range.loop_stored (λ m. lamp_valid m ≡ true → InRangeLamp m)
     (λ s t f u validity. in-range-of _ validity in_range.bounds in_range.hue t f u in_range.remaining in_range.options in_range.running)
     (λ new s n t f u validity. in-range-of _ validity in_range.bounds (hue-word _ new true _ true in_range.hue n) t f u in_range.remaining in_range.options in_range.running)
     flags action direction time hue t'.1 t'.2)
@@ -162,17 +162,17 @@ done-in-range l r onOff in_range t =
 -- ---- every call
 
 -- what holds at the call's clock with the same bounds and options holds of what is granted
-granted-any : (l : Lamp) (x : Call) (P : Lamp → Type 0) → ((m : Lamp) → P (record { clock = clockOf x; bounds = l.bounds; color = m.color; looping = m.looping; remaining = m.remaining; options = l.options; running = m.running })) → P (granted l x).lamp
-granted-any l (Call.Command r onOff clock) P any = done-any (atClock l clock) P (λ d s. any (withLoop l d s)) r onOff
-granted-any l (Call.Start task clock) P any = started-any (atClock l clock) P (λ c r t. any (changed l c r t)) task
-granted-any l (Call.Step clock) P any = stepped-any (atClock l clock) P (λ c r t. any (changed l c r t)) l.running
+granted-any : (l : Lamp) (x : Call) (P : Lamp → Type 0) → ((m : Lamp) → P (record { clock = clock_of x; bounds = l.bounds; color = m.color; looping = m.looping; remaining = m.remaining; options = l.options; running = m.running })) → P (granted l x).lamp
+granted-any l (Call.Command r on_off clock) P any = done-any (at_clock l clock) P (λ d s. any (with_loop l d s)) r on_off
+granted-any l (Call.Start task clock) P any = started-any (at_clock l clock) P (λ c r t. any (changed l c r t)) task
+granted-any l (Call.Step clock) P any = stepped-any (at_clock l clock) P (λ c r t. any (changed l c r t)) l.running
 granted-any l (Call.Halt clock) P any = any (changed l l.color Running.Idle l.remaining)
 
 module _ (l : Lamp) (x : Call) where
   -- an accepted call sets the clock
-  pub accepted-clock : cause l x ≡ 0 → (answer l x).lamp.clock ≡ clockOf x
+  pub accepted-clock : cause l x ≡ 0 → (answer l x).lamp.clock ≡ clock_of x
   accepted-clock z =
-      answer-both l (λ a. a.lamp.clock ≡ clockOf x) x (λ e. granted-any l x (λ m. m.clock ≡ clockOf x) (λ m. refl)) (λ n. absurd (n z))
+      answer-both l (λ a. a.lamp.clock ≡ clock_of x) x (λ e. granted-any l x (λ m. m.clock ≡ clock_of x) (λ m. refl)) (λ n. absurd (n z))
 
   -- no call changes the bounds
   pub bounds-kept : (answer l x).lamp.bounds ≡ l.bounds
@@ -184,42 +184,42 @@ module _ (l : Lamp) (x : Call) where
       answer-both l (λ a. a.lamp.options ≡ l.options) x (λ e. granted-any l x (λ m. m.options ≡ l.options) (λ m. refl)) (λ n. refl)
 
 -- every call keeps validity
-pub valid-kept : (l : Lamp) (x : Call) → lampValid l ≡ true → lampValid (answer l x).lamp ≡ true
+pub valid-kept : (l : Lamp) (x : Call) → lamp_valid l ≡ true → lamp_valid (answer l x).lamp ≡ true
 unfolding answer
-valid-kept l (Call.Command r onOff clock) validity =
-    answer-both l (λ a. lampValid a.lamp ≡ true) (Call.Command r onOff clock) (λ e. done-valid (atClock l clock) r onOff (granted-ready l (Call.Command r onOff clock) e)) (λ n. validity)
+valid-kept l (Call.Command r on_off clock) validity =
+    answer-both l (λ a. lamp_valid a.lamp ≡ true) (Call.Command r on_off clock) (λ e. done-valid (at_clock l clock) r on_off (granted-ready l (Call.Command r on_off clock) e)) (λ n. validity)
 valid-kept l (Call.Start task clock) validity = start-valid l clock validity task
 valid-kept l (Call.Step clock) validity = step-valid l clock validity
 valid-kept l (Call.Halt clock) validity = halt-valid l clock validity
 
 -- what is granted keeps widths
-granted-in-range : (l : Lamp) (x : Call) → lampValid (atClock l (clockOf x)) ≡ true → InRangeLamp l → InRangeCall x → lampValid (granted l x).lamp ≡ true → InRangeLamp (granted l x).lamp
-granted-in-range l (Call.Command r onOff clock) before in_range t validity = done-in-range _ r onOff (clock-in-range l in_range clock before) t.0.command validity
+granted-in-range : (l : Lamp) (x : Call) → lamp_valid (at_clock l (clock_of x)) ≡ true → InRangeLamp l → InRangeCall x → lamp_valid (granted l x).lamp ≡ true → InRangeLamp (granted l x).lamp
+granted-in-range l (Call.Command r on_off clock) before in_range t validity = done-in-range _ r on_off (clock-in-range l in_range clock before) t.0.command validity
 granted-in-range l (Call.Start task clock) before in_range t validity = started-in-range _ task before validity (clock-in-range l in_range clock before) t.0
 granted-in-range l (Call.Step clock) before in_range t validity = stepped-in-range _ (clock-in-range l in_range clock before) l.running in_range.running validity
 granted-in-range l (Call.Halt clock) before in_range t validity =
     changed-in-range _ (clock-in-range l in_range clock before) _ _ _ validity in_range.hue in_range.remaining tt
 
 -- every call keeps widths
-pub in-range-kept : (l : Lamp) (x : Call) → lampValid l ≡ true → InRangeLamp l → InRangeCall x → InRangeLamp (answer l x).lamp
+pub in-range-kept : (l : Lamp) (x : Call) → lamp_valid l ≡ true → InRangeLamp l → InRangeCall x → InRangeLamp (answer l x).lamp
 in-range-kept l x validity in_range t =
-    answer-both l (λ a. lampValid a.lamp ≡ true → InRangeLamp a.lamp) x (λ e f. granted-in-range l x (granted-ready l x e) in_range t f) (λ n f. in_range) (valid-kept l x validity)
+    answer-both l (λ a. lamp_valid a.lamp ≡ true → InRangeLamp a.lamp) x (λ e f. granted-in-range l x (granted-ready l x e) in_range t f) (λ n f. in_range) (valid-kept l x validity)
 
 -- ---- a command reports few
 
 -- the settings' notices are at most four
-pub updated-few : (flags : ℕ) → length (updatedReported flags) ≤ 4
+pub updated-few : (flags : ℕ) → length (updated_reported flags) ≤ 4
 updated-few flags =
     simp length-append
     (omega
-    (arith, only_one (hasFlag flags updateDirection) ColorLoopDirection, only_one (hasFlag flags updateTime) ColorLoopTime, only_one (hasFlag flags updateStartHue) ColorLoopStartEnhancedHue))
+    (arith, only_one (has_flag flags update_direction) ColorLoopDirection, only_one (has_flag flags update_time) ColorLoopTime, only_one (has_flag flags update_start_hue) ColorLoopStartEnhancedHue))
 
 -- with those of going off, at most 14
 deactivated-few : (l : Lamp) (reported : List ℕ) → length reported ≤ 4 → length (deactivated l reported).reported ≤ 14
 unfolding deactivated
 deactivated-few l reported h =
     cond_both (λ (e : CommandEffect). length e.reported ≤ 14) l.looping.active _ (record { lamp = l; reported = reported; task = GivenTask.Nothing })
-    (λ e. simp length-append (omega (arith, change-few (hueChange l.color l.looping.stored true true l.clock) false)))
+    (λ e. simp length-append (omega (arith, change-few (hue_change l.color l.looping.stored true true l.clock) false)))
     (λ e. omega arith)
 
 -- and with those of going on from a hue
@@ -228,21 +228,21 @@ unfolding activated
 activated-few l reported seed h =
     let both : List ℕ = ColorLoopStoredEnhancedHue ∷ ColorLoopActive ∷ [] in
     let some : length (cond l.looping.active [] both) ≤ 2 = cond_both (λ xs. length xs ≤ 2) l.looping.active [] both (λ e. omega arith) (λ e. omega arith) in
-    simp length-append (omega (arith, change-few (hueChange l.color seed true true l.clock) true))
+    simp length-append (omega (arith, change-few (hue_change l.color seed true true l.clock) true))
 
 -- the colour loop's command reports at most 14
-loop-few : (l : Lamp) (flags : ℕ) (action : ColorLoopActionEnum) (direction : ColorLoopDirectionEnum) (time hue : ℕ) → length (loopSet l flags action direction time hue).reported ≤ 14
-unfolding loopSet
+loop-few : (l : Lamp) (flags : ℕ) (action : ColorLoopActionEnum) (direction : ColorLoopDirectionEnum) (time hue : ℕ) → length (loop_set l flags action direction time hue).reported ≤ 14
+unfolding loop_set
 loop-few l flags action direction time hue =
-    cond_both (λ (e : CommandEffect). length e.reported ≤ 14) (hasFlag flags updateAction) _ _ (λ e. acts action) (λ e. le_trans (updated-few flags) (omega arith))
+    cond_both (λ (e : CommandEffect). length e.reported ≤ 14) (has_flag flags update_action) _ _ (λ e. acts action) (λ e. le_trans (updated-few flags) (omega arith))
   where
-    acts : (a : ColorLoopActionEnum) → length (acted (withLoop l l.color (updated l.looping flags direction time hue)) (updatedReported flags) a).reported ≤ 14
+    acts : (a : ColorLoopActionEnum) → length (acted (with_loop l l.color (updated l.looping flags direction time hue)) (updated_reported flags) a).reported ≤ 14
     acts ColorLoopActionEnum.Deactivate = deactivated-few _ _ (updated-few flags)
     acts ColorLoopActionEnum.ActivateFromColorLoopStartEnhancedHue = activated-few _ _ _ (updated-few flags)
     acts ColorLoopActionEnum.ActivateFromEnhancedCurrentHue = activated-few _ _ _ (updated-few flags)
 
 -- and so does every command
-pub commands-few : (l : Lamp) (r : Request) (onOff : OnOff) → length (commandDone l r onOff).reported ≤ 14
-commands-few l r onOff =
-    done-by l (λ (e : CommandEffect). length e.reported ≤ 14) (λ t tie. omega (arith, only_one tie hueTie)) r onOff (omega arith)
+pub commands-few : (l : Lamp) (r : Request) (on_off : OnOff) → length (command_done l r on_off).reported ≤ 14
+commands-few l r on_off =
+    done-by l (λ (e : CommandEffect). length e.reported ≤ 14) (λ t tie. omega (arith, only_one tie hue_tie)) r on_off (omega arith)
     (λ flags action direction time hue e. loop-few l flags action direction time hue)

@@ -15,31 +15,31 @@ use Rattle.matter.specs.declared.enums.ColorLoopActionEnum.{ColorLoopActionEnum}
 use Rattle.matter.specs.declared.enums.MoveModeEnum.{MoveModeEnum}
 use Rattle.matter.specs.declared.enums.OnOff.{OnOff}
 use Rattle.matter.specs.declared.enums.StepModeEnum.{StepModeEnum}
-use Rattle.matter.specs.Flags.{hasFlag, updateAction}
+use Rattle.matter.specs.Flags.{has_flag, update_action}
 use Rattle.matter.proofs.Laws.{cond_both, or_right, all_of}
-use Rattle.matter.specs.Limits.{hueLimit}
+use Rattle.matter.specs.Limits.{hue_limit}
 use Rattle.matter.specs.InRange.{Short, InRangeCommand, InRangeRequest}
 use Rattle.hue.proofs.Laws.{way-small}
 use Rattle.color.proofs.Kept.{valid-saturation}
 use Rattle.tasks.specs.declared.GivenTask.{GivenTask}
 use Rattle.tasks.specs.declared.TargetSaturation.{TargetSaturation}
 use Rattle.tasks.specs.declared.Task.{Task}
-use Rattle.tasks.specs.Valid.{timeValid, small, saturationValid, moves, rateValid, moveToValid, hueMoveValid, saturationMoveValid, taskValid}
+use Rattle.tasks.specs.Valid.{time_valid, small, saturation_valid, moves, rate_valid, move_to_valid, hue_move_valid, saturation_move_valid, task_valid}
 use Rattle.lamp.specs.declared.Lamp.{Lamp}
-use Rattle.lamp.specs.Answers.{atClock, badClock, firstCause}
-use Rattle.lamp.specs.Valid.{lampValid}
+use Rattle.lamp.specs.Answers.{at_clock, bad_clock, first_cause}
+use Rattle.lamp.specs.Valid.{lamp_valid}
 use Rattle.lamp.proofs.Kept.{valid-color, no-cause}
 use Rattle.matter.specs.Rules.{signed}
 use Rattle.lamp.specs.declared.Call.{Call}
-use Rattle.commands.specs.Answers.{allowed, afterClock, commandCause, cause, answer}
-use Rattle.commands.specs.Commands.{CommandEffect, causeIf, isStop, checks, stored, ms, hueTask, saturationTask, hueMoveTask, stepDelta, saturationStep, acted, deactivated, activated, loopSet, commandEffect}
+use Rattle.commands.specs.Answers.{allowed, after_clock, command_cause, cause, answer}
+use Rattle.commands.specs.Commands.{CommandEffect, cause_if, is_stop, checks, stored, ms, hue_task, saturation_task, hue_move_task, step_delta, saturation_step, acted, deactivated, activated, loop_set, command_effect}
 use Rattle.commands.proofs.Kept.{answer-both, granted-ready}
 use Rattle.commands.proofs.Table.{start-0}
 
 -- ---- the parts of a task
 
 -- a time of sixteen bits in tenths: at most 6,553,500 ms
-time-valid : (tenths : ℕ) → Short tenths → timeValid (ms tenths) ≡ true
+time-valid : (tenths : ℕ) → Short tenths → time_valid (ms tenths) ≡ true
 time-valid tenths h = rw (eq-eqb (tenths * 100 % 100) 0 (omega arith), le-leb (tenths * 100) 6553500 (omega arith))
 
 -- an integer of a size of at most 65,535
@@ -47,42 +47,42 @@ small_of : (z : ℤ) → nat_abs z ≤ 65535 → small z ≡ true
 small_of (pos n) h = rw (le-leb n 65535 h)
 small_of (negsuc n) h = rw (le-leb n 65534 (omega arith))
 
-step-size : (mode : StepModeEnum) (size : ℕ) → nat_abs (stepDelta mode size) ≡ size
+step-size : (mode : StepModeEnum) (size : ℕ) → nat_abs (step_delta mode size) ≡ size
 step-size StepModeEnum.Up size = refl
 step-size StepModeEnum.Down size = abs_neg (pos size)
 
 -- a test that gives no cause fails
-no_test : (test : Bool) (number : ℕ) → causeIf test (suc number) ≡ 0 → test ≡ false
+no_test : (test : Bool) (number : ℕ) → cause_if test (suc number) ≡ 0 → test ≡ false
 no_test true number e = absurd (omega arith)
 no_test false number e = refl
 
-some-rate : (n : ℕ) → causeIf (eqb n 0) 2 ≡ 0 → 0 < n
+some-rate : (n : ℕ) → cause_if (eqb n 0) 2 ≡ 0 → 0 < n
 some-rate n e = omega (arith, eqb-false n 0 (no_test (eqb n 0) 1 e))
 
 -- ---- the tasks
 
 hue-valid : (way : ℤ) (to : TargetSaturation) (tenths : ℕ) (enhanced : Bool) → nat_abs way ≤ 65535
-    → saturationValid to ≡ true → Short tenths → taskValid (hueTask way to tenths enhanced) ≡ true
-unfolding taskValid moveToValid
+    → saturation_valid to ≡ true → Short tenths → task_valid (hue_task way to tenths enhanced) ≡ true
+unfolding task_valid move_to_valid
 hue-valid way to tenths enhanced w s t = all_of _ (time-valid tenths t, (small_of way w, (s, (refl, tt))))
 
 saturation-valid : (saturation tenths : ℕ) → saturation ≤ 254 → Short tenths
-    → taskValid (saturationTask saturation tenths) ≡ true
-unfolding taskValid moveToValid
+    → task_valid (saturation_task saturation tenths) ≡ true
+unfolding task_valid move_to_valid
 saturation-valid saturation tenths s t = all_of _ (time-valid tenths t, (refl, (le-leb saturation 254 s, (refl, tt))))
 
-mode-moves : (mode : MoveModeEnum) → isStop mode ≡ false → moves mode ≡ true
+mode-moves : (mode : MoveModeEnum) → is_stop mode ≡ false → moves mode ≡ true
 mode-moves MoveModeEnum.Stop e = absurd (true≢false e)
 mode-moves MoveModeEnum.Up e = refl
 mode-moves MoveModeEnum.Down e = refl
 
-hue-move-valid : (mode : MoveModeEnum) (rate : ℕ) (enhanced : Bool) → isStop mode ≡ false → 0 < rate → rate ≤ 65535
-    → taskValid (hueMoveTask mode rate enhanced) ≡ true
-unfolding taskValid hueMoveValid
+hue-move-valid : (mode : MoveModeEnum) (rate : ℕ) (enhanced : Bool) → is_stop mode ≡ false → 0 < rate → rate ≤ 65535
+    → task_valid (hue_move_task mode rate enhanced) ≡ true
+unfolding task_valid hue_move_valid
 hue-move-valid mode rate enhanced m z r = all_of _ (lt-ltb 0 rate z, (le-leb rate 65535 r, (mode-moves mode m, tt)))
 
-rate-valid : (mode : MoveModeEnum) (rate : ℕ) → isStop mode ≡ false → 0 < rate → rate ≤ 65535
-    → rateValid (signed mode rate) ≡ true
+rate-valid : (mode : MoveModeEnum) (rate : ℕ) → is_stop mode ≡ false → 0 < rate → rate ≤ 65535
+    → rate_valid (signed mode rate) ≡ true
 rate-valid MoveModeEnum.Stop rate m z r = absurd (true≢false m)
 rate-valid MoveModeEnum.Up rate m z r = rw (ne_eqb rate 0 (λ e. omega arith), small_of (pos rate) r)
 rate-valid MoveModeEnum.Down rate m z r =
@@ -93,22 +93,22 @@ rate-valid MoveModeEnum.Down rate m z r =
 -- a task that is given is Stop or valid
 abbrev Startable : GivenTask → Type 0
 Startable GivenTask.Nothing = Unit
-Startable (GivenTask.Given task) = (task ≡ Task.Stop → ⊥) → taskValid task ≡ true
+Startable (GivenTask.Given task) = (task ≡ Task.Stop → ⊥) → task_valid task ≡ true
 
 acted-valid : (l : Lamp) (reported : List ℕ) (action : ColorLoopActionEnum) → Startable (acted l reported action).task
-unfolding deactivated activated taskValid
+unfolding deactivated activated task_valid
 acted-valid l reported ColorLoopActionEnum.Deactivate =
     cond_both (λ (e : CommandEffect). Startable e.task) l.looping.active _ _ (λ e n. absurd (n refl)) (λ e. tt)
 acted-valid l reported ColorLoopActionEnum.ActivateFromColorLoopStartEnhancedHue = λ n. refl
 acted-valid l reported ColorLoopActionEnum.ActivateFromEnhancedCurrentHue = λ n. refl
 
-stepped-saturation : (mode : StepModeEnum) (now size : ℕ) → now ≤ 254 → saturationStep mode now size ≤ 254
+stepped-saturation : (mode : StepModeEnum) (now size : ℕ) → now ≤ 254 → saturation_step mode now size ≤ 254
 stepped-saturation StepModeEnum.Up now size h = omega arith
 stepped-saturation StepModeEnum.Down now size h = omega arith
 
 effect-valid : (l : Lamp) (c : Command) → l.color.saturation ≤ 254 → InRangeCommand c → (checks c).stop ≡ false
-    → (checks c).cause ≡ 0 → Startable (commandEffect l c).task
-unfolding commandEffect loopSet taskValid saturationMoveValid
+    → (checks c).cause ≡ 0 → Startable (command_effect l c).task
+unfolding command_effect loop_set task_valid saturation_move_valid
 effect-valid l (Command.MoveToHue hue direction time) s t m n =
     λ o. hue-valid _ _ time false (way-small l.color.hue (stored hue) direction) refl t.1
 effect-valid l (Command.MoveHue mode rate enhanced) s t m n =
@@ -123,9 +123,9 @@ effect-valid l (Command.MoveSaturation mode rate) s t m n =
     λ o. all_of _ (lt-ltb 0 rate (some-rate rate n), (le-leb rate 255 (omega arith), (mode-moves mode m, tt)))
 effect-valid l (Command.StepSaturation mode size time) s t m n =
     λ o. saturation-valid _ time (stepped-saturation mode l.color.saturation size s) t.1
-effect-valid l (Command.MoveToHueAndSaturation hue saturation time enhanced enhancedHue) s t m n =
+effect-valid l (Command.MoveToHueAndSaturation hue saturation time enhanced enhanced_hue) s t m n =
     λ o. hue-valid _ (TargetSaturation.To saturation) time enhanced (way-small l.color.hue _ _)
-    (le-leb saturation 254 (ltb-false 254 saturation (or_right (not enhanced && ltb hueLimit hue) _ (no_test _ 0 n))))
+    (le-leb saturation 254 (ltb-false 254 saturation (or_right (not enhanced && ltb hue_limit hue) _ (no_test _ 0 n))))
     t.2
 effect-valid l (Command.EnhancedMoveToHue hue direction time) s t m n =
     λ o. hue-valid _ _ time true (way-small l.color.hue hue direction) refl t.1
@@ -137,38 +137,38 @@ effect-valid l (Command.MoveToColorTemperature mireds time) s t m n = λ o. time
 effect-valid l (Command.MoveColorTemperature mode rate min max) s t m n =
     λ o. rate-valid mode rate m (some-rate rate n) (omega arith)
 effect-valid l (Command.StepColorTemperature mode size time min max) s t m n = λ o. time-valid time t.1
-effect-valid l (Command.ColorLoopSet flags action direction time startHue) s t m n =
-    cond_both (λ (e : CommandEffect). Startable e.task) (hasFlag flags updateAction) _ _
+effect-valid l (Command.ColorLoopSet flags action direction time start_hue) s t m n =
+    cond_both (λ (e : CommandEffect). Startable e.task) (has_flag flags update_action) _ _
     (λ e. acted-valid _ _ action)
     (λ e. tt)
 effect-valid l Command.StopMoveStep s t m n = λ o. absurd (o refl)
 
-module _ (l : Lamp) (r : Request) (onOff : OnOff) (clock : ℕ) (in_range : InRangeRequest r) where
+module _ (l : Lamp) (r : Request) (on_off : OnOff) (clock : ℕ) (in_range : InRangeRequest r) where
   -- an accepted command that is in no Stop mode has no cause of its own
-  own-none : cause l (Call.Command r onOff clock) ≡ 0 → (checks r.command).stop ≡ false → (checks r.command).cause ≡ 0
-  unfolding cause commandCause
+  own-none : cause l (Call.Command r on_off clock) ≡ 0 → (checks r.command).stop ≡ false → (checks r.command).cause ≡ 0
+  unfolding cause command_cause
   own-none e s =
-      rw s at (no-cause (firstCause l clock) (afterClock r) e).1
+      rw s at (no-cause (first_cause l clock) (after_clock r) e).1
 
-  answer-valid : Startable (answer l (Call.Command r onOff clock)).task
+  answer-valid : Startable (answer l (Call.Command r on_off clock)).task
   answer-valid =
-      answer-both l (λ a. Startable a.task) (Call.Command r onOff clock)
+      answer-both l (λ a. Startable a.task) (Call.Command r on_off clock)
       (λ e.
-      let at : Lamp = atClock l clock in
-      let validity : lampValid at ≡ true = granted-ready l (Call.Command r onOff clock) e in
+      let at : Lamp = at_clock l clock in
+      let validity : lamp_valid at ≡ true = granted-ready l (Call.Command r on_off clock) e in
       cond_both (λ (x : CommandEffect). Startable x.task) (checks r.command).stop _ _ (λ s n. absurd (n refl))
-      (λ s. cond_both (λ (x : CommandEffect). Startable x.task) (allowed at r onOff) _ _
+      (λ s. cond_both (λ (x : CommandEffect). Startable x.task) (allowed at r on_off) _ _
       (λ a. effect-valid at r.command (valid-saturation _ _ _ (valid-color at validity)) in_range.command s (own-none e s))
       (λ a. tt)))
       (λ n. tt)
 
   -- a task that a command gives, other than Stop, is valid
-  pub given-valid : (task : Task) → (answer l (Call.Command r onOff clock)).task ≡ GivenTask.Given task
-      → (task ≡ Task.Stop → ⊥) → taskValid task ≡ true
+  pub given-valid : (task : Task) → (answer l (Call.Command r on_off clock)).task ≡ GivenTask.Given task
+      → (task ≡ Task.Stop → ⊥) → task_valid task ≡ true
   given-valid task e = rw e at answer-valid
 
   -- so a start of it is accepted on any valid lamp at a good clock
-  pub given-starts : (task : Task) → (answer l (Call.Command r onOff clock)).task ≡ GivenTask.Given task
-      → (task ≡ Task.Stop → ⊥) → (m : Lamp) (at : ℕ) → lampValid m ≡ true → badClock m at ≡ false
+  pub given-starts : (task : Task) → (answer l (Call.Command r on_off clock)).task ≡ GivenTask.Given task
+      → (task ≡ Task.Stop → ⊥) → (m : Lamp) (at : ℕ) → lamp_valid m ≡ true → bad_clock m at ≡ false
       → cause m (Call.Start task at) ≡ 0
   given-starts task e n m at f b = start-0 m at task f b (given-valid task e n)

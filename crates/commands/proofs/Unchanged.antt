@@ -9,18 +9,18 @@ use Rattle.tasks.specs.declared.GivenTask.{GivenTask}
 use Rattle.tasks.specs.declared.Running.{Running}
 use Rattle.tasks.specs.declared.Task.{Task}
 use Rattle.lamp.specs.declared.Lamp.{Lamp}
-use Rattle.lamp.specs.Answers.{atClock}
-use Rattle.lamp.specs.Calls.{temperatureStart, started, stepped}
-use Rattle.lamp.specs.Passes.{Effect, huePassed, loopPassed, saturationPassed, temperaturePassed}
+use Rattle.lamp.specs.Answers.{at_clock}
+use Rattle.lamp.specs.Calls.{temperature_start, started, stepped}
+use Rattle.lamp.specs.Passes.{Effect, hue_passed, loop_passed, saturation_passed, temperature_passed}
 use Rattle.lamp.specs.declared.Call.{Call}
 use Rattle.lamp.proofs.InRangeKept.{started-any, stepped-any}
 use Rattle.commands.specs.Answers.{answer, granted}
-use Rattle.commands.specs.Unchanged.{isMoveTo, movesTo, Unchanged}
+use Rattle.commands.specs.Unchanged.{is_move_to, moves_to, Unchanged}
 use Rattle.commands.proofs.Kept.{answer-both, refused-same, done-any, bounds-kept, options-kept}
 
 -- a start but a move-to's leaves the remaining time
-started-remaining : (l : Lamp) (task : Task) → isMoveTo task ≡ false → (started l task).lamp.remaining ≡ l.remaining
-unfolding started huePassed saturationPassed temperatureStart temperaturePassed loopPassed
+started-remaining : (l : Lamp) (task : Task) → is_move_to task ≡ false → (started l task).lamp.remaining ≡ l.remaining
+unfolding started hue_passed saturation_passed temperature_start temperature_passed loop_passed
 started-remaining l (Task.HueSaturationMoveTo task) e = absurd (true≢false e)
 started-remaining l (Task.HueMove task) e = refl
 started-remaining l (Task.SaturationMove task) e = refl
@@ -32,8 +32,8 @@ started-remaining l (Task.ColorLoop task) e = refl
 started-remaining l Task.Stop e = refl
 
 -- and so does a step
-stepped-remaining : (l : Lamp) (run : Running) → movesTo run ≡ false → (stepped l run).lamp.remaining ≡ l.remaining
-unfolding stepped huePassed saturationPassed temperaturePassed loopPassed
+stepped-remaining : (l : Lamp) (run : Running) → moves_to run ≡ false → (stepped l run).lamp.remaining ≡ l.remaining
+unfolding stepped hue_passed saturation_passed temperature_passed loop_passed
 stepped-remaining l Running.Idle e = refl
 stepped-remaining l (Running.HueSaturationMoveTo run) e = absurd (true≢false e)
 stepped-remaining l (Running.HueMove run) e = refl
@@ -58,26 +58,26 @@ module _ (l : Lamp) where
         bounds = bounds-kept l;
         options = options-kept l;
         command-running =
-            λ r onOff clock.
-            lamp-both (λ m. m.running ≡ l.running) (Call.Command r onOff clock)
-            (done-any (atClock l clock) (λ m. m.running ≡ l.running) (λ d s. refl) r onOff) refl;
+            λ r on_off clock.
+            lamp-both (λ m. m.running ≡ l.running) (Call.Command r on_off clock)
+            (done-any (at_clock l clock) (λ m. m.running ≡ l.running) (λ d s. refl) r on_off) refl;
         command-remaining =
-            λ r onOff clock.
-            lamp-both (λ m. m.remaining ≡ l.remaining) (Call.Command r onOff clock)
-            (done-any (atClock l clock) (λ m. m.remaining ≡ l.remaining) (λ d s. refl) r onOff) refl;
-        command-wait = λ r onOff clock. answer-both l (λ a. a.wait ≡ 0) (Call.Command r onOff clock) (λ e. refl) (λ n. refl);
+            λ r on_off clock.
+            lamp-both (λ m. m.remaining ≡ l.remaining) (Call.Command r on_off clock)
+            (done-any (at_clock l clock) (λ m. m.remaining ≡ l.remaining) (λ d s. refl) r on_off) refl;
+        command-wait = λ r on_off clock. answer-both l (λ a. a.wait ≡ 0) (Call.Command r on_off clock) (λ e. refl) (λ n. refl);
         start-looping =
             λ task clock.
             lamp-both (λ m. m.looping ≡ l.looping) (Call.Start task clock)
-            (started-any (atClock l clock) (λ m. m.looping ≡ l.looping) (λ c r t. refl) task) refl;
+            (started-any (at_clock l clock) (λ m. m.looping ≡ l.looping) (λ c r t. refl) task) refl;
         step-looping =
             λ clock.
             lamp-both (λ m. m.looping ≡ l.looping) (Call.Step clock)
-            (stepped-any (atClock l clock) (λ m. m.looping ≡ l.looping) (λ c r t. refl) l.running) refl;
+            (stepped-any (at_clock l clock) (λ m. m.looping ≡ l.looping) (λ c r t. refl) l.running) refl;
         start-remaining =
             λ task clock e.
-            lamp-both (λ m. m.remaining ≡ l.remaining) (Call.Start task clock) (started-remaining (atClock l clock) task e) refl;
+            lamp-both (λ m. m.remaining ≡ l.remaining) (Call.Start task clock) (started-remaining (at_clock l clock) task e) refl;
         step-remaining =
             λ clock e.
-            lamp-both (λ m. m.remaining ≡ l.remaining) (Call.Step clock) (stepped-remaining (atClock l clock) l.running e) refl;
+            lamp-both (λ m. m.remaining ≡ l.remaining) (Call.Step clock) (stepped-remaining (at_clock l clock) l.running e) refl;
       }

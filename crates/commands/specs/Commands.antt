@@ -1,5 +1,5 @@
 -- What each command does: document 01, leaf 7 and "Commands in their order". A command is given the lamp at its clock.
--- What is checked before it, and in which order: `commandCause`, `inOrder` and `ranWith` in Answers.
+-- What is checked before it, and in which order: `command_cause`, `in_order` and `ran_with` in Answers.
 use Rattle.std.specs.Prelude.{ℕ, ◌+◌, ◌-◌, ◌*◌, min, Bool, true, false, not, cond, ◌&&◌, ◌||◌, List, [], ◌∷◌, ◌++◌, ltb, eqb, ℤ, pos, neg_ℤ, ◌+ℤ◌}
 use Rattle.matter.specs.declared.limits.Bounds.{Bounds}
 use Rattle.matter.specs.declared.commands.Command.{Command}
@@ -8,16 +8,16 @@ use Rattle.matter.specs.declared.enums.MoveModeEnum.{MoveModeEnum}
 use Rattle.matter.specs.declared.enums.StepModeEnum.{StepModeEnum}
 use Rattle.matter.specs.declared.enums.ColorLoopActionEnum.{ColorLoopActionEnum}
 use Rattle.matter.specs.declared.enums.ColorLoopDirectionEnum.{ColorLoopDirectionEnum}
-use Rattle.matter.specs.Causes.{accepted, constraintError, invalidCommand}
-use Rattle.matter.specs.Flags.{hasFlag, updateAction, updateDirection, updateTime, updateStartHue}
-use Rattle.matter.specs.Limits.{hueLimit, saturationLimit}
+use Rattle.matter.specs.Causes.{accepted, constraint_error, invalid_command}
+use Rattle.matter.specs.Flags.{has_flag, update_action, update_direction, update_time, update_start_hue}
+use Rattle.matter.specs.Limits.{hue_limit, saturation_limit}
 use Rattle.notices.specs.Notices.{only}
 use Rattle.notices.specs.Names.{ColorLoopActive, ColorLoopDirection, ColorLoopTime, ColorLoopStartEnhancedHue}
-use Rattle.notices.specs.Names.{ColorLoopStoredEnhancedHue, markedDirty, deviceHueSaturation, taskGiven, hueTie}
-use Rattle.hue.specs.Hue.{pathDelta, isTie}
+use Rattle.notices.specs.Names.{ColorLoopStoredEnhancedHue, marked_dirty, device_hue_saturation, task_given, hue_tie}
+use Rattle.hue.specs.Hue.{path_delta, is_tie}
 use Rattle.progress.specs.Progress.{clamp}
 use Rattle.color.specs.declared.Color.{Color}
-use Rattle.color.specs.Setters.{hueSet, hueReported}
+use Rattle.color.specs.Setters.{hue_set, hue_reported}
 use Rattle.tasks.specs.declared.GivenTask.{GivenTask}
 use Rattle.tasks.specs.declared.HueDelta.{HueDelta}
 use Rattle.tasks.specs.declared.TargetSaturation.{TargetSaturation}
@@ -39,52 +39,52 @@ abbrev pub skip : Lamp → CommandEffect
 skip l = record { lamp = l; reported = []; task = GivenTask.Nothing }
 
 -- a task given, and what is reported behind it
-abbrev pub givingWith : Lamp → Task → List ℕ → CommandEffect
-givingWith l task more = record { lamp = l; reported = taskGiven ∷ more; task = GivenTask.Given task }
+abbrev pub giving_with : Lamp → Task → List ℕ → CommandEffect
+giving_with l task more = record { lamp = l; reported = task_given ∷ more; task = GivenTask.Given task }
 
 abbrev pub giving : Lamp → Task → CommandEffect
-giving l task = givingWith l task []
+giving l task = giving_with l task []
 
 -- ---- what is checked of a command by itself
 
-abbrev pub isStop : MoveModeEnum → Bool
-isStop MoveModeEnum.Stop = true
-isStop MoveModeEnum.Up = false
-isStop MoveModeEnum.Down = false
+abbrev pub is_stop : MoveModeEnum → Bool
+is_stop MoveModeEnum.Stop = true
+is_stop MoveModeEnum.Up = false
+is_stop MoveModeEnum.Down = false
 
 -- a cause where the test holds, else none
-abbrev pub causeIf : Bool → ℕ → ℕ
-causeIf test number = cond test number accepted
+abbrev pub cause_if : Bool → ℕ → ℕ
+cause_if test number = cond test number accepted
 
 -- "hue above 254 (plain only), saturation above 254, or mireds 0"
 abbrev pub constrained : Bool → Checks
-constrained bad = record { stop = false; cause = causeIf bad constraintError }
+constrained bad = record { stop = false; cause = cause_if bad constraint_error }
 
 -- "rate or step 0"
 abbrev pub nonzero : ℕ → Checks
-nonzero n = record { stop = false; cause = causeIf (eqb n 0) invalidCommand }
+nonzero n = record { stop = false; cause = cause_if (eqb n 0) invalid_command }
 
 -- "Stop mode is answered with the Stop task before rate and off are looked at"
 abbrev pub moving : MoveModeEnum → ℕ → Checks
-moving mode rate = record { stop = isStop mode; cause = (nonzero rate).cause }
+moving mode rate = record { stop = is_stop mode; cause = (nonzero rate).cause }
 
 -- Stop mode, and the cause that the command's own numbers give, or 0
 abbrev pub checks : Command → Checks
-checks (Command.MoveToHue hue direction time) = constrained (ltb hueLimit hue)
+checks (Command.MoveToHue hue direction time) = constrained (ltb hue_limit hue)
 checks (Command.MoveHue mode rate enhanced) = moving mode rate
 checks (Command.StepHue mode size time) = nonzero size
-checks (Command.MoveToSaturation saturation time) = constrained (ltb saturationLimit saturation)
+checks (Command.MoveToSaturation saturation time) = constrained (ltb saturation_limit saturation)
 checks (Command.MoveSaturation mode rate) = moving mode rate
 checks (Command.StepSaturation mode size time) = nonzero size
-checks (Command.MoveToHueAndSaturation hue saturation time enhanced enhancedHue) =
-    constrained ((not enhanced && ltb hueLimit hue) || ltb saturationLimit saturation)
+checks (Command.MoveToHueAndSaturation hue saturation time enhanced enhanced_hue) =
+    constrained ((not enhanced && ltb hue_limit hue) || ltb saturation_limit saturation)
 checks (Command.EnhancedMoveToHue hue direction time) = constrained false
 checks (Command.EnhancedMoveHue mode rate) = moving mode rate
 checks (Command.EnhancedStepHue mode size time) = nonzero size
 checks (Command.MoveToColorTemperature mireds time) = constrained (eqb mireds 0)
 checks (Command.MoveColorTemperature mode rate min max) = moving mode rate
 checks (Command.StepColorTemperature mode size time min max) = nonzero size
-checks (Command.ColorLoopSet flags action direction time startHue) = constrained false
+checks (Command.ColorLoopSet flags action direction time start_hue) = constrained false
 checks Command.StopMoveStep = constrained false
 
 -- "Mired bounds: 0 from the caller means the physical one. lo is the larger minimum, hi the smaller maximum"
@@ -102,8 +102,8 @@ hi bounds n = upper bounds (asked bounds.max n)
 abbrev pub limits : Bounds → ℕ → ℕ → Bounds
 limits bounds min max = record { min = lo bounds min; max = hi bounds max }
 
-abbrev pub stepLimits : Bounds → ℕ → ℕ → Bounds
-stepLimits bounds min max = cond (ltb (hi bounds max) (lo bounds min)) (limits bounds 0 0) (limits bounds min max)
+abbrev pub step_limits : Bounds → ℕ → ℕ → Bounds
+step_limits bounds min max = cond (ltb (hi bounds max) (lo bounds min)) (limits bounds 0 0) (limits bounds min max)
 
 -- ---- the tasks
 
@@ -114,8 +114,8 @@ stored hue = hue * 256
 abbrev pub ms : ℕ → ℕ
 ms tenths = tenths * 100
 
-abbrev pub hueTask : ℤ → TargetSaturation → ℕ → Bool → Task
-hueTask way saturation tenths enhanced =
+abbrev pub hue_task : ℤ → TargetSaturation → ℕ → Bool → Task
+hue_task way saturation tenths enhanced =
     Task.HueSaturationMoveTo (record {
       delta = HueDelta.By way;
       saturation = saturation;
@@ -125,13 +125,13 @@ hueTask way saturation tenths enhanced =
 
 -- a move to a hue. Document 02, A.6: "All move-to-hue commands, those with saturation too, pass a set mark on: notice
 -- 18 follows 17"
-abbrev pub givingHue : Lamp → ℕ → DirectionEnum → TargetSaturation → ℕ → Bool → CommandEffect
-givingHue l target direction saturation tenths enhanced =
-    givingWith l (hueTask (pathDelta l.color.hue target direction) saturation tenths enhanced)
-    (only (isTie l.color.hue target direction) hueTie)
+abbrev pub giving_hue : Lamp → ℕ → DirectionEnum → TargetSaturation → ℕ → Bool → CommandEffect
+giving_hue l target direction saturation tenths enhanced =
+    giving_with l (hue_task (path_delta l.color.hue target direction) saturation tenths enhanced)
+    (only (is_tie l.color.hue target direction) hue_tie)
 
-abbrev pub saturationTask : ℕ → ℕ → Task
-saturationTask saturation tenths =
+abbrev pub saturation_task : ℕ → ℕ → Task
+saturation_task saturation tenths =
     Task.HueSaturationMoveTo (record {
       delta = HueDelta.Keep;
       saturation = TargetSaturation.To saturation;
@@ -139,33 +139,33 @@ saturationTask saturation tenths =
       enhanced = false;
     })
 
-abbrev pub hueMoveTask : MoveModeEnum → ℕ → Bool → Task
-hueMoveTask mode rate enhanced = Task.HueMove (record { direction = mode; rate = rate; enhanced = enhanced })
+abbrev pub hue_move_task : MoveModeEnum → ℕ → Bool → Task
+hue_move_task mode rate enhanced = Task.HueMove (record { direction = mode; rate = rate; enhanced = enhanced })
 
-abbrev pub temperatureTask : ℕ → ℕ → Task
-temperatureTask target tenths = Task.ColorTemperatureMoveTo (record { target = target; ms = ms tenths })
+abbrev pub temperature_task : ℕ → ℕ → Task
+temperature_task target tenths = Task.ColorTemperatureMoveTo (record { target = target; ms = ms tenths })
 
 -- a step's size with its sign
-abbrev pub stepDelta : StepModeEnum → ℕ → ℤ
-stepDelta StepModeEnum.Up size = pos size
-stepDelta StepModeEnum.Down size = neg_ℤ (pos size)
+abbrev pub step_delta : StepModeEnum → ℕ → ℤ
+step_delta StepModeEnum.Up size = pos size
+step_delta StepModeEnum.Down size = neg_ℤ (pos size)
 
 -- a step of the mireds, within its limits
-abbrev pub miredsStep : Lamp → StepModeEnum → ℕ → ℕ → ℕ → ℕ
-miredsStep l mode size min max =
-    let between : Bounds = stepLimits l.bounds min max in
-    clamp between.min between.max (pos l.color.mireds +ℤ stepDelta mode size)
+abbrev pub mireds_step : Lamp → StepModeEnum → ℕ → ℕ → ℕ → ℕ
+mireds_step l mode size min max =
+    let between : Bounds = step_limits l.bounds min max in
+    clamp between.min between.max (pos l.color.mireds +ℤ step_delta mode size)
 
 -- "Saturation steps stop at 0 and 254"
-abbrev pub saturationStep : StepModeEnum → ℕ → ℕ → ℕ
-saturationStep StepModeEnum.Up now size = min saturationLimit (now + size)
-saturationStep StepModeEnum.Down now size = now - size
+abbrev pub saturation_step : StepModeEnum → ℕ → ℕ → ℕ
+saturation_step StepModeEnum.Up now size = min saturation_limit (now + size)
+saturation_step StepModeEnum.Down now size = now - size
 
 -- ---- the colour loop's command
 
 -- the lamp with another colour and other settings of the loop
-abbrev pub withLoop : Lamp → Color → LoopSettings → Lamp
-withLoop l color looping =
+abbrev pub with_loop : Lamp → Color → LoopSettings → Lamp
+with_loop l color looping =
     record {
       clock = l.clock;
       bounds = l.bounds;
@@ -178,22 +178,22 @@ withLoop l color looping =
 
 -- "it updates direction, time and start hue by flag (bits 1, 2, 3; action is bit 0)"
 abbrev pub updated : LoopSettings → ℕ → ColorLoopDirectionEnum → ℕ → ℕ → LoopSettings
-updated s flags direction time startHue =
+updated s flags direction time start_hue =
     record {
       active = s.active;
-      direction = cond (hasFlag flags updateDirection) direction s.direction;
-      time = cond (hasFlag flags updateTime) time s.time;
-      start = cond (hasFlag flags updateStartHue) startHue s.start;
+      direction = cond (has_flag flags update_direction) direction s.direction;
+      time = cond (has_flag flags update_time) time s.time;
+      start = cond (has_flag flags update_start_hue) start_hue s.start;
       stored = s.stored;
     }
 
 -- ", marks dirty"
-abbrev pub updatedReported : ℕ → List ℕ
-updatedReported flags =
-    only (hasFlag flags updateDirection) ColorLoopDirection
-    ++ only (hasFlag flags updateTime) ColorLoopTime
-    ++ only (hasFlag flags updateStartHue) ColorLoopStartEnhancedHue
-    ++ (markedDirty ∷ [])
+abbrev pub updated_reported : ℕ → List ℕ
+updated_reported flags =
+    only (has_flag flags update_direction) ColorLoopDirection
+    ++ only (has_flag flags update_time) ColorLoopTime
+    ++ only (has_flag flags update_start_hue) ColorLoopStartEnhancedHue
+    ++ (marked_dirty ∷ [])
 
 abbrev pub activity : LoopSettings → Bool → ℕ → LoopSettings
 activity s active stored =
@@ -205,12 +205,12 @@ deactivated l reported =
     cond l.looping.active
     (record {
       lamp =
-          withLoop l (hueSet l.color l.looping.stored true true l.clock)
+          with_loop l (hue_set l.color l.looping.stored true true l.clock)
           (activity l.looping false l.looping.stored);
       reported =
-          reported ++ (taskGiven ∷ ColorLoopActive ∷ [])
-          ++ hueReported l.color l.looping.stored true true l.clock false
-          ++ (deviceHueSaturation ∷ []);
+          reported ++ (task_given ∷ ColorLoopActive ∷ [])
+          ++ hue_reported l.color l.looping.stored true true l.clock false
+          ++ (device_hue_saturation ∷ []);
       task = GivenTask.Given Task.Stop;
     })
     (record { lamp = l; reported = reported; task = GivenTask.Nothing })
@@ -220,12 +220,12 @@ unfoldable pub activated : Lamp → List ℕ → ℕ → CommandEffect
 activated l reported seed =
     record {
       lamp =
-          withLoop l (hueSet l.color seed true true l.clock)
+          with_loop l (hue_set l.color seed true true l.clock)
           (activity l.looping true (cond l.looping.active l.looping.stored l.color.hue));
       reported =
           reported ++ cond l.looping.active [] (ColorLoopStoredEnhancedHue ∷ ColorLoopActive ∷ [])
-          ++ hueReported l.color seed true true l.clock true
-          ++ (deviceHueSaturation ∷ taskGiven ∷ []);
+          ++ hue_reported l.color seed true true l.clock true
+          ++ (device_hue_saturation ∷ task_given ∷ []);
       task =
           GivenTask.Given (Task.ColorLoop (record { direction = l.looping.direction; seconds = l.looping.time }));
     }
@@ -235,42 +235,42 @@ acted l reported ColorLoopActionEnum.Deactivate = deactivated l reported
 acted l reported ColorLoopActionEnum.ActivateFromColorLoopStartEnhancedHue = activated l reported l.looping.start
 acted l reported ColorLoopActionEnum.ActivateFromEnhancedCurrentHue = activated l reported l.color.hue
 
-unfoldable pub loopSet : Lamp → ℕ → ColorLoopActionEnum → ColorLoopDirectionEnum → ℕ → ℕ → CommandEffect
-loopSet l flags action direction time startHue =
-    let changed : Lamp = withLoop l l.color (updated l.looping flags direction time startHue) in
-    cond (hasFlag flags updateAction) (acted changed (updatedReported flags) action)
-    (record { lamp = changed; reported = updatedReported flags; task = GivenTask.Nothing })
+unfoldable pub loop_set : Lamp → ℕ → ColorLoopActionEnum → ColorLoopDirectionEnum → ℕ → ℕ → CommandEffect
+loop_set l flags action direction time start_hue =
+    let changed : Lamp = with_loop l l.color (updated l.looping flags direction time start_hue) in
+    cond (has_flag flags update_action) (acted changed (updated_reported flags) action)
+    (record { lamp = changed; reported = updated_reported flags; task = GivenTask.Nothing })
 
 -- ---- a command that may execute, in no Stop mode
 
-unfoldable pub commandEffect : Lamp → Command → CommandEffect
-commandEffect l (Command.MoveToHue hue direction time) =
-    givingHue l (stored hue) direction TargetSaturation.Keep time false
-commandEffect l (Command.MoveHue mode rate enhanced) =
-    giving l (hueMoveTask mode (cond enhanced rate (stored rate)) enhanced)
-commandEffect l (Command.StepHue mode size time) =
-    giving l (hueTask (stepDelta mode (stored size)) TargetSaturation.Keep time false)
-commandEffect l (Command.MoveToSaturation saturation time) = giving l (saturationTask saturation time)
-commandEffect l (Command.MoveSaturation mode rate) =
+unfoldable pub command_effect : Lamp → Command → CommandEffect
+command_effect l (Command.MoveToHue hue direction time) =
+    giving_hue l (stored hue) direction TargetSaturation.Keep time false
+command_effect l (Command.MoveHue mode rate enhanced) =
+    giving l (hue_move_task mode (cond enhanced rate (stored rate)) enhanced)
+command_effect l (Command.StepHue mode size time) =
+    giving l (hue_task (step_delta mode (stored size)) TargetSaturation.Keep time false)
+command_effect l (Command.MoveToSaturation saturation time) = giving l (saturation_task saturation time)
+command_effect l (Command.MoveSaturation mode rate) =
     giving l (Task.SaturationMove (record { direction = mode; rate = rate }))
-commandEffect l (Command.StepSaturation mode size time) =
-    giving l (saturationTask (saturationStep mode l.color.saturation size) time)
-commandEffect l (Command.MoveToHueAndSaturation hue saturation time enhanced enhancedHue) =
-    givingHue l (cond enhanced enhancedHue (stored hue)) DirectionEnum.Shortest (TargetSaturation.To saturation) time
+command_effect l (Command.StepSaturation mode size time) =
+    giving l (saturation_task (saturation_step mode l.color.saturation size) time)
+command_effect l (Command.MoveToHueAndSaturation hue saturation time enhanced enhanced_hue) =
+    giving_hue l (cond enhanced enhanced_hue (stored hue)) DirectionEnum.Shortest (TargetSaturation.To saturation) time
     enhanced
-commandEffect l (Command.EnhancedMoveToHue hue direction time) =
-    givingHue l hue direction TargetSaturation.Keep time true
-commandEffect l (Command.EnhancedMoveHue mode rate) = giving l (hueMoveTask mode rate true)
-commandEffect l (Command.EnhancedStepHue mode size time) =
-    giving l (hueTask (stepDelta mode size) TargetSaturation.Keep time true)
-commandEffect l (Command.MoveToColorTemperature mireds time) =
-    giving l (temperatureTask (clamp l.bounds.min l.bounds.max (pos mireds)) time)
-commandEffect l (Command.MoveColorTemperature mode rate min max) =
+command_effect l (Command.EnhancedMoveToHue hue direction time) =
+    giving_hue l hue direction TargetSaturation.Keep time true
+command_effect l (Command.EnhancedMoveHue mode rate) = giving l (hue_move_task mode rate true)
+command_effect l (Command.EnhancedStepHue mode size time) =
+    giving l (hue_task (step_delta mode size) TargetSaturation.Keep time true)
+command_effect l (Command.MoveToColorTemperature mireds time) =
+    giving l (temperature_task (clamp l.bounds.min l.bounds.max (pos mireds)) time)
+command_effect l (Command.MoveColorTemperature mode rate min max) =
     giving l
     (Task.ColorTemperatureMove
     (record { rate = signed mode rate; min = asked l.bounds.min min; max = asked l.bounds.max max }))
-commandEffect l (Command.StepColorTemperature mode size time min max) =
-    giving l (temperatureTask (miredsStep l mode size min max) time)
-commandEffect l (Command.ColorLoopSet flags action direction time startHue) =
-    loopSet l flags action direction time startHue
-commandEffect l Command.StopMoveStep = giving l Task.Stop
+command_effect l (Command.StepColorTemperature mode size time min max) =
+    giving l (temperature_task (mireds_step l mode size min max) time)
+command_effect l (Command.ColorLoopSet flags action direction time start_hue) =
+    loop_set l flags action direction time start_hue
+command_effect l Command.StopMoveStep = giving l Task.Stop

@@ -10,47 +10,47 @@ use Rattle.matter.specs.declared.enums.OnOff.{OnOff}
 use Rattle.matter.specs.declared.limits.Bounds.{Bounds}
 use Rattle.notices.specs.Notices.{noted}
 use Rattle.tasks.specs.declared.Task.{Task}
-use Rattle.tasks.specs.Valid.{taskValid}
+use Rattle.tasks.specs.Valid.{task_valid}
 use Rattle.tasks.specs.Runs.{runs}
 use Rattle.lamp.specs.declared.Lamp.{Lamp}
 use Rattle.lamp.specs.declared.Answer.{Answer}
-use Rattle.lamp.specs.Answers.{badClock}
-use Rattle.lamp.specs.Making.{makingCause}
-use Rattle.lamp.specs.Valid.{lampValid}
+use Rattle.lamp.specs.Answers.{bad_clock}
+use Rattle.lamp.specs.Making.{making_cause}
+use Rattle.lamp.specs.Valid.{lamp_valid}
 use Rattle.lamp.specs.declared.Call.{Call}
 use Rattle.commands.specs.Commands.{checks}
 use Rattle.commands.specs.Answers.{cause, answer}
 
 -- steps 8, 7, 4; a step of a valid running lamp with a good clock is never refused
 pub record StepCauses (l : Lamp) (clock : ℕ) : Type 0 where
-  pub step-8 : lampValid l ≡ false → cause l (Call.Step clock) ≡ 8
-  pub step-7 : lampValid l ≡ true → runs l.running ≡ false → cause l (Call.Step clock) ≡ 7
-  pub step-4 : lampValid l ≡ true → runs l.running ≡ true → badClock l clock ≡ true → cause l (Call.Step clock) ≡ 4
-  pub step-0 : lampValid l ≡ true → runs l.running ≡ true → badClock l clock ≡ false → cause l (Call.Step clock) ≡ 0
+  pub step-8 : lamp_valid l ≡ false → cause l (Call.Step clock) ≡ 8
+  pub step-7 : lamp_valid l ≡ true → runs l.running ≡ false → cause l (Call.Step clock) ≡ 7
+  pub step-4 : lamp_valid l ≡ true → runs l.running ≡ true → bad_clock l clock ≡ true → cause l (Call.Step clock) ≡ 4
+  pub step-0 : lamp_valid l ≡ true → runs l.running ≡ true → bad_clock l clock ≡ false → cause l (Call.Step clock) ≡ 0
 
 -- halts 8, 4
 pub record HaltCauses (l : Lamp) (clock : ℕ) : Type 0 where
-  pub halt-8 : lampValid l ≡ false → cause l (Call.Halt clock) ≡ 8
-  pub halt-4 : lampValid l ≡ true → badClock l clock ≡ true → cause l (Call.Halt clock) ≡ 4
-  pub halt-0 : lampValid l ≡ true → badClock l clock ≡ false → cause l (Call.Halt clock) ≡ 0
+  pub halt-8 : lamp_valid l ≡ false → cause l (Call.Halt clock) ≡ 8
+  pub halt-4 : lamp_valid l ≡ true → bad_clock l clock ≡ true → cause l (Call.Halt clock) ≡ 4
+  pub halt-0 : lamp_valid l ≡ true → bad_clock l clock ≡ false → cause l (Call.Halt clock) ≡ 0
 
 -- starts 8, 4, 6
 pub record StartCauses (l : Lamp) (clock : ℕ) (task : Task) : Type 0 where
-  pub start-8 : lampValid l ≡ false → cause l (Call.Start task clock) ≡ 8
-  pub start-4 : lampValid l ≡ true → badClock l clock ≡ true → cause l (Call.Start task clock) ≡ 4
-  pub start-6 : lampValid l ≡ true → badClock l clock ≡ false → taskValid task ≡ false →
+  pub start-8 : lamp_valid l ≡ false → cause l (Call.Start task clock) ≡ 8
+  pub start-4 : lamp_valid l ≡ true → bad_clock l clock ≡ true → cause l (Call.Start task clock) ≡ 4
+  pub start-6 : lamp_valid l ≡ true → bad_clock l clock ≡ false → task_valid task ≡ false →
       cause l (Call.Start task clock) ≡ 6
-  pub start-0 : lampValid l ≡ true → badClock l clock ≡ false → taskValid task ≡ true →
+  pub start-0 : lamp_valid l ≡ true → bad_clock l clock ≡ false → task_valid task ≡ true →
       cause l (Call.Start task clock) ≡ 0
 
 -- commands 8, 4, Stop mode, the command's own numbers (1 or 2, or no cause), on or off
-pub record CommandCauses (l : Lamp) (clock : ℕ) (r : Request) (onOff : OnOff) : Type 0 where
-  pub command-8 : lampValid l ≡ false → cause l (Call.Command r onOff clock) ≡ 8
-  pub command-4 : lampValid l ≡ true → badClock l clock ≡ true → cause l (Call.Command r onOff clock) ≡ 4
-  pub command-stop : lampValid l ≡ true → badClock l clock ≡ false → (checks r.command).stop ≡ true →
-      cause l (Call.Command r onOff clock) ≡ 0
-  pub command-own : lampValid l ≡ true → badClock l clock ≡ false → (checks r.command).stop ≡ false →
-      cause l (Call.Command r onOff clock) ≡ (checks r.command).cause
+pub record CommandCauses (l : Lamp) (clock : ℕ) (r : Request) (on_off : OnOff) : Type 0 where
+  pub command-8 : lamp_valid l ≡ false → cause l (Call.Command r on_off clock) ≡ 8
+  pub command-4 : lamp_valid l ≡ true → bad_clock l clock ≡ true → cause l (Call.Command r on_off clock) ≡ 4
+  pub command-stop : lamp_valid l ≡ true → bad_clock l clock ≡ false → (checks r.command).stop ≡ true →
+      cause l (Call.Command r on_off clock) ≡ 0
+  pub command-own : lamp_valid l ≡ true → bad_clock l clock ≡ false → (checks r.command).stop ≡ false →
+      cause l (Call.Command r on_off clock) ≡ (checks r.command).cause
 
 -- an answer's list is some list of at most 14 in its places, with zeros behind
 pub record Few (a : Answer) : Type 0 where
@@ -62,11 +62,11 @@ pub record TableOfCauses : Type 0 where
   pub steps : (l : Lamp) (clock : ℕ) → StepCauses l clock
   pub halts : (l : Lamp) (clock : ℕ) → HaltCauses l clock
   pub starts : (l : Lamp) (clock : ℕ) (task : Task) → StartCauses l clock task
-  pub commands : (l : Lamp) (clock : ℕ) (r : Request) (onOff : OnOff) → CommandCauses l clock r onOff
+  pub commands : (l : Lamp) (clock : ℕ) (r : Request) (on_off : OnOff) → CommandCauses l clock r on_off
   -- a command's own numbers give 1, 2 or no cause
   pub own : (c : Command) → (checks c).cause ≤ 2
   pub most : (l : Lamp) (x : Call) → cause l x ≤ 8
   -- document 02, A.12: "Number 3 no longer occurs"
   pub no-3 : (l : Lamp) (x : Call) → (answer l x).number ≡ 3 → ⊥
-  pub making-no-3 : (bounds : Bounds) (clock : ℕ) → makingCause bounds clock ≡ 3 → ⊥
+  pub making-no-3 : (bounds : Bounds) (clock : ℕ) → making_cause bounds clock ≡ 3 → ⊥
   pub few : (l : Lamp) (x : Call) → Few (answer l x)

@@ -3,9 +3,9 @@ use Rattle.std.specs.Prelude.{ℕ, Bool, true, false, cond, ◌&&◌, List, [], 
 use Rattle.matter.specs.declared.commands.Command.{Command}
 use Rattle.matter.specs.declared.enums.DirectionEnum.{DirectionEnum}
 use Rattle.matter.specs.Causes.{accepted}
-use Rattle.notices.specs.Names.{taskGiven, hueTie}
+use Rattle.notices.specs.Names.{task_given, hue_tie}
 use Rattle.notices.specs.Notices.{only, noted}
-use Rattle.hue.specs.Hue.{isTie}
+use Rattle.hue.specs.Hue.{is_tie}
 use Rattle.lamp.specs.declared.Call.{Call}
 use Rattle.lamp.specs.declared.Lamp.{Lamp}
 use Rattle.commands.specs.Commands.{stored}
@@ -24,34 +24,34 @@ aim_of (Command.StepHue mode size time) = nowhere
 aim_of (Command.MoveToSaturation saturation time) = nowhere
 aim_of (Command.MoveSaturation mode rate) = nowhere
 aim_of (Command.StepSaturation mode size time) = nowhere
-aim_of (Command.MoveToHueAndSaturation hue saturation time enhanced enhancedHue) =
-    toward (cond enhanced enhancedHue (stored hue)) DirectionEnum.Shortest
+aim_of (Command.MoveToHueAndSaturation hue saturation time enhanced enhanced_hue) =
+    toward (cond enhanced enhanced_hue (stored hue)) DirectionEnum.Shortest
 aim_of (Command.EnhancedMoveToHue hue direction time) = toward hue direction
 aim_of (Command.EnhancedMoveHue mode rate) = nowhere
 aim_of (Command.EnhancedStepHue mode size time) = nowhere
 aim_of (Command.MoveToColorTemperature mireds time) = nowhere
 aim_of (Command.MoveColorTemperature mode rate min max) = nowhere
 aim_of (Command.StepColorTemperature mode size time min max) = nowhere
-aim_of (Command.ColorLoopSet flags action direction time startHue) = nowhere
+aim_of (Command.ColorLoopSet flags action direction time start_hue) = nowhere
 aim_of Command.StopMoveStep = nowhere
 
 -- the aim of a command that is accepted and may execute; no other call has one
 abbrev pub aim : Lamp → Call → Aim
-aim l (Call.Command r onOff clock) =
-    cond (eqb (cause l (Call.Command r onOff clock)) accepted && allowed l r onOff) (aim_of r.command) nowhere
+aim l (Call.Command r on_off clock) =
+    cond (eqb (cause l (Call.Command r on_off clock)) accepted && allowed l r on_off) (aim_of r.command) nowhere
 aim l (Call.Start task clock) = nowhere
 aim l (Call.Step clock) = nowhere
 aim l (Call.Halt clock) = nowhere
 
-abbrev pub aimTies : ℕ → Aim → Bool
-aimTies current (toward target direction) = isTie current target direction
-aimTies current nowhere = false
+abbrev pub aim_ties : ℕ → Aim → Bool
+aim_ties current (toward target direction) = is_tie current target direction
+aim_ties current nowhere = false
 
 pub record Ties (l : Lamp) (x : Call) : Type 0 where
   -- "notice 18 follows 17": where the aim ties; else the list is 17, as it was before
   pub follows :
       (target : ℕ) (direction : DirectionEnum) → aim l x ≡ toward target direction
-      → (answer l x).notices ≡ noted (taskGiven ∷ only (isTie l.color.hue target direction) hueTie)
+      → (answer l x).notices ≡ noted (task_given ∷ only (is_tie l.color.hue target direction) hue_tie)
   -- "and comes in no other case": whichever of the sixteen places has 18
   pub alone :
-      (place : ℕ) → get_or (answer l x).notices.places place 0 ≡ hueTie → aimTies l.color.hue (aim l x) ≡ true
+      (place : ℕ) → get_or (answer l x).notices.places place 0 ≡ hue_tie → aim_ties l.color.hue (aim l x) ≡ true

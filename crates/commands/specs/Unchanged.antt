@@ -22,23 +22,23 @@ bare number l =
     }
 
 -- "Each pass writes the device [..], then, in a move-to, the remaining time": the tasks that write it, and the records
-abbrev pub isMoveTo : Task → Bool
-isMoveTo (Task.HueSaturationMoveTo task) = true
-isMoveTo (Task.HueMove task) = false
-isMoveTo (Task.SaturationMove task) = false
-isMoveTo (Task.ColorTemperatureMoveTo task) = true
-isMoveTo (Task.ColorTemperatureMove task) = false
-isMoveTo (Task.ColorLoop task) = false
-isMoveTo Task.Stop = false
+abbrev pub is_move_to : Task → Bool
+is_move_to (Task.HueSaturationMoveTo task) = true
+is_move_to (Task.HueMove task) = false
+is_move_to (Task.SaturationMove task) = false
+is_move_to (Task.ColorTemperatureMoveTo task) = true
+is_move_to (Task.ColorTemperatureMove task) = false
+is_move_to (Task.ColorLoop task) = false
+is_move_to Task.Stop = false
 
-abbrev pub movesTo : Running → Bool
-movesTo Running.Idle = false
-movesTo (Running.HueSaturationMoveTo run) = true
-movesTo (Running.HueMove run) = false
-movesTo (Running.SaturationMove run) = false
-movesTo (Running.ColorTemperatureMoveTo run) = true
-movesTo (Running.ColorTemperatureMove run) = false
-movesTo (Running.ColorLoop direction hue seconds start) = false
+abbrev pub moves_to : Running → Bool
+moves_to Running.Idle = false
+moves_to (Running.HueSaturationMoveTo run) = true
+moves_to (Running.HueMove run) = false
+moves_to (Running.SaturationMove run) = false
+moves_to (Running.ColorTemperatureMoveTo run) = true
+moves_to (Running.ColorTemperatureMove run) = false
+moves_to (Running.ColorLoop direction hue seconds start) = false
 
 pub record Unchanged (l : Lamp) : Type 0 where
   -- "the lamp is then what it was and the notice list is empty"; "A refusal has no task and wait 0"
@@ -63,16 +63,16 @@ pub record Unchanged (l : Lamp) : Type 0 where
   pub bounds : (x : Call) → (answer l x).lamp.bounds ≡ l.bounds
   pub options : (x : Call) → (answer l x).lamp.options ≡ l.options
   -- no command, the colour loop's among them, changes what runs, nor the remaining time, nor has a wait
-  pub command-running : (r : Request) (onOff : OnOff) (clock : ℕ) →
-      (answer l (Call.Command r onOff clock)).lamp.running ≡ l.running
-  pub command-remaining : (r : Request) (onOff : OnOff) (clock : ℕ) →
-      (answer l (Call.Command r onOff clock)).lamp.remaining ≡ l.remaining
-  pub command-wait : (r : Request) (onOff : OnOff) (clock : ℕ) → (answer l (Call.Command r onOff clock)).wait ≡ 0
+  pub command-running : (r : Request) (on_off : OnOff) (clock : ℕ) →
+      (answer l (Call.Command r on_off clock)).lamp.running ≡ l.running
+  pub command-remaining : (r : Request) (on_off : OnOff) (clock : ℕ) →
+      (answer l (Call.Command r on_off clock)).lamp.remaining ≡ l.remaining
+  pub command-wait : (r : Request) (on_off : OnOff) (clock : ℕ) → (answer l (Call.Command r on_off clock)).wait ≡ 0
   -- no start or step changes the loop's settings
   pub start-looping : (task : Task) (clock : ℕ) → (answer l (Call.Start task clock)).lamp.looping ≡ l.looping
   pub step-looping : (clock : ℕ) → (answer l (Call.Step clock)).lamp.looping ≡ l.looping
   -- "Rate moves, loops and halts leave the remaining time as it was" (DECISIONS 14)
-  pub start-remaining : (task : Task) (clock : ℕ) → isMoveTo task ≡ false →
+  pub start-remaining : (task : Task) (clock : ℕ) → is_move_to task ≡ false →
       (answer l (Call.Start task clock)).lamp.remaining ≡ l.remaining
-  pub step-remaining : (clock : ℕ) → movesTo l.running ≡ false →
+  pub step-remaining : (clock : ℕ) → moves_to l.running ≡ false →
       (answer l (Call.Step clock)).lamp.remaining ≡ l.remaining

@@ -1,18 +1,18 @@
 // What is checked of a command by itself, in one row each: Stop mode, and its own numbers.
 ghost use Rattle.std.specs.Prelude.{◌≡◌};
-ghost use Rattle.commands.specs.Commands.{isStop, constrained, nonzero, moving, checks};
+ghost use Rattle.commands.specs.Commands.{is_stop, constrained, nonzero, moving, checks};
 
 use matter::{ACCEPTED, CONSTRAINT_ERROR, Command, INVALID_COMMAND, MoveModeEnum};
 
 // Whether it is a move in Stop mode, and the cause that its numbers give, or 0.
-#[derive(Drop)]
+#[derive(Clone, Copy)]
 pub struct Checks {
     pub stop: bool,
     pub cause: u8,
 }
 
 fn is_stop(mode: MoveModeEnum) -> bool
-    ensures { result ≡ isStop mode }
+    ensures { result ≡ is_stop mode }
 {
     match mode {
         MoveModeEnum::Stop => true,

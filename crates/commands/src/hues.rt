@@ -2,11 +2,11 @@
 // Carried over from project-chip/rs-matter, commit 43f61585a4 (Apache-2.0, see NOTICE), and changed.
 ghost use Rattle.std.specs.Prelude.{◌≡◌, false, cond};
 ghost use Rattle.matter.specs.Requests.{request, options};
-ghost use Rattle.commands.specs.Answers.{commandAnswer};
-ghost use Rattle.notices.specs.Names.{hueTie};
+ghost use Rattle.commands.specs.Answers.{command_answer};
+ghost use Rattle.notices.specs.Names.{hue_tie};
 ghost use Rattle.notices.specs.Notices.{only};
-ghost use Rattle.commands.specs.Commands.{giving, givingWith, givingHue, hueTask, hueMoveTask, stepDelta, stored};
-ghost use Rattle.commands.specs.Outcomes.{acceptedOutcome};
+ghost use Rattle.commands.specs.Commands.{giving, giving_with, giving_hue, hue_task, hue_move_task, step_delta, stored};
+ghost use Rattle.commands.specs.Outcomes.{accepted_outcome};
 
 use crate::outcomes::{Outcome, given, given_with};
 use crate::with_options;
@@ -35,7 +35,7 @@ pub(crate) fn enhanced_rate(rate: u8, is_enhanced: bool) -> u32
 
 // A step's size with its sign.
 pub(crate) fn step_delta(mode: StepModeEnum, size: u16) -> i64
-    ensures { result ≡ stepDelta mode size }
+    ensures { result ≡ step_delta mode size }
 {
     match mode {
         StepModeEnum::Up => size as i64,
@@ -52,7 +52,7 @@ fn by_delta(
     tenths: u16,
     enhanced: bool,
 ) -> Outcome
-    ensures { result ≡ acceptedOutcome (givingWith lamp (hueTask delta saturation tenths enhanced) (only is_tie hueTie)) }
+    ensures { result ≡ accepted_outcome (giving_with lamp (hue_task delta saturation tenths enhanced) (only is_tie hue_tie)) }
 {
     let task = HueSaturationMoveTo {
         delta: HueDelta::By(delta),
@@ -72,7 +72,7 @@ pub(crate) fn to_hue(
     tenths: u16,
     enhanced: bool,
 ) -> Outcome
-    ensures { result ≡ acceptedOutcome (givingHue lamp hue direction saturation tenths enhanced) }
+    ensures { result ≡ accepted_outcome (giving_hue lamp hue direction saturation tenths enhanced) }
 {
     let path = hue_path_delta(lamp.color.hue, hue, direction);
     by_delta(
@@ -87,7 +87,7 @@ pub(crate) fn to_hue(
 
 // A move to a plain hue.
 pub(crate) fn to_plain_hue(lamp: Lamp, hue: u8, direction: DirectionEnum, tenths: u16) -> Outcome
-    ensures { result ≡ acceptedOutcome (givingHue lamp (stored hue) direction TargetSaturation.Keep tenths false) }
+    ensures { result ≡ accepted_outcome (giving_hue lamp (stored hue) direction TargetSaturation.Keep tenths false) }
 {
     to_hue(
         lamp,
@@ -119,7 +119,7 @@ pub(crate) fn to_both(
     is_enhanced: bool,
     enhanced_hue: u16,
 ) -> Outcome
-    ensures { result ≡ acceptedOutcome (givingHue lamp (cond is_enhanced enhanced_hue (stored hue)) DirectionEnum.Shortest (TargetSaturation.To saturation) tenths is_enhanced) }
+    ensures { result ≡ accepted_outcome (giving_hue lamp (cond is_enhanced enhanced_hue (stored hue)) DirectionEnum.Shortest (TargetSaturation.To saturation) tenths is_enhanced) }
 {
     let target = target_hue(hue, is_enhanced, enhanced_hue);
     to_hue(
@@ -140,7 +140,7 @@ pub(crate) fn step_hue(
     tenths: u16,
     enhanced: bool,
 ) -> Outcome
-    ensures { result ≡ acceptedOutcome (giving lamp (hueTask (stepDelta mode size) TargetSaturation.Keep tenths enhanced)) }
+    ensures { result ≡ accepted_outcome (giving lamp (hue_task (step_delta mode size) TargetSaturation.Keep tenths enhanced)) }
 {
     by_delta(
         lamp,
@@ -154,7 +154,7 @@ pub(crate) fn step_hue(
 
 // A move of the hue at a rate in enhanced units.
 pub(crate) fn move_hue(lamp: Lamp, mode: MoveModeEnum, rate: u32, enhanced: bool) -> Outcome
-    ensures { result ≡ acceptedOutcome (giving lamp (hueMoveTask mode rate enhanced)) }
+    ensures { result ≡ accepted_outcome (giving lamp (hue_move_task mode rate enhanced)) }
 {
     let task = HueMove {
         direction: mode,
@@ -175,7 +175,7 @@ pub fn cmd_move_to_hue(
     on_off: OnOff,
     clock: u64,
 ) -> Answer
-    ensures { result ≡ commandAnswer lamp (request (Command.MoveToHue hue direction transition_time_ds) (options options_mask options_override)) on_off clock }
+    ensures { result ≡ command_answer lamp (request (Command.MoveToHue hue direction transition_time_ds) (options options_mask options_override)) on_off clock }
 {
     let command = Command::MoveToHue {
         hue,
@@ -196,7 +196,7 @@ pub fn cmd_enhanced_move_to_hue(
     on_off: OnOff,
     clock: u64,
 ) -> Answer
-    ensures { result ≡ commandAnswer lamp (request (Command.EnhancedMoveToHue enhanced_hue direction transition_time_ds) (options options_mask options_override)) on_off clock }
+    ensures { result ≡ command_answer lamp (request (Command.EnhancedMoveToHue enhanced_hue direction transition_time_ds) (options options_mask options_override)) on_off clock }
 {
     let command = Command::EnhancedMoveToHue {
         hue: enhanced_hue,
@@ -217,7 +217,7 @@ pub fn cmd_move_hue(
     on_off: OnOff,
     clock: u64,
 ) -> Answer
-    ensures { result ≡ commandAnswer lamp (request (Command.MoveHue move_mode rate is_enhanced) (options options_mask options_override)) on_off clock }
+    ensures { result ≡ command_answer lamp (request (Command.MoveHue move_mode rate is_enhanced) (options options_mask options_override)) on_off clock }
 {
     let command = Command::MoveHue {
         mode: move_mode,
@@ -237,7 +237,7 @@ pub fn cmd_enhanced_move_hue(
     on_off: OnOff,
     clock: u64,
 ) -> Answer
-    ensures { result ≡ commandAnswer lamp (request (Command.EnhancedMoveHue move_mode rate) (options options_mask options_override)) on_off clock }
+    ensures { result ≡ command_answer lamp (request (Command.EnhancedMoveHue move_mode rate) (options options_mask options_override)) on_off clock }
 {
     let command = Command::EnhancedMoveHue {
         mode: move_mode,
@@ -257,7 +257,7 @@ pub fn cmd_step_hue(
     on_off: OnOff,
     clock: u64,
 ) -> Answer
-    ensures { result ≡ commandAnswer lamp (request (Command.StepHue step_mode step_size transition_time_ds) (options options_mask options_override)) on_off clock }
+    ensures { result ≡ command_answer lamp (request (Command.StepHue step_mode step_size transition_time_ds) (options options_mask options_override)) on_off clock }
 {
     let command = Command::StepHue {
         mode: step_mode,
@@ -278,7 +278,7 @@ pub fn cmd_enhanced_step_hue(
     on_off: OnOff,
     clock: u64,
 ) -> Answer
-    ensures { result ≡ commandAnswer lamp (request (Command.EnhancedStepHue step_mode step_size transition_time_ds) (options options_mask options_override)) on_off clock }
+    ensures { result ≡ command_answer lamp (request (Command.EnhancedStepHue step_mode step_size transition_time_ds) (options options_mask options_override)) on_off clock }
 {
     let command = Command::EnhancedStepHue {
         mode: step_mode,
@@ -301,7 +301,7 @@ pub fn cmd_move_to_hue_and_saturation(
     on_off: OnOff,
     clock: u64,
 ) -> Answer
-    ensures { result ≡ commandAnswer lamp (request (Command.MoveToHueAndSaturation hue saturation transition_time_ds is_enhanced enhanced_hue) (options options_mask options_override)) on_off clock }
+    ensures { result ≡ command_answer lamp (request (Command.MoveToHueAndSaturation hue saturation transition_time_ds is_enhanced enhanced_hue) (options options_mask options_override)) on_off clock }
 {
     let command = Command::MoveToHueAndSaturation {
         hue,

@@ -10,10 +10,10 @@ mod temperatures;
 
 ghost use Rattle.std.specs.Prelude.{◌≡◌, cond, eqb};
 ghost use Rattle.matter.specs.Requests.{request, options};
-ghost use Rattle.lamp.specs.Answers.{atClock};
-ghost use Rattle.commands.specs.Commands.{commandEffect};
-ghost use Rattle.commands.specs.Answers.{commandAnswer, answer};
-ghost use Rattle.commands.specs.Outcomes.{outcomeOf, acceptedOutcome};
+ghost use Rattle.lamp.specs.Answers.{at_clock};
+ghost use Rattle.commands.specs.Commands.{command_effect};
+ghost use Rattle.commands.specs.Answers.{command_answer, answer};
+ghost use Rattle.commands.specs.Outcomes.{outcome_of, accepted_outcome};
 
 use checks::checks_of;
 pub use hues::{
@@ -36,7 +36,7 @@ use temperatures::{move_mireds, step_mireds, to_mireds};
 
 // What a command does that may execute and is in no Stop mode.
 fn execute(lamp: Lamp, command: Command, clock: u64) -> Outcome
-    ensures { result ≡ acceptedOutcome (commandEffect (atClock lamp clock) command) }
+    ensures { result ≡ accepted_outcome (command_effect (at_clock lamp clock) command) }
 {
     match command {
         Command::MoveToHue {
@@ -96,7 +96,7 @@ fn execute(lamp: Lamp, command: Command, clock: u64) -> Outcome
 
 // A command's checks in their order: 8 and 4, Stop mode, its own numbers, off.
 fn outcome(lamp: Lamp, request: Request, on_off: OnOff, clock: u64) -> Outcome
-    ensures { result ≡ outcomeOf lamp request on_off clock }
+    ensures { result ≡ outcome_of lamp request on_off clock }
 {
     let cause = lamp.first_cause(clock);
     if cause != ACCEPTED {
@@ -126,7 +126,7 @@ fn clock_after(number: u8, before: u64, clock: u64) -> u64
 
 // Any command, with its options, the on/off input and the clock.
 pub fn invoke(lamp: Lamp, request: Request, on_off: OnOff, clock: u64) -> Answer
-    ensures { result ≡ commandAnswer lamp request on_off clock }
+    ensures { result ≡ command_answer lamp request on_off clock }
 {
     let o = outcome(lamp, request, on_off, clock);
     let color = o.color;
@@ -156,7 +156,7 @@ pub(crate) fn with_options(
     on_off: OnOff,
     clock: u64,
 ) -> Answer
-    ensures { result ≡ commandAnswer lamp (request command (options mask overrides)) on_off clock }
+    ensures { result ≡ command_answer lamp (request command (options mask overrides)) on_off clock }
 {
     let options = CommandOptions { mask, overrides };
     invoke(lamp, Request { options, command }, on_off, clock)
@@ -170,7 +170,7 @@ pub fn cmd_stop_move_step(
     on_off: OnOff,
     clock: u64,
 ) -> Answer
-    ensures { result ≡ commandAnswer lamp (request Command.StopMoveStep (options options_mask options_override)) on_off clock }
+    ensures { result ≡ command_answer lamp (request Command.StopMoveStep (options options_mask options_override)) on_off clock }
 {
     let command = Command::StopMoveStep;
     with_options(lamp, command, options_mask, options_override, on_off, clock)

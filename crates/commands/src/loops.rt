@@ -1,12 +1,12 @@
 // The colour loop's command.
 // Carried over from project-chip/rs-matter, commit 43f61585a4 (Apache-2.0, see NOTICE), and changed.
 ghost use Rattle.std.specs.Prelude.{◌≡◌, cond, []};
-ghost use Rattle.notices.specs.Numerals.{inFront};
-ghost use Rattle.lamp.specs.Answers.{atClock};
-ghost use Rattle.commands.specs.Commands.{skip, updated, updatedReported, deactivated, activated, acted, loopSet};
+ghost use Rattle.notices.specs.Numerals.{in_front};
+ghost use Rattle.lamp.specs.Answers.{at_clock};
+ghost use Rattle.commands.specs.Commands.{skip, updated, updated_reported, deactivated, activated, acted, loop_set};
 ghost use Rattle.matter.specs.Requests.{request, options};
-ghost use Rattle.commands.specs.Answers.{commandAnswer};
-ghost use Rattle.commands.specs.Outcomes.{acceptedOutcome};
+ghost use Rattle.commands.specs.Answers.{command_answer};
+ghost use Rattle.commands.specs.Outcomes.{accepted_outcome};
 
 use crate::outcomes::{Outcome, skipped};
 use crate::with_options;
@@ -56,7 +56,7 @@ fn updated_settings(
 
 // The update's notices in front of a list.
 fn cons_updated(list: Numeral, flags: u8) -> Numeral
-    ensures { result ≡ inFront (updatedReported flags) list }
+    ensures { result ≡ in_front (updated_reported flags) list }
 {
     let bits = flags as u32;
     list.cons(notices::MARKED_DIRTY)
@@ -73,7 +73,7 @@ fn cons_updated(list: Numeral, flags: u8) -> Numeral
 
 // Off: where the loop is active, the stored hue comes back and the Stop task is given.
 fn deactivate(lamp: Lamp) -> Outcome
-    ensures { result ≡ acceptedOutcome (deactivated lamp []) }
+    ensures { result ≡ accepted_outcome (deactivated lamp []) }
 {
     if !lamp.looping.active {
         return skipped(lamp);
@@ -101,7 +101,7 @@ fn deactivate(lamp: Lamp) -> Outcome
 
 // On: the hue is stored, unless the loop is active already, the first hue is set, and the loop's task is given.
 fn activate(lamp: Lamp, seed: u16) -> Outcome
-    ensures { result ≡ acceptedOutcome (activated lamp [] seed) }
+    ensures { result ≡ accepted_outcome (activated lamp [] seed) }
 {
     let old = lamp.looping;
     let active = old.active;
@@ -135,7 +135,7 @@ fn activate(lamp: Lamp, seed: u16) -> Outcome
 
 // The action, where the update has one.
 fn act(lamp: Lamp, acts: bool, action: ColorLoopActionEnum) -> Outcome
-    ensures { result ≡ acceptedOutcome (cond acts (acted lamp [] action) (skip lamp)) }
+    ensures { result ≡ accepted_outcome (cond acts (acted lamp [] action) (skip lamp)) }
 {
     if !acts {
         return skipped(lamp);
@@ -159,7 +159,7 @@ pub(crate) fn set_loop(
     time: u16,
     start_hue: u16,
 ) -> Outcome
-    ensures { result ≡ acceptedOutcome (loopSet (atClock lamp clock) flags action direction time start_hue) }
+    ensures { result ≡ accepted_outcome (loop_set (at_clock lamp clock) flags action direction time start_hue) }
 {
     let old = lamp.looping;
     let updated = updated_settings(old, flags, direction, time, start_hue);
@@ -189,7 +189,7 @@ pub fn cmd_color_loop_set(
     on_off: OnOff,
     clock: u64,
 ) -> Answer
-    ensures { result ≡ commandAnswer lamp (request (Command.ColorLoopSet update_flags action direction time start_hue) (options options_mask options_override)) on_off clock }
+    ensures { result ≡ command_answer lamp (request (Command.ColorLoopSet update_flags action direction time start_hue) (options options_mask options_override)) on_off clock }
 {
     let command = Command::ColorLoopSet {
         flags: update_flags,

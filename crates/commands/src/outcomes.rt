@@ -1,9 +1,9 @@
 // What a command comes to, before the answer is built from it.
 ghost use Rattle.std.specs.Prelude.{◌≡◌};
-ghost use Rattle.notices.specs.Names.{hueTie};
+ghost use Rattle.notices.specs.Names.{hue_tie};
 ghost use Rattle.notices.specs.Notices.{only};
-ghost use Rattle.commands.specs.Commands.{skip, giving, givingWith};
-ghost use Rattle.commands.specs.Outcomes.{acceptedOutcome, refusedOutcome};
+ghost use Rattle.commands.specs.Commands.{skip, giving, giving_with};
+ghost use Rattle.commands.specs.Outcomes.{accepted_outcome, refused_outcome};
 
 use color::Color;
 use lamp::{Lamp, LoopSettings};
@@ -12,7 +12,7 @@ use notices::{HUE_TIE, Numeral, TASK_GIVEN};
 use tasks::{GivenTask, Task};
 
 // 0 or the cause of a refusal, all of the lamp that a command can change but its clock, what it reports, and its task.
-#[derive(Drop)]
+#[derive(Clone, Copy)]
 pub struct Outcome {
     pub number: u8,
     pub color: Color,
@@ -23,7 +23,7 @@ pub struct Outcome {
 
 // A task given, and its tie reported where there is one.
 pub(crate) fn given_with(lamp: Lamp, task: Task, is_tie: bool) -> Outcome
-    ensures { result ≡ acceptedOutcome (givingWith lamp task (only is_tie hueTie)) }
+    ensures { result ≡ accepted_outcome (giving_with lamp task (only is_tie hue_tie)) }
 {
     let color = lamp.color;
     let looping = lamp.looping;
@@ -38,14 +38,14 @@ pub(crate) fn given_with(lamp: Lamp, task: Task, is_tie: bool) -> Outcome
 
 // A task given.
 pub(crate) fn given(lamp: Lamp, task: Task) -> Outcome
-    ensures { result ≡ acceptedOutcome (giving lamp task) }
+    ensures { result ≡ accepted_outcome (giving lamp task) }
 {
     given_with(lamp, task, false)
 }
 
 // Nothing done.
 fn nothing(lamp: Lamp, number: u8) -> Outcome
-    ensures { result ≡ refusedOutcome lamp number }
+    ensures { result ≡ refused_outcome lamp number }
 {
     let color = lamp.color;
     let looping = lamp.looping;
@@ -60,14 +60,14 @@ fn nothing(lamp: Lamp, number: u8) -> Outcome
 
 // A refusal, for this cause.
 pub(crate) fn refused(lamp: Lamp, cause: u8) -> Outcome
-    ensures { result ≡ refusedOutcome lamp cause }
+    ensures { result ≡ refused_outcome lamp cause }
 {
     nothing(lamp, cause)
 }
 
 // A command that may not execute: document 01's pass-over.
 pub(crate) fn skipped(lamp: Lamp) -> Outcome
-    ensures { result ≡ acceptedOutcome (skip lamp) }
+    ensures { result ≡ accepted_outcome (skip lamp) }
 {
     nothing(lamp, ACCEPTED)
 }

@@ -2,10 +2,10 @@
 // Carried over from project-chip/rs-matter, commit 43f61585a4 (Apache-2.0, see NOTICE), and changed.
 ghost use Rattle.std.specs.Prelude.{◌≡◌};
 ghost use Rattle.matter.specs.Requests.{request, options};
-ghost use Rattle.commands.specs.Answers.{commandAnswer};
+ghost use Rattle.commands.specs.Answers.{command_answer};
 ghost use Rattle.tasks.specs.declared.Task.{Task};
-ghost use Rattle.commands.specs.Commands.{giving, saturationTask, saturationStep};
-ghost use Rattle.commands.specs.Outcomes.{acceptedOutcome};
+ghost use Rattle.commands.specs.Commands.{giving, saturation_task, saturation_step};
+ghost use Rattle.commands.specs.Outcomes.{accepted_outcome};
 
 use crate::outcomes::{Outcome, given};
 use crate::with_options;
@@ -14,7 +14,7 @@ use matter::{Command, MoveModeEnum, OnOff, StepModeEnum};
 use tasks::{HueDelta, HueSaturationMoveTo, SaturationMove, TargetSaturation, Task};
 
 fn saturation_step(mode: StepModeEnum, now: u8, size: u8) -> u8
-    ensures { result ≡ saturationStep mode now size }
+    ensures { result ≡ saturation_step mode now size }
 {
     match mode {
         StepModeEnum::Up => {
@@ -27,7 +27,7 @@ fn saturation_step(mode: StepModeEnum, now: u8, size: u8) -> u8
 
 // A move to a saturation; the time is in tenths.
 pub(crate) fn to_saturation(lamp: Lamp, saturation: u8, tenths: u16) -> Outcome
-    ensures { result ≡ acceptedOutcome (giving lamp (saturationTask saturation tenths)) }
+    ensures { result ≡ accepted_outcome (giving lamp (saturation_task saturation tenths)) }
 {
     let task = HueSaturationMoveTo {
         delta: HueDelta::Keep,
@@ -39,7 +39,7 @@ pub(crate) fn to_saturation(lamp: Lamp, saturation: u8, tenths: u16) -> Outcome
 }
 
 pub(crate) fn step_saturation(lamp: Lamp, mode: StepModeEnum, size: u8, tenths: u16) -> Outcome
-    ensures { result ≡ acceptedOutcome (giving lamp (saturationTask (saturationStep mode lamp.color.saturation size) tenths)) }
+    ensures { result ≡ accepted_outcome (giving lamp (saturation_task (saturation_step mode lamp.color.saturation size) tenths)) }
 {
     to_saturation(
         lamp,
@@ -49,7 +49,7 @@ pub(crate) fn step_saturation(lamp: Lamp, mode: StepModeEnum, size: u8, tenths: 
 }
 
 pub(crate) fn move_saturation(lamp: Lamp, mode: MoveModeEnum, rate: u8) -> Outcome
-    ensures { result ≡ acceptedOutcome (giving lamp (Task.SaturationMove (record { direction = mode; rate = rate }))) }
+    ensures { result ≡ accepted_outcome (giving lamp (Task.SaturationMove (record { direction = mode; rate = rate }))) }
 {
     let task = SaturationMove {
         direction: mode,
@@ -68,7 +68,7 @@ pub fn cmd_move_to_saturation(
     on_off: OnOff,
     clock: u64,
 ) -> Answer
-    ensures { result ≡ commandAnswer lamp (request (Command.MoveToSaturation saturation transition_time_ds) (options options_mask options_override)) on_off clock }
+    ensures { result ≡ command_answer lamp (request (Command.MoveToSaturation saturation transition_time_ds) (options options_mask options_override)) on_off clock }
 {
     let command = Command::MoveToSaturation {
         saturation,
@@ -87,7 +87,7 @@ pub fn cmd_move_saturation(
     on_off: OnOff,
     clock: u64,
 ) -> Answer
-    ensures { result ≡ commandAnswer lamp (request (Command.MoveSaturation move_mode rate) (options options_mask options_override)) on_off clock }
+    ensures { result ≡ command_answer lamp (request (Command.MoveSaturation move_mode rate) (options options_mask options_override)) on_off clock }
 {
     let command = Command::MoveSaturation {
         mode: move_mode,
@@ -107,7 +107,7 @@ pub fn cmd_step_saturation(
     on_off: OnOff,
     clock: u64,
 ) -> Answer
-    ensures { result ≡ commandAnswer lamp (request (Command.StepSaturation step_mode step_size transition_time_ds) (options options_mask options_override)) on_off clock }
+    ensures { result ≡ command_answer lamp (request (Command.StepSaturation step_mode step_size transition_time_ds) (options options_mask options_override)) on_off clock }
 {
     let command = Command::StepSaturation {
         mode: step_mode,

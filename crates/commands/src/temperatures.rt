@@ -2,12 +2,12 @@
 // Carried over from project-chip/rs-matter, commit 43f61585a4 (Apache-2.0, see NOTICE), and changed.
 ghost use Rattle.std.specs.Prelude.{◌≡◌, pos, ◌+ℤ◌};
 ghost use Rattle.matter.specs.Requests.{request, options};
-ghost use Rattle.commands.specs.Answers.{commandAnswer};
+ghost use Rattle.commands.specs.Answers.{command_answer};
 ghost use Rattle.matter.specs.Rules.{signed};
 ghost use Rattle.progress.specs.Progress.{clamp};
 ghost use Rattle.tasks.specs.declared.Task.{Task};
-ghost use Rattle.commands.specs.Commands.{giving, asked, lo, hi, stepLimits, temperatureTask, miredsStep};
-ghost use Rattle.commands.specs.Outcomes.{acceptedOutcome};
+ghost use Rattle.commands.specs.Commands.{giving, asked, lo, hi, step_limits, temperature_task, mireds_step};
+ghost use Rattle.commands.specs.Outcomes.{accepted_outcome};
 
 use crate::hues::step_delta;
 use crate::outcomes::{Outcome, given};
@@ -39,7 +39,7 @@ fn high_limit(bounds: Bounds, max: u16) -> u16
 
 // Between which mireds a step goes: limits that cross count as 0, both of them.
 fn step_limits(bounds: Bounds, min: u16, max: u16) -> Bounds
-    ensures { result ≡ stepLimits bounds min max }
+    ensures { result ≡ step_limits bounds min max }
 {
     let low = low_limit(bounds, min);
     let high = high_limit(bounds, max);
@@ -57,7 +57,7 @@ fn step_limits(bounds: Bounds, min: u16, max: u16) -> Bounds
 
 // A move by so many mireds between two limits; the time is in tenths.
 fn between(lamp: Lamp, low: u16, high: u16, from: u16, delta: i64, tenths: u16) -> Outcome
-    ensures { result ≡ acceptedOutcome (giving lamp (temperatureTask (clamp low high (pos from +ℤ delta)) tenths)) }
+    ensures { result ≡ accepted_outcome (giving lamp (temperature_task (clamp low high (pos from +ℤ delta)) tenths)) }
 {
     let task = ColorTemperatureMoveTo {
         target: clamped_sum(low, high, from, delta),
@@ -67,7 +67,7 @@ fn between(lamp: Lamp, low: u16, high: u16, from: u16, delta: i64, tenths: u16) 
 }
 
 pub(crate) fn to_mireds(lamp: Lamp, mireds: u16, tenths: u16) -> Outcome
-    ensures { result ≡ acceptedOutcome (giving lamp (temperatureTask (clamp lamp.bounds.min lamp.bounds.max (pos mireds)) tenths)) }
+    ensures { result ≡ accepted_outcome (giving lamp (temperature_task (clamp lamp.bounds.min lamp.bounds.max (pos mireds)) tenths)) }
 {
     between(lamp, lamp.bounds.min, lamp.bounds.max, mireds, 0, tenths)
 }
@@ -80,7 +80,7 @@ pub(crate) fn step_mireds(
     min: u16,
     max: u16,
 ) -> Outcome
-    ensures { result ≡ acceptedOutcome (giving lamp (temperatureTask (miredsStep lamp mode size min max) tenths)) }
+    ensures { result ≡ accepted_outcome (giving lamp (temperature_task (mireds_step lamp mode size min max) tenths)) }
 {
     let bounds = lamp.bounds;
     let limits = step_limits(bounds, min, max);
@@ -95,7 +95,7 @@ pub(crate) fn step_mireds(
 }
 
 pub(crate) fn move_mireds(lamp: Lamp, mode: MoveModeEnum, rate: u16, min: u16, max: u16) -> Outcome
-    ensures { result ≡ acceptedOutcome (giving lamp (Task.ColorTemperatureMove (record { rate = signed mode rate; min = asked lamp.bounds.min min; max = asked lamp.bounds.max max }))) }
+    ensures { result ≡ accepted_outcome (giving lamp (Task.ColorTemperatureMove (record { rate = signed mode rate; min = asked lamp.bounds.min min; max = asked lamp.bounds.max max }))) }
 {
     let task = ColorTemperatureMove {
         rate: mode.signed(rate as u32),
@@ -115,7 +115,7 @@ pub fn cmd_move_to_color_temperature(
     on_off: OnOff,
     clock: u64,
 ) -> Answer
-    ensures { result ≡ commandAnswer lamp (request (Command.MoveToColorTemperature mireds transition_time_ds) (options options_mask options_override)) on_off clock }
+    ensures { result ≡ command_answer lamp (request (Command.MoveToColorTemperature mireds transition_time_ds) (options options_mask options_override)) on_off clock }
 {
     let command = Command::MoveToColorTemperature {
         mireds,
@@ -136,7 +136,7 @@ pub fn cmd_move_color_temperature(
     on_off: OnOff,
     clock: u64,
 ) -> Answer
-    ensures { result ≡ commandAnswer lamp (request (Command.MoveColorTemperature move_mode rate color_temperature_minimum_mireds color_temperature_maximum_mireds) (options options_mask options_override)) on_off clock }
+    ensures { result ≡ command_answer lamp (request (Command.MoveColorTemperature move_mode rate color_temperature_minimum_mireds color_temperature_maximum_mireds) (options options_mask options_override)) on_off clock }
 {
     let command = Command::MoveColorTemperature {
         mode: move_mode,
@@ -160,7 +160,7 @@ pub fn cmd_step_color_temperature(
     on_off: OnOff,
     clock: u64,
 ) -> Answer
-    ensures { result ≡ commandAnswer lamp (request (Command.StepColorTemperature step_mode step_size transition_time_ds color_temperature_minimum_mireds color_temperature_maximum_mireds) (options options_mask options_override)) on_off clock }
+    ensures { result ≡ command_answer lamp (request (Command.StepColorTemperature step_mode step_size transition_time_ds color_temperature_minimum_mireds color_temperature_maximum_mireds) (options options_mask options_override)) on_off clock }
 {
     let command = Command::StepColorTemperature {
         mode: step_mode,

@@ -7,9 +7,9 @@ use lib.Dec.{leb}
 use lib.IntN.{ℤ, pos, negsuc, nat_abs, ◌-ℤ◌}
 use Rattle.matter.specs.declared.enums.StepModeEnum.{StepModeEnum}
 use Rattle.matter.proofs.Laws.{cond_both}
-use Rattle.hue.specs.Hue.{movedHue}
+use Rattle.hue.specs.Hue.{moved_hue}
 use Rattle.progress.proofs.Laws.{permille-most, part-within}
-use Rattle.progress.specs.Progress.{permilleOf, part_of}
+use Rattle.progress.specs.Progress.{permille_of, part_of}
 use Rattle.color.specs.declared.Color.{Color}
 use Rattle.tasks.specs.declared.ColorTemperatureMoveTo.{ColorTemperatureMoveTo}
 use Rattle.tasks.specs.declared.HueDelta.{HueDelta}
@@ -20,8 +20,8 @@ use Rattle.lamp.specs.declared.Lamp.{Lamp}
 use Rattle.conformance.specs.Started.{Ran, Lasts}
 use Rattle.conformance.specs.Receipt.{Reaches, Goes-by, sense, Each, MiredsAlone}
 use Rattle.conformance.proofs.ShownAgrees.{HueShows, SaturationShows, ShowsMoveTo, ShowsMiredsTo, clamped, move-to-shows, clamped-shows}
-use Rattle.conformance.specs.Steps.{enhancedHueMaximum, hueStepTo}
-use Rattle.conformance.specs.Transition.{onLine}
+use Rattle.conformance.specs.Steps.{enhanced_hue_maximum, hue_step_to}
+use Rattle.conformance.specs.Transition.{on_line}
 use Rattle.conformance.proofs.TransitionAgrees.{gone, gone-first, transition-end, circle-agrees, way-ends, line-agrees, line-arrives}
 
 -- what becomes of the hue, of the saturation, and of all three
@@ -41,12 +41,12 @@ GoesMoveTo task elapsed from now =
 
 module _ (time elapsed from now : ℕ) where
   -- a number on its line
-  line-reaches : (to : ℕ) → now ≡ onLine from to (gone (pos to -ℤ pos from) elapsed time) →
+  line-reaches : (to : ℕ) → now ≡ on_line from to (gone (pos to -ℤ pos from) elapsed time) →
       Reaches from to time elapsed now
   line-reaches to e =
       record {
         begins =
-            λ z w. e ∙ ap (onLine from to) (ap (λ (n : ℕ). gone (pos to -ℤ pos from) n time) z
+            λ z w. e ∙ ap (on_line from to) (ap (λ (n : ℕ). gone (pos to -ℤ pos from) n time) z
             ∙ gone-first (pos to -ℤ pos from) time w)
             ∙ cond_both (λ (n : ℕ). n ≡ from) (leb from to) (from + 0) (from - 0) (λ t. omega arith) (λ t. omega arith);
         ends =
@@ -61,8 +61,8 @@ module _ (time elapsed from now : ℕ) where
 
   -- a hue on its circle
   on-way : (way : ℤ) → from < 65536 →
-      movedHue from (part_of way (permilleOf elapsed time))
-      ≡ hueStepTo (sense way) enhancedHueMaximum (gone way elapsed time) from
+      moved_hue from (part_of way (permille_of elapsed time))
+      ≡ hue_step_to (sense way) enhanced_hue_maximum (gone way elapsed time) from
   on-way (pos n) h = circle-agrees StepModeEnum.Up n elapsed time from h
   on-way (negsuc n) h = circle-agrees StepModeEnum.Down (suc n) elapsed time from h
 
@@ -72,7 +72,7 @@ module _ (time elapsed from now : ℕ) where
       record {
         units = gone way elapsed time;
         on = e ∙ on-way way h;
-        within = part-within way (permilleOf elapsed time) (permille-most elapsed time);
+        within = part-within way (permille_of elapsed time) (permille-most elapsed time);
         reaches =
             record {
               begins = λ z w. ap (λ (n : ℕ). gone way n time) z ∙ gone-first way time w;

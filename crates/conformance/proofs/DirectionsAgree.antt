@@ -9,9 +9,9 @@ use lib.IntN.{ℤ, pos, negsuc, neg_ℤ, nat_abs}
 use borrow.Author.Tests.{leb-true, leb-false, ltb-true, ltb-false, le-leb, lt-leb, le-ltb}
 use Rattle.integers.proofs.Sizes.{abs_neg}
 use Rattle.matter.specs.declared.enums.DirectionEnum.{DirectionEnum}
-use Rattle.hue.specs.Hue.{distance, pathDelta}
+use Rattle.hue.specs.Hue.{distance, path_delta}
 use Rattle.hue.proofs.Laws.{distance_is, distance-small, way-small}
-use Rattle.conformance.specs.Directions.{enhancedCircle, plainCircle, Leads, GoesUp, GoesDown, Either, GoesShortest, GoesLongest, Goes, TieGoesUp}
+use Rattle.conformance.specs.Directions.{enhanced_circle, plain_circle, Leads, GoesUp, GoesDown, Either, GoesShortest, GoesLongest, Goes, TieGoesUp}
 
 -- a sum on the circle is the sum, or a circle less
 wrapped : (a n b : ℕ) → a < 65536 → n < 65536 → (a + n) % 65536 ≡ b → (a + n ≡ b) ⊎ (a + n ≡ b + 65536)
@@ -22,7 +22,7 @@ wrapped a n b h k e = by (leb 65536 (a + n)) refl
     by false t = inl (let l : a + n < 65536 = leb-false 65536 (a + n) t in omega arith)
 
 module _ (from to : ℕ) (hf : from < 65536) (ht : to < 65536) where
-  abbrev up-goes : GoesUp enhancedCircle from to (pos (distance from to))
+  abbrev up-goes : GoesUp enhanced_circle from to (pos (distance from to))
   up-goes =
       record {
         size = distance from to;
@@ -31,7 +31,7 @@ module _ (from to : ℕ) (hf : from < 65536) (ht : to < 65536) where
         first = λ n e. omega (arith, distance_is from to hf);
       }
 
-  abbrev down-goes : GoesDown enhancedCircle from to (neg_ℤ (pos (distance to from)))
+  abbrev down-goes : GoesDown enhanced_circle from to (neg_ℤ (pos (distance to from)))
   down-goes =
       record {
         size = distance to from;
@@ -41,15 +41,15 @@ module _ (from to : ℕ) (hf : from < 65536) (ht : to < 65536) where
       }
 
   -- no way that leads there is shorter than the way up and the way down both
-  no-shorter : (other : ℤ) → Leads enhancedCircle from to other → (distance from to ≤ nat_abs other) ⊎ (distance to from ≤ nat_abs other)
+  no-shorter : (other : ℤ) → Leads enhanced_circle from to other → (distance from to ≤ nat_abs other) ⊎ (distance to from ≤ nat_abs other)
   no-shorter (pos n) e = inl (up-goes.first n e)
   no-shorter (negsuc n) e = inr (down-goes.first (suc n) e)
 
-  leads-down : (k : ℕ) → (to + k) % 65536 ≡ from → Leads enhancedCircle from to (neg_ℤ (pos k))
+  leads-down : (k : ℕ) → (to + k) % 65536 ≡ from → Leads enhanced_circle from to (neg_ℤ (pos k))
   leads-down zero e = omega arith
   leads-down (suc k) e = e
 
-  shortest-by : (t : Bool) → leb (distance from to) (distance to from) ≡ t → GoesShortest enhancedCircle from to (cond t (pos (distance from to)) (neg_ℤ (pos (distance to from))))
+  shortest-by : (t : Bool) → leb (distance from to) (distance to from) ≡ t → GoesShortest enhanced_circle from to (cond t (pos (distance from to)) (neg_ℤ (pos (distance to from))))
   shortest-by true e =
       record {
         leads = up-goes.there;
@@ -62,11 +62,11 @@ module _ (from to : ℕ) (hf : from < 65536) (ht : to < 65536) where
       }
 
   -- of the two, none is longer than the longer of the two distances
-  no_longer : (other : ℤ) → Either enhancedCircle from to other → (nat_abs other ≤ distance from to) ⊎ (nat_abs other ≤ distance to from)
+  no_longer : (other : ℤ) → Either enhanced_circle from to other → (nat_abs other ≤ distance from to) ⊎ (nat_abs other ≤ distance to from)
   no_longer other (inl g) = inl (rw g.up (g.first (distance from to) up-goes.there))
   no_longer other (inr g) = inr (rw (g.down, abs_neg) (g.first (distance to from) down-goes.there))
 
-  longest-by : (t : Bool) → ltb (distance to from) (distance from to) ≡ t → GoesLongest enhancedCircle from to (cond t (pos (distance from to)) (neg_ℤ (pos (distance to from))))
+  longest-by : (t : Bool) → ltb (distance to from) (distance from to) ≡ t → GoesLongest enhanced_circle from to (cond t (pos (distance from to)) (neg_ℤ (pos (distance to from))))
   longest-by true e =
       record {
         direct = inl up-goes;
@@ -79,8 +79,8 @@ module _ (from to : ℕ) (hf : from < 65536) (ht : to < 65536) where
       }
 
   -- the port's way is the one that the Direction field asks for
-  pub directions-agree : (d : DirectionEnum) → Goes enhancedCircle d from to (pathDelta from to d)
-  unfolding pathDelta
+  pub directions-agree : (d : DirectionEnum) → Goes enhanced_circle d from to (path_delta from to d)
+  unfolding path_delta
   directions-agree DirectionEnum.Shortest = shortest-by (leb (distance from to) (distance to from)) refl
   directions-agree DirectionEnum.Longest = longest-by (ltb (distance to from) (distance from to)) refl
   directions-agree DirectionEnum.Up = up-goes
@@ -97,58 +97,58 @@ module _ (from to : ℕ) (hf : from < 65536) (ht : to < 65536) where
       (wrapped from n to hf s e)
 
   -- two ways of one size that lead there are one, or half a circle
-  one-or-half : (w v : ℤ) → Leads enhancedCircle from to w → Leads enhancedCircle from to v → nat_abs w ≡ nat_abs v → nat_abs w < 65536 → (w ≡ v) ⊎ (nat_abs w ≡ 32768)
+  one-or-half : (w v : ℤ) → Leads enhanced_circle from to w → Leads enhanced_circle from to v → nat_abs w ≡ nat_abs v → nat_abs w < 65536 → (w ≡ v) ⊎ (nat_abs w ≡ 32768)
   one-or-half (pos n) (pos m) e f h s = inl (ap pos h)
   one-or-half (pos n) (negsuc m) e f h s = inr (half n s (omega arith) e (rw (← h) at f))
   one-or-half (negsuc n) (pos m) e f h s = inr (half (suc n) s (omega arith) (rw (← h) at f) e)
   one-or-half (negsuc n) (negsuc m) e f h s = inl (ap negsuc (omega arith))
 
-  either-leads : (w : ℤ) → Either enhancedCircle from to w → Leads enhancedCircle from to w
+  either-leads : (w : ℤ) → Either enhanced_circle from to w → Leads enhanced_circle from to w
   either-leads w (inl g) = rw g.up g.there
   either-leads w (inr g) = rw g.down (leads-down g.size g.there)
 
   -- a way that the Direction field asks for is the port's, or half a circle
-  pub directions-only : (d : DirectionEnum) (w : ℤ) → Goes enhancedCircle d from to w → (w ≡ pathDelta from to d) ⊎ (nat_abs w ≡ 32768)
+  pub directions-only : (d : DirectionEnum) (w : ℤ) → Goes enhanced_circle d from to w → (w ≡ path_delta from to d) ⊎ (nat_abs w ≡ 32768)
   directions-only DirectionEnum.Shortest w g =
-      let p : GoesShortest enhancedCircle from to (pathDelta from to DirectionEnum.Shortest) = directions-agree DirectionEnum.Shortest in
-      let s : nat_abs w ≤ nat_abs (pathDelta from to DirectionEnum.Shortest) = g.least (pathDelta from to DirectionEnum.Shortest) p.leads in
-      one-or-half w (pathDelta from to DirectionEnum.Shortest) g.leads p.leads
+      let p : GoesShortest enhanced_circle from to (path_delta from to DirectionEnum.Shortest) = directions-agree DirectionEnum.Shortest in
+      let s : nat_abs w ≤ nat_abs (path_delta from to DirectionEnum.Shortest) = g.least (path_delta from to DirectionEnum.Shortest) p.leads in
+      one-or-half w (path_delta from to DirectionEnum.Shortest) g.leads p.leads
       (omega (arith, p.least w g.leads))
       (omega (arith, way-small from to DirectionEnum.Shortest))
   directions-only DirectionEnum.Longest w g =
-      let p : GoesLongest enhancedCircle from to (pathDelta from to DirectionEnum.Longest) = directions-agree DirectionEnum.Longest in
-      let s : nat_abs w ≤ nat_abs (pathDelta from to DirectionEnum.Longest) = p.most w g.direct in
-      one-or-half w (pathDelta from to DirectionEnum.Longest) (either-leads w g.direct) (either-leads (pathDelta from to DirectionEnum.Longest) p.direct)
-      (omega (arith, g.most (pathDelta from to DirectionEnum.Longest) p.direct))
+      let p : GoesLongest enhanced_circle from to (path_delta from to DirectionEnum.Longest) = directions-agree DirectionEnum.Longest in
+      let s : nat_abs w ≤ nat_abs (path_delta from to DirectionEnum.Longest) = p.most w g.direct in
+      one-or-half w (path_delta from to DirectionEnum.Longest) (either-leads w g.direct) (either-leads (path_delta from to DirectionEnum.Longest) p.direct)
+      (omega (arith, g.most (path_delta from to DirectionEnum.Longest) p.direct))
       (omega (arith, way-small from to DirectionEnum.Longest))
   directions-only DirectionEnum.Up w g =
-      let p : GoesUp enhancedCircle from to (pathDelta from to DirectionEnum.Up) = directions-agree DirectionEnum.Up in
+      let p : GoesUp enhanced_circle from to (path_delta from to DirectionEnum.Up) = directions-agree DirectionEnum.Up in
       let e : g.size ≡ p.size = omega (arith, g.first p.size p.there, p.first g.size g.there) in
       inl (g.up ∙ ap pos e ∙ sym p.up)
   directions-only DirectionEnum.Down w g =
-      let p : GoesDown enhancedCircle from to (pathDelta from to DirectionEnum.Down) = directions-agree DirectionEnum.Down in
+      let p : GoesDown enhanced_circle from to (path_delta from to DirectionEnum.Down) = directions-agree DirectionEnum.Down in
       let e : g.size ≡ p.size = omega (arith, g.first p.size p.there, p.first g.size g.there) in
       inl (g.down ∙ ap (λ (n : ℕ). neg_ℤ (pos n)) e ∙ sym p.down)
 
   -- ---- the tie
 
   -- a size that is both the way up's and the way down's
-  tied : (n : ℕ) → GoesUp enhancedCircle from to (pos n) → GoesDown enhancedCircle from to (neg_ℤ (pos n)) → (distance from to ≡ n) × (distance to from ≡ n)
+  tied : (n : ℕ) → GoesUp enhanced_circle from to (pos n) → GoesDown enhanced_circle from to (neg_ℤ (pos n)) → (distance from to ≡ n) × (distance to from ≡ n)
   tied n u d =
       let a : n ≡ u.size = ap nat_abs u.up in
       let b : n ≡ d.size = sym (abs_neg (pos n)) ∙ ap nat_abs d.down ∙ abs_neg (pos d.size) in
       (omega (arith, u.first (distance from to) up-goes.there, up-goes.first u.size u.there), omega (arith, d.first (distance to from) down-goes.there, down-goes.first d.size d.there))
 
   -- Shortest takes the tie upward, as the text does
-  pub shortest-tie : TieGoesUp enhancedCircle from to (pathDelta from to DirectionEnum.Shortest)
-  unfolding pathDelta
+  pub shortest-tie : TieGoesUp enhanced_circle from to (path_delta from to DirectionEnum.Shortest)
+  unfolding path_delta
   shortest-tie n u d =
       let e : (distance from to ≡ n) × (distance to from ≡ n) = tied n u d in
       rw (le-leb (distance from to) (distance to from) (omega arith)) (ap pos e.0)
 
   -- Longest takes it downward: the text's sentence holds of it exactly where the way is not half a circle
-  pub longest-tie : distance from to ≡ 32768 → pathDelta from to DirectionEnum.Longest ≡ neg_ℤ (pos 32768)
-  unfolding pathDelta
+  pub longest-tie : distance from to ≡ 32768 → path_delta from to DirectionEnum.Longest ≡ neg_ℤ (pos 32768)
+  unfolding path_delta
   longest-tie e =
       let back : distance to from ≡ 32768 = omega (arith, distance_is from to hf, distance_is to from ht) in
       rw (le-ltb (distance to from) (distance from to) (omega arith), back)
@@ -158,8 +158,8 @@ module _ (from to : ℕ) (hf : from < 65536) (ht : to < 65536) where
   nothing-or-half (suc n) e f =
       inr (half (suc n) (omega (arith, distance-small from to)) (omega arith) (rw e at up-goes.there) (rw f at down-goes.there))
 
-  pub longest-elsewhere : (distance from to ≡ 32768 → ⊥) → TieGoesUp enhancedCircle from to (pathDelta from to DirectionEnum.Longest)
-  unfolding pathDelta
+  pub longest-elsewhere : (distance from to ≡ 32768 → ⊥) → TieGoesUp enhanced_circle from to (path_delta from to DirectionEnum.Longest)
+  unfolding path_delta
   longest-elsewhere h n u d =
       let e : (distance from to ≡ n) × (distance to from ≡ n) = tied n u d in
       ⊎_elim
@@ -167,25 +167,25 @@ module _ (from to : ℕ) (hf : from < 65536) (ht : to < 65536) where
       (λ z. absurd (h (e.0 ∙ z)))
       (nothing-or-half n e.0 e.1)
 
-  pub longest-off : distance from to ≡ 32768 → TieGoesUp enhancedCircle from to (pathDelta from to DirectionEnum.Longest) → ⊥
+  pub longest-off : distance from to ≡ 32768 → TieGoesUp enhanced_circle from to (path_delta from to DirectionEnum.Longest) → ⊥
   longest-off e h =
       let back : distance to from ≡ 32768 = omega (arith, distance_is from to hf, distance_is to from ht) in
-      let up : GoesUp enhancedCircle from to (pos 32768) = rw e at up-goes in
-      let down : GoesDown enhancedCircle from to (neg_ℤ (pos 32768)) = rw back at down-goes in
+      let up : GoesUp enhanced_circle from to (pos 32768) = rw e at up-goes in
+      let down : GoesDown enhanced_circle from to (neg_ℤ (pos 32768)) = rw back at down-goes in
       let f : neg_ℤ (pos 32768) ≡ pos 32768 = sym (longest-tie e) ∙ h 32768 up down in
       let z : ◌≡◌ {A = ℕ} 0 1 = cc in
       omega arith
 
 -- the smallest tie, which is from red to cyan: Shortest goes up, and Longest down, where the text goes up with both
-pub smallest-tie : (pathDelta 0 32768 DirectionEnum.Shortest ≡ pos 32768) × (pathDelta 0 32768 DirectionEnum.Longest ≡ neg_ℤ (pos 32768))
-unfolding pathDelta distance
+pub smallest-tie : (path_delta 0 32768 DirectionEnum.Shortest ≡ pos 32768) × (path_delta 0 32768 DirectionEnum.Longest ≡ neg_ℤ (pos 32768))
+unfolding path_delta distance
 smallest-tie = (refl, refl)
 
 -- ---- the plain circle: 254 places in the text, 256 in the port
 
 -- the place of a CurrentHue: 254 is 360 degrees, which is 0
 abbrev place : ℕ → ℕ
-place hue = hue % plainCircle
+place hue = hue % plain_circle
 
 -- a sum of a place is the place of the sum
 place-sum : (a n : ℕ) → (place a + n) % 254 ≡ (a + n) % 254
@@ -234,8 +234,8 @@ module _ (a b : ℕ) (ha : a ≤ 254) (hb : b ≤ 254) where
 
   -- where the text's shortest way is up, the port's is, unless the hues are 127 apart downward, which is a tie of the text's,
   -- or are 0 and 254, which are one in the text
-  pub plain-up : (n : ℕ) → GoesShortest plainCircle (place a) (place b) (pos n) → (a ≡ b + 127 → ⊥) → b < a + 254 → pathDelta (a * 256) (b * 256) DirectionEnum.Shortest ≡ pos (distance (a * 256) (b * 256))
-  unfolding pathDelta
+  pub plain-up : (n : ℕ) → GoesShortest plain_circle (place a) (place b) (pos n) → (a ≡ b + 127 → ⊥) → b < a + 254 → path_delta (a * 256) (b * 256) DirectionEnum.Shortest ≡ pos (distance (a * 256) (b * 256))
+  unfolding path_delta
   plain-up n g h k =
       let s : distance (a * 256) (b * 256) ≤ distance (b * 256) (a * 256) = by (leb a b) refl in
       rw (le-leb (distance (a * 256) (b * 256)) (distance (b * 256) (a * 256)) s)
@@ -254,8 +254,8 @@ module _ (a b : ℕ) (ha : a ≤ 254) (hb : b ≤ 254) where
           many-up (omega arith)
 
   -- where it is down, the port's is, unless the hues are 127 apart upward, which is a tie of the text's, or 128
-  pub plain_down : (n : ℕ) → GoesShortest plainCircle (place a) (place b) (negsuc n) → (b ≡ a + 127 → ⊥) → (b ≡ a + 128 → ⊥) → pathDelta (a * 256) (b * 256) DirectionEnum.Shortest ≡ neg_ℤ (pos (distance (b * 256) (a * 256)))
-  unfolding pathDelta
+  pub plain_down : (n : ℕ) → GoesShortest plain_circle (place a) (place b) (negsuc n) → (b ≡ a + 127 → ⊥) → (b ≡ a + 128 → ⊥) → path_delta (a * 256) (b * 256) DirectionEnum.Shortest ≡ neg_ℤ (pos (distance (b * 256) (a * 256)))
+  unfolding path_delta
   plain_down n g h k =
       let s : distance (b * 256) (a * 256) < distance (a * 256) (b * 256) = by (leb a b) refl in
       rw (lt-leb (distance (a * 256) (b * 256)) (distance (b * 256) (a * 256)) s)
@@ -276,37 +276,37 @@ module _ (a b : ℕ) (ha : a ≤ 254) (hb : b ≤ 254) where
 
 -- the smallest plain hues that differ, red to cyan: from 0 to 128 the text's shortest way is 126 places down, and the port has a tie
 -- and goes up
-least-from-0 : (other : ℤ) → Leads plainCircle 0 128 other → 126 ≤ nat_abs other
+least-from-0 : (other : ℤ) → Leads plain_circle 0 128 other → 126 ≤ nat_abs other
 least-from-0 (pos n) e = omega arith
 least-from-0 (negsuc n) e = omega arith
 
-pub plain-differs : GoesShortest plainCircle 0 128 (neg_ℤ (pos 126)) × (pathDelta (0 * 256) (128 * 256) DirectionEnum.Shortest ≡ pos 32768)
-unfolding pathDelta distance
+pub plain-differs : GoesShortest plain_circle 0 128 (neg_ℤ (pos 126)) × (path_delta (0 * 256) (128 * 256) DirectionEnum.Shortest ≡ pos 32768)
+unfolding path_delta distance
 plain-differs = (record { leads = refl; least = least-from-0 }, refl)
 
 -- and so it is for every pair that is 128 apart upward: the text's way is not up, and the port's is
-pub plain-128-differs : (a n : ℕ) → a ≤ 126 → (GoesShortest plainCircle (place a) (place (a + 128)) (pos n) → ⊥) × (pathDelta (a * 256) ((a + 128) * 256) DirectionEnum.Shortest ≡ pos 32768)
-unfolding pathDelta
+pub plain-128-differs : (a n : ℕ) → a ≤ 126 → (GoesShortest plain_circle (place a) (place (a + 128)) (pos n) → ⊥) × (path_delta (a * 256) ((a + 128) * 256) DirectionEnum.Shortest ≡ pos 32768)
+unfolding path_delta
 plain-128-differs a n h = (not-up, up)
   where
-    not-up : GoesShortest plainCircle (place a) (place (a + 128)) (pos n) → ⊥
+    not-up : GoesShortest plain_circle (place a) (place (a + 128)) (pos n) → ⊥
     not-up g =
         let e : (place (a + 128) + suc 125) % 254 ≡ place a = omega arith in
         omega (arith, g.least (negsuc 125) e, above a (a + 128) n (sym (place-sum a n) ∙ g.leads) (omega arith) (omega arith))
 
-    up : pathDelta (a * 256) ((a + 128) * 256) DirectionEnum.Shortest ≡ pos 32768
+    up : path_delta (a * 256) ((a + 128) * 256) DirectionEnum.Shortest ≡ pos 32768
     up =
         let u : distance (a * 256) ((a + 128) * 256) ≡ 32768 = omega (arith, up_is a (a + 128) (omega arith) (omega arith)) in
         let d : distance ((a + 128) * 256) (a * 256) ≡ 32768 = omega (arith, down_is a (a + 128) (omega arith) (omega arith)) in
         rw (u, d)
 
 -- below 128 no hue differs from 0
-pub plain-least : (b n : ℕ) → b < 127 → GoesShortest plainCircle 0 b (negsuc n) → ⊥
+pub plain-least : (b n : ℕ) → b < 127 → GoesShortest plain_circle 0 b (negsuc n) → ⊥
 plain-least b n h g = omega (arith, g.leads, g.least (pos b) (omega arith))
 
 -- with the tie taken upward there is a smaller one: from 127 to 0 the text's two ways are 127 places each, and the port goes down
-pub plain-tie-differs : GoesUp plainCircle 127 0 (pos 127) × GoesDown plainCircle 127 0 (neg_ℤ (pos 127)) × (pathDelta (127 * 256) (0 * 256) DirectionEnum.Shortest ≡ neg_ℤ (pos (127 * 256)))
-unfolding pathDelta distance
+pub plain-tie-differs : GoesUp plain_circle 127 0 (pos 127) × GoesDown plain_circle 127 0 (neg_ℤ (pos 127)) × (path_delta (127 * 256) (0 * 256) DirectionEnum.Shortest ≡ neg_ℤ (pos (127 * 256)))
+unfolding path_delta distance
 plain-tie-differs = (
   record { size = 127; up = refl; there = refl; first = λ n e. omega arith },
   record { size = 127; down = refl; there = refl; first = λ n e. omega arith },

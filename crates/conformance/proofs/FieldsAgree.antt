@@ -12,9 +12,9 @@ use Rattle.matter.specs.declared.commands.CommandOptions.{CommandOptions}
 use Rattle.matter.specs.declared.enums.DirectionEnum.{DirectionEnum}
 use Rattle.matter.specs.declared.enums.MoveModeEnum.{MoveModeEnum}
 use Rattle.matter.specs.declared.enums.StepModeEnum.{StepModeEnum}
-use Rattle.commands.specs.Commands.{isStop, checks}
-use Rattle.commands.specs.Answers.{afterClock}
-use Rattle.conformance.specs.Fields.{fieldsGood, invalidMove, invalid}
+use Rattle.commands.specs.Commands.{is_stop, checks}
+use Rattle.commands.specs.Answers.{after_clock}
+use Rattle.conformance.specs.Fields.{fields_good, invalid_move, invalid}
 
 -- ---- the fields that the port does not check are within the text's constraints
 
@@ -26,14 +26,14 @@ Roomy (Command.StepHue mode size time) = (size ≤ 255) × (time ≤ 255)
 Roomy (Command.MoveToSaturation saturation time) = time ≤ 65534
 Roomy (Command.MoveSaturation mode rate) = rate ≤ 255
 Roomy (Command.StepSaturation mode size time) = (size ≤ 255) × (time ≤ 255)
-Roomy (Command.MoveToHueAndSaturation hue saturation time enhanced enhancedHue) = (time ≤ 65534) × (enhancedHue ≤ 65535)
+Roomy (Command.MoveToHueAndSaturation hue saturation time enhanced enhanced_hue) = (time ≤ 65534) × (enhanced_hue ≤ 65535)
 Roomy (Command.EnhancedMoveToHue hue direction time) = (hue ≤ 65535) × (time ≤ 65534)
 Roomy (Command.EnhancedMoveHue mode rate) = rate ≤ 65535
 Roomy (Command.EnhancedStepHue mode size time) = (size ≤ 65535) × (time ≤ 65534)
 Roomy (Command.MoveToColorTemperature mireds time) = (mireds ≤ 65279) × (time ≤ 65534)
 Roomy (Command.MoveColorTemperature mode rate min max) = (rate ≤ 65535) × (min ≤ 65279) × (max ≤ 65279)
 Roomy (Command.StepColorTemperature mode size time min max) = (size ≤ 65535) × (time ≤ 65534) × (min ≤ 65279) × (max ≤ 65279)
-Roomy (Command.ColorLoopSet flags action direction time startHue) = (flags ≤ 255) × (time ≤ 65535) × (startHue ≤ 65535)
+Roomy (Command.ColorLoopSet flags action direction time start_hue) = (flags ≤ 255) × (time ≤ 65535) × (start_hue ≤ 65535)
 Roomy Command.StopMoveStep = Unit
 
 within : (most n : ℕ) → n ≤ most → (leb 0 n && leb n most) ≡ true
@@ -67,8 +67,8 @@ never-by true = refl
 never-by false = refl
 
 -- where the rest of the fields are good, ConstraintError is the port's answer exactly where a field is not
-pub fields-agree : (c : Command) → Roomy c → eqb (checks c).cause 1 ≡ not (fieldsGood c)
-unfolding fieldsGood
+pub fields-agree : (c : Command) → Roomy c → eqb (checks c).cause 1 ≡ not (fields_good c)
+unfolding fields_good
 fields-agree (Command.MoveToHue hue direction time) r =
     rw (above hue, within 65534 time r) (refused-by (ltb 254 hue))
 fields-agree (Command.MoveHue mode rate enhanced) r = rw (within 255 rate r) (never-by (eqb rate 0))
@@ -77,9 +77,9 @@ fields-agree (Command.MoveToSaturation saturation time) r =
     rw (above saturation, within 65534 time r) (refused-by (ltb 254 saturation))
 fields-agree (Command.MoveSaturation mode rate) r = rw (within 255 rate r) (never-by (eqb rate 0))
 fields-agree (Command.StepSaturation mode size time) r = rw (within 255 size r.0, within 255 time r.1) (never-by (eqb size 0))
-fields-agree (Command.MoveToHueAndSaturation hue saturation time true enhancedHue) r =
-    rw (within 65535 enhancedHue r.1, above saturation, within 65534 time r.0) (refused-by (ltb 254 saturation))
-fields-agree (Command.MoveToHueAndSaturation hue saturation time false enhancedHue) r =
+fields-agree (Command.MoveToHueAndSaturation hue saturation time true enhanced_hue) r =
+    rw (within 65535 enhanced_hue r.1, above saturation, within 65534 time r.0) (refused-by (ltb 254 saturation))
+fields-agree (Command.MoveToHueAndSaturation hue saturation time false enhanced_hue) r =
     rw (above hue, above saturation, within 65534 time r.0) (refused-by-either (ltb 254 hue) (ltb 254 saturation))
 fields-agree (Command.EnhancedMoveToHue hue direction time) r = rw (within 65535 hue r.0, within 65534 time r.1)
 fields-agree (Command.EnhancedMoveHue mode rate) r = rw (within 65535 rate r) (never-by (eqb rate 0))
@@ -90,28 +90,28 @@ fields-agree (Command.MoveColorTemperature mode rate min max) r =
     rw (within 65535 rate r.0, within 65279 min r.1, within 65279 max r.2) (never-by (eqb rate 0))
 fields-agree (Command.StepColorTemperature mode size time min max) r =
     rw (within 65535 size r.0, within 65534 time r.1, within 65279 min r.2, within 65279 max r.3) (never-by (eqb size 0))
-fields-agree (Command.ColorLoopSet flags action direction time startHue) r =
-    rw (within 255 flags r.0, within 65535 time r.1, within 65535 startHue r.2)
+fields-agree (Command.ColorLoopSet flags action direction time start_hue) r =
+    rw (within 255 flags r.0, within 65535 time r.1, within 65535 start_hue r.2)
 fields-agree Command.StopMoveStep r = refl
 
 -- the smallest commands that differ: the text refuses them, the port takes them
 abbrev no-options : CommandOptions
 no-options = record { mask = 0; overrides = 0 }
 
-pub time-differs : (fieldsGood (Command.MoveToHue 0 DirectionEnum.Shortest 65535) ≡ false) × ((checks (Command.MoveToHue 0 DirectionEnum.Shortest 65535)).cause ≡ 0)
-unfolding fieldsGood
+pub time-differs : (fields_good (Command.MoveToHue 0 DirectionEnum.Shortest 65535) ≡ false) × ((checks (Command.MoveToHue 0 DirectionEnum.Shortest 65535)).cause ≡ 0)
+unfolding fields_good
 time-differs = (refl, refl)
 
-pub mireds-differ : (fieldsGood (Command.MoveToColorTemperature 65280 0) ≡ false) × ((checks (Command.MoveToColorTemperature 65280 0)).cause ≡ 0)
-unfolding fieldsGood
+pub mireds-differ : (fields_good (Command.MoveToColorTemperature 65280 0) ≡ false) × ((checks (Command.MoveToColorTemperature 65280 0)).cause ≡ 0)
+unfolding fields_good
 mireds-differ = (refl, refl)
 
-pub limits-differ : (fieldsGood (Command.MoveColorTemperature MoveModeEnum.Up 1 65280 0) ≡ false) × ((checks (Command.MoveColorTemperature MoveModeEnum.Up 1 65280 0)).cause ≡ 0)
-unfolding fieldsGood
+pub limits-differ : (fields_good (Command.MoveColorTemperature MoveModeEnum.Up 1 65280 0) ≡ false) × ((checks (Command.MoveColorTemperature MoveModeEnum.Up 1 65280 0)).cause ≡ 0)
+unfolding fields_good
 limits-differ = (refl, refl)
 
-pub step-time-differs : (fieldsGood (Command.StepHue StepModeEnum.Up 1 256) ≡ false) × ((checks (Command.StepHue StepModeEnum.Up 1 256)).cause ≡ 0)
-unfolding fieldsGood
+pub step-time-differs : (fields_good (Command.StepHue StepModeEnum.Up 1 256) ≡ false) × ((checks (Command.StepHue StepModeEnum.Up 1 256)).cause ≡ 0)
+unfolding fields_good
 step-time-differs = (refl, refl)
 
 -- ---- INVALID_COMMAND
@@ -128,7 +128,7 @@ stop-by : (s : Bool) (n : ℕ) → eqb (cond s 0 n) 2 ≡ cond s false (eqb n 2)
 stop-by true n = refl
 stop-by false n = refl
 
-move-by : (mode : MoveModeEnum) (rate : ℕ) → cond (isStop mode) false (eqb (cond (eqb rate 0) 2 0) 2) ≡ invalidMove mode rate
+move-by : (mode : MoveModeEnum) (rate : ℕ) → cond (is_stop mode) false (eqb (cond (eqb rate 0) 2 0) 2) ≡ invalid_move mode rate
 move-by MoveModeEnum.Stop rate = refl
 move-by MoveModeEnum.Up rate = zero-by (eqb rate 0)
 move-by MoveModeEnum.Down rate = zero-by (eqb rate 0)
@@ -142,7 +142,7 @@ own-agree (Command.StepHue mode size time) = zero-by (eqb size 0)
 own-agree (Command.MoveToSaturation saturation time) = one-by (ltb 254 saturation)
 own-agree (Command.MoveSaturation mode rate) = move-by mode rate
 own-agree (Command.StepSaturation mode size time) = zero-by (eqb size 0)
-own-agree (Command.MoveToHueAndSaturation hue saturation time enhanced enhancedHue) =
+own-agree (Command.MoveToHueAndSaturation hue saturation time enhanced enhanced_hue) =
     one-by ((not enhanced && ltb 254 hue) || ltb 254 saturation)
 own-agree (Command.EnhancedMoveToHue hue direction time) = refl
 own-agree (Command.EnhancedMoveHue mode rate) = move-by mode rate
@@ -151,9 +151,9 @@ own-agree (Command.MoveToColorTemperature mireds time) = one-by (eqb mireds 0)
 own-agree (Command.MoveColorTemperature mode rate min max) = move-by mode rate
 own-agree (Command.StepColorTemperature mode size time min max) =
     zero-by (eqb size 0)
-own-agree (Command.ColorLoopSet flags action direction time startHue) = refl
+own-agree (Command.ColorLoopSet flags action direction time start_hue) = refl
 own-agree Command.StopMoveStep = refl
 
 -- past validity and clock, InvalidCommand is the port's answer exactly where the text's is
-pub invalid-agree : (r : Request) → eqb (afterClock r) 2 ≡ invalid r.command
+pub invalid-agree : (r : Request) → eqb (after_clock r) 2 ≡ invalid r.command
 invalid-agree r = stop-by (checks r.command).stop (checks r.command).cause ∙ own-agree r.command

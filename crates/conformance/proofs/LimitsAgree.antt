@@ -20,18 +20,18 @@ use Rattle.tasks.specs.declared.ColorTemperatureMove.{ColorTemperatureMove}
 use Rattle.tasks.specs.declared.ColorTemperatureRun.{ColorTemperatureRun}
 use Rattle.tasks.specs.declared.GivenTask.{GivenTask}
 use Rattle.tasks.specs.declared.Task.{Task}
-use Rattle.tasks.specs.Valid.{taskValid}
+use Rattle.tasks.specs.Valid.{task_valid}
 use Rattle.lamp.specs.declared.Answer.{Answer}
 use Rattle.lamp.specs.declared.Lamp.{Lamp}
-use Rattle.lamp.specs.Answers.{atClock}
+use Rattle.lamp.specs.Answers.{at_clock}
 use Rattle.matter.specs.Bounds.{lower, upper}
-use Rattle.lamp.specs.Calls.{done, started, temperatureStart}
+use Rattle.lamp.specs.Calls.{done, started, temperature_start}
 use Rattle.lamp.proofs.Kept.{start-ready}
 use Rattle.matter.specs.Rules.{signed}
-use Rattle.lamp.specs.Passes.{idled, temperaturePass}
+use Rattle.lamp.specs.Passes.{idled, temperature_pass}
 use Rattle.lamp.specs.declared.Call.{Call}
-use Rattle.commands.specs.Answers.{cause, answer, allowed, commandDone}
-use Rattle.commands.specs.Commands.{CommandEffect, asked, lo, hi, checks, commandEffect}
+use Rattle.commands.specs.Answers.{cause, answer, allowed, command_done}
+use Rattle.commands.specs.Commands.{CommandEffect, asked, lo, hi, checks, command_effect}
 use Rattle.commands.proofs.Kept.{answer-both}
 use Rattle.conformance.specs.Limits.{Allowed, Closest}
 use Rattle.conformance.proofs.Ran.{granted-is}
@@ -43,26 +43,26 @@ module _ (bounds : Bounds) where
   -- every mired that the text allows lies between the port's bounds
   pub allowed-within : (minimum maximum n : ℕ) → Allowed bounds minimum maximum n →
       (lo bounds minimum ≤ n) × (n ≤ hi bounds maximum)
-  allowed-within minimum maximum n a = (low minimum a.fieldMinimum, high maximum a.fieldMaximum)
+  allowed-within minimum maximum n a = (low minimum a.field_minimum, high maximum a.field_maximum)
     where
       low : (m : ℕ) → ((m ≡ 0 → ⊥) → m ≤ n) → lo bounds m ≤ n
-      low zero f = omega (arith, a.physicalMinimum)
-      low (suc m) f = rw (ne_eqb (suc m) 0 (λ e. omega arith)) (omega (arith, a.physicalMinimum, f (λ e. omega arith)))
+      low zero f = omega (arith, a.physical_minimum)
+      low (suc m) f = rw (ne_eqb (suc m) 0 (λ e. omega arith)) (omega (arith, a.physical_minimum, f (λ e. omega arith)))
 
       high : (m : ℕ) → ((m ≡ 0 → ⊥) → n ≤ m) → n ≤ hi bounds m
-      high zero f = omega (arith, a.physicalMaximum)
+      high zero f = omega (arith, a.physical_maximum)
       high (suc m) f =
-          rw (ne_eqb (suc m) 0 (λ e. omega arith)) (omega (arith, a.physicalMaximum, f (λ e. omega arith)))
+          rw (ne_eqb (suc m) 0 (λ e. omega arith)) (omega (arith, a.physical_maximum, f (λ e. omega arith)))
 
   -- and every mired between them is allowed
   pub within-allowed : (minimum maximum n : ℕ) → lo bounds minimum ≤ n → n ≤ hi bounds maximum →
       Allowed bounds minimum maximum n
   within-allowed minimum maximum n h k =
       record {
-        physicalMinimum = omega arith;
-        physicalMaximum = omega arith;
-        fieldMinimum = λ z. omega (arith, asked_is bounds.min minimum z);
-        fieldMaximum = λ z. omega (arith, asked_is bounds.max maximum z);
+        physical_minimum = omega arith;
+        physical_maximum = omega arith;
+        field_minimum = λ z. omega (arith, asked_is bounds.min minimum z);
+        field_maximum = λ z. omega (arith, asked_is bounds.max maximum z);
       }
 
   -- the limits of a step cross exactly where no mired is allowed
@@ -79,7 +79,7 @@ pub record RunsWithin (bounds : Bounds) (minimum maximum : ℕ) (rate : ℤ) (be
     (after : Answer) : Type 0 where
   pub run : ColorTemperatureRun
   pub begins : (run.start ≡ clock) × (run.mireds ≡ before.color.mireds) × (run.rate ≡ rate)
-  pub passes : after ≡ done (temperaturePass (atClock before clock) run)
+  pub passes : after ≡ done (temperature_pass (at_clock before clock) run)
   pub all : (n : ℕ) → Allowed bounds minimum maximum n → (run.lo ≤ n) × (n ≤ run.hi)
   pub only : (n : ℕ) → run.lo ≤ n → n ≤ run.hi → Allowed bounds minimum maximum n
 
@@ -92,42 +92,42 @@ NoTwo bounds minimum maximum =
 abbrev pub Answered : Lamp → Call → Task → Type 0
 Answered l x task = (answer l x).task ≡ GivenTask.Given task
 
-module _ (l : Lamp) (mode : MoveModeEnum) (rate minimum maximum : ℕ) (options : CommandOptions) (onOff : OnOff)
+module _ (l : Lamp) (mode : MoveModeEnum) (rate minimum maximum : ℕ) (options : CommandOptions) (on_off : OnOff)
     (first : ℕ) (task : Task)
-    (given : Answered l (Call.Command (request (Command.MoveColorTemperature mode rate minimum maximum) options) onOff first) task)
+    (given : Answered l (Call.Command (request (Command.MoveColorTemperature mode rate minimum maximum) options) on_off first) task)
     (m : Lamp) (same : m.bounds ≡ l.bounds) (clock : ℕ) (accepted : cause m (Call.Start task clock) ≡ 0) where
   abbrev asks : ColorTemperatureMove
   asks = record { rate = signed mode rate; min = asked l.bounds.min minimum; max = asked l.bounds.max maximum }
 
   -- the task that a command gives is the Stop task or this one, and a Stop is not started
   stop-refused : task ≡ Task.Stop → ⊥
-  unfolding cause taskValid
-  stop-refused e = true≢false (sym (start-ready m clock task accepted).1 ∙ ap taskValid e)
+  unfolding cause task_valid
+  stop-refused e = true≢false (sym (start-ready m clock task accepted).1 ∙ ap task_valid e)
 
   abbrev Gives : CommandEffect → Type 0
   Gives e = e.task ≡ GivenTask.Given task → task ≡ Task.ColorTemperatureMove asks
 
-  gives-by : Gives (commandDone (atClock l first)
-      (request (Command.MoveColorTemperature mode rate minimum maximum) options) onOff)
-  unfolding commandEffect
+  gives-by : Gives (command_done (at_clock l first)
+      (request (Command.MoveColorTemperature mode rate minimum maximum) options) on_off)
+  unfolding command_effect
   gives-by =
       let q : Request = request (Command.MoveColorTemperature mode rate minimum maximum) options in
       cond_both Gives (checks q.command).stop _ _ (λ s g. absurd (stop-refused (cc)))
-      (λ s. cond_both Gives (allowed l q onOff) _ _ (λ a g. cc)
+      (λ s. cond_both Gives (allowed l q on_off) _ _ (λ a g. cc)
       (λ a g. let z : ◌≡◌ {A = ℕ} 0 1 = cc in absurd (omega arith)))
 
   task-is : task ≡ Task.ColorTemperatureMove asks
   task-is =
       answer-both l (λ (a : Answer). a.task ≡ GivenTask.Given task → task ≡ Task.ColorTemperatureMove asks)
-      (Call.Command (request (Command.MoveColorTemperature mode rate minimum maximum) options) onOff first)
+      (Call.Command (request (Command.MoveColorTemperature mode rate minimum maximum) options) on_off first)
       (λ z. gives-by)
       (λ n g. let z : ◌≡◌ {A = ℕ} 0 1 = cc in absurd (omega arith))
       given
 
-  start_is : answer m (Call.Start task clock) ≡ done (temperatureStart (atClock m clock) asks)
+  start_is : answer m (Call.Start task clock) ≡ done (temperature_start (at_clock m clock) asks)
   unfolding started
   start_is =
-      granted-is m (Call.Start task clock) accepted ∙ ap (λ (t : Task). done (started (atClock m clock) t)) task-is
+      granted-is m (Call.Start task clock) accepted ∙ ap (λ (t : Task). done (started (at_clock m clock) t)) task-is
 
   low-is : lower m.bounds asks.min ≡ lo l.bounds minimum
   low-is = ap (λ (b : Bounds). lower b asks.min) same
@@ -149,14 +149,14 @@ module _ (l : Lamp) (mode : MoveModeEnum) (rate minimum maximum : ℕ) (options 
 
   -- where no two mireds are allowed, it is done at once: the lamp is idle, nothing else but the clock changes, nothing is reported
   pub move-at-once : NoTwo l.bounds minimum maximum →
-      answer m (Call.Start task clock) ≡ done (idled (atClock m clock))
-  unfolding temperatureStart
+      answer m (Call.Start task clock) ≡ done (idled (at_clock m clock))
+  unfolding temperature_start
   move-at-once h = start_is ∙ rw (high_is, low-is, crossed-by _ refl h)
 
   -- where two are, it runs between the mireds that are allowed and no others
   pub move-runs : (n k : ℕ) → Allowed l.bounds minimum maximum n → Allowed l.bounds minimum maximum k → n < k →
       RunsWithin l.bounds minimum maximum (signed mode rate) m clock (answer m (Call.Start task clock))
-  unfolding temperatureStart
+  unfolding temperature_start
   move-runs n k a b h =
       let low : lo l.bounds minimum ≤ n = (allowed-within l.bounds minimum maximum n a).0 in
       let high : k ≤ hi l.bounds maximum = (allowed-within l.bounds minimum maximum k b).1 in

@@ -8,7 +8,7 @@ use lib.IntN.{ℤ}
 use Rattle.matter.specs.declared.commands.CommandOptions.{CommandOptions}
 use Rattle.matter.specs.declared.commands.Command.{Command}
 use Rattle.matter.specs.declared.enums.DirectionEnum.{DirectionEnum}
-use Rattle.hue.specs.Hue.{pathDelta, movedHue}
+use Rattle.hue.specs.Hue.{path_delta, moved_hue}
 use Rattle.hue.proofs.Laws.{arrives}
 use Rattle.tasks.specs.declared.GivenTask.{GivenTask}
 use Rattle.tasks.specs.declared.HueDelta.{HueDelta}
@@ -16,26 +16,26 @@ use Rattle.tasks.specs.declared.HueSaturationMoveTo.{HueSaturationMoveTo}
 use Rattle.tasks.specs.declared.TargetSaturation.{TargetSaturation}
 use Rattle.tasks.specs.declared.Task.{Task}
 use Rattle.lamp.specs.declared.Lamp.{Lamp}
-use Rattle.remaining_time.specs.RemainingTime.{newTenths}
-use Rattle.commands.specs.Commands.{commandEffect, stored}
-use Rattle.conformance.specs.Directions.{enhancedCircle}
+use Rattle.remaining_time.specs.RemainingTime.{new_tenths}
+use Rattle.commands.specs.Commands.{command_effect, stored}
+use Rattle.conformance.specs.Directions.{enhanced_circle}
 use Rattle.conformance.proofs.DirectionsAgree.{directions-agree}
 use Rattle.conformance.specs.MoveTo.{MovesToHue}
 
 -- what a task moves to: its way leads there, as asked, and it ends there
-pub record Does (circle from to : ℕ) (direction : DirectionEnum) (transitionTime : ℕ) (enhanced : Bool) (task : GivenTask) : Type 0 where
+pub record Does (circle from to : ℕ) (direction : DirectionEnum) (transition_time : ℕ) (enhanced : Bool) (task : GivenTask) : Type 0 where
   pub way : ℤ
   pub time : ℕ
   pub given : task ≡ GivenTask.Given (Task.HueSaturationMoveTo (record { delta = HueDelta.By way; saturation = TargetSaturation.Keep; ms = time; enhanced = enhanced }))
-  pub asked : MovesToHue circle from to direction transitionTime way time
-  pub arrived : movedHue from way ≡ to
+  pub asked : MovesToHue circle from to direction transition_time way time
+  pub arrived : moved_hue from way ≡ to
 
 module _ (l : Lamp) (direction : DirectionEnum) (time : ℕ) (options : CommandOptions) (hf : l.color.hue < 65536) where
-  pub enhanced-move-agrees : (hue : ℕ) → hue < 65536 → Does enhancedCircle l.color.hue hue direction time true (commandEffect l (Command.EnhancedMoveToHue hue direction time)).task
-  unfolding commandEffect
+  pub enhanced-move-agrees : (hue : ℕ) → hue < 65536 → Does enhanced_circle l.color.hue hue direction time true (command_effect l (Command.EnhancedMoveToHue hue direction time)).task
+  unfolding command_effect
   enhanced-move-agrees hue h =
       record {
-        way = pathDelta l.color.hue hue direction;
+        way = path_delta l.color.hue hue direction;
         time = time * 100;
         given = refl;
         asked = record { goes = directions-agree l.color.hue hue hf h direction; takes = refl };
@@ -43,11 +43,11 @@ module _ (l : Lamp) (direction : DirectionEnum) (time : ℕ) (options : CommandO
       }
 
   -- a plain hue is moved to on the same circle, 256 places for each of its own
-  pub plain-move-agrees : (hue : ℕ) → hue ≤ 254 → Does enhancedCircle l.color.hue (stored hue) direction time false (commandEffect l (Command.MoveToHue hue direction time)).task
-  unfolding commandEffect
+  pub plain-move-agrees : (hue : ℕ) → hue ≤ 254 → Does enhanced_circle l.color.hue (stored hue) direction time false (command_effect l (Command.MoveToHue hue direction time)).task
+  unfolding command_effect
   plain-move-agrees hue h =
       record {
-        way = pathDelta l.color.hue (stored hue) direction;
+        way = path_delta l.color.hue (stored hue) direction;
         time = time * 100;
         given = refl;
         asked = record { goes = directions-agree l.color.hue (stored hue) hf (omega arith) direction; takes = refl };
@@ -57,9 +57,9 @@ module _ (l : Lamp) (direction : DirectionEnum) (time : ℕ) (options : CommandO
 -- ---- the remaining time
 
 -- a time that the text has leaves a remaining time that it has: "max 65534"
-pub remaining-in-range : (time e : ℕ) → time ≤ 65534 → newTenths (time * 100 - e) ≤ 65534
+pub remaining-in-range : (time e : ℕ) → time ≤ 65534 → new_tenths (time * 100 - e) ≤ 65534
 remaining-in-range time e h = omega arith
 
 -- and the port's longest does not: the smallest is 65,535 tenths
-pub remaining-differs : newTenths (65535 * 100) ≡ 65535
+pub remaining-differs : new_tenths (65535 * 100) ≡ 65535
 remaining-differs = refl

@@ -10,14 +10,14 @@ use lib.IntN.{ℤ}
 use lib.ListN.{length, replicate}
 use borrow.Author.Tests.{leb-true, le-leb, lt-leb, ltb-true, ltb-false, lt-ltb, le-ltb, eqb-true, eqb-false, ne_eqb, not-true}
 use Rattle.matter.specs.declared.enums.ColorModeEnum.{ColorModeEnum}
-use Rattle.matter.specs.Limits.{saturationLimit}
+use Rattle.matter.specs.Limits.{saturation_limit}
 use Rattle.matter.proofs.Laws.{and_left, and_right, or_left, or_right, cond_both}
 use Rattle.notices.specs.Notices.{only, filled}
-use Rattle.notices.specs.Names.{CurrentHue, EnhancedCurrentHue, CurrentSaturation, ColorTemperatureMireds, ColorMode, EnhancedColorMode, RemainingTime, markedDirty, scenesNotified, deviceHueSaturation, deviceMireds}
+use Rattle.notices.specs.Names.{CurrentHue, EnhancedCurrentHue, CurrentSaturation, ColorTemperatureMireds, ColorMode, EnhancedColorMode, RemainingTime, marked_dirty, scenes_notified, device_hue_saturation, device_mireds}
 use Rattle.color.specs.declared.Color.{Color}
-use Rattle.color.specs.Setters.{due, same, changeReported, changeOf, hueSet, hueReported, saturationSet, saturationReported, miredsSet, miredsReported}
-use Rattle.progress.specs.Progress.{permilleOf, tenthsOf, deltaAtRate, clampedSum, loopDelta}
-use Rattle.hue.specs.Hue.{movedHue}
+use Rattle.color.specs.Setters.{due, same, change_reported, change_of, hue_set, hue_reported, saturation_set, saturation_reported, mireds_set, mireds_reported}
+use Rattle.progress.specs.Progress.{permille_of, tenths_of, delta_at_rate, clamped_sum, loop_delta}
+use Rattle.hue.specs.Hue.{moved_hue}
 use Rattle.remaining_time.specs.RemainingTime.{apart, reported}
 use Rattle.tasks.specs.declared.ColorLoopRun.{ColorLoopRun}
 use Rattle.tasks.specs.declared.ColorTemperatureRun.{ColorTemperatureRun}
@@ -28,24 +28,24 @@ use Rattle.tasks.specs.declared.HueSaturationRun.{HueSaturationRun}
 use Rattle.tasks.specs.declared.Running.{Running}
 use Rattle.tasks.specs.declared.SaturationRun.{SaturationRun}
 use Rattle.tasks.specs.declared.TargetSaturation.{TargetSaturation}
-use Rattle.tasks.specs.Runs.{runs, loopRunning}
+use Rattle.tasks.specs.Runs.{runs, loop_running}
 use Rattle.lamp.specs.declared.Answer.{Answer}
 use Rattle.lamp.specs.declared.Lamp.{Lamp}
-use Rattle.lamp.specs.Answers.{atClock}
+use Rattle.lamp.specs.Answers.{at_clock}
 use Rattle.lamp.specs.Calls.{done, stepped}
 use Rattle.matter.specs.Rules.{signed}
 use Rattle.lamp.specs.declared.passes.Passed.{Passed}
-use Rattle.lamp.specs.Passes.{Effect, foundIn, reportedBehind, unless, atEnd, hueNow, hueMoved, saturationNow, saturationMoved, miredsNow, saturationDone, miredsDone, hueSaturationPassed, temperatureToPassed, hueSaturationMoved, temperatureToMoved, timed, huePassed, saturationPassed, temperaturePassed, loopPassed}
+use Rattle.lamp.specs.Passes.{Effect, found_in, reported_behind, unless, at_end, hue_now, hue_moved, saturation_now, saturation_moved, mireds_now, saturation_done, mireds_done, hue_saturation_passed, temperature_to_passed, hue_saturation_moved, temperature_to_moved, timed, hue_passed, saturation_passed, temperature_passed, loop_passed}
 use Rattle.lamp.specs.declared.Call.{Call}
 use Rattle.commands.specs.Answers.{cause, answer}
 use Rattle.conformance.proofs.SettersSet.{hue-is-set, saturation-is-set, mireds-is-set}
 use Rattle.conformance.proofs.Ran.{granted-is}
 use Rattle.conformance.proofs.ShownAgrees.{step-shows}
-use Rattle.conformance.specs.Reports.{RemainingTimeIs, Reportable, fromZero, risen, fallen, toZero, hushed, MayReport, onceASecond, atTheEnd, reports}
+use Rattle.conformance.specs.Reports.{RemainingTimeIs, Reportable, from_zero, risen, fallen, to_zero, hushed, MayReport, once_a_second, at_the_end, reports}
 
 -- ---- RemainingTime
 
-pub remaining-agrees : (ms : ℕ) → RemainingTimeIs ms (tenthsOf ms)
+pub remaining-agrees : (ms : ℕ) → RemainingTimeIs ms (tenths_of ms)
 remaining-agrees ms = record { enough = omega arith; fewest = λ n h. omega arith }
 
 third : (a b : Bool) {c : Bool} → c ≡ true → (a || b || c) ≡ true
@@ -56,10 +56,10 @@ third false false e = e
 -- what is reportable is reported
 pub reportable-is-reported : {old new : ℕ} {start : Bool} → Reportable old new start → reported old new start ≡ true
 unfolding reported
-reportable-is-reported (fromZero new start h) = rw (ne_eqb new 0 (λ e. omega arith), lt-ltb 10 new h)
+reportable-is-reported (from_zero new start h) = rw (ne_eqb new 0 (λ e. omega arith), lt-ltb 10 new h)
 reportable-is-reported (risen old new h) = third (eqb new 0 && not (eqb old 0)) (eqb old 0 && ltb 10 new) (rw (lt-ltb 10 (apart new old) (omega arith)))
 reportable-is-reported (fallen old new h) = third (eqb new 0 && not (eqb old 0)) (eqb old 0 && ltb 10 new) (rw (lt-ltb 10 (apart new old) (omega arith)))
-reportable-is-reported (toZero old start h) = rw (ne_eqb old 0 (λ e. omega arith))
+reportable-is-reported (to_zero old start h) = rw (ne_eqb old 0 (λ e. omega arith))
 
 -- what is reported is reportable
 module _ (old new : ℕ) where
@@ -68,10 +68,10 @@ module _ (old new : ℕ) where
   changed-by false e h = fallen old new (omega (arith, ltb-false old new e))
 
   to-zero : eqb new 0 ≡ true → eqb old 0 ≡ false → (start : Bool) → Reportable old new start
-  to-zero a b start = rw (eqb-true new 0 a) (toZero old start (omega (arith, eqb-false old 0 b)))
+  to-zero a b start = rw (eqb-true new 0 a) (to_zero old start (omega (arith, eqb-false old 0 b)))
 
   from_zero : eqb old 0 ≡ true → ltb 10 new ≡ true → (start : Bool) → Reportable old new start
-  from_zero b c start = rw (eqb-true old 0 b) (fromZero new start (ltb-true 10 new c))
+  from_zero b c start = rw (eqb-true old 0 b) (from_zero new start (ltb-true 10 new c))
 
   by : (a b c d start : Bool) → eqb new 0 ≡ a → eqb old 0 ≡ b → ltb 10 new ≡ c → ltb 10 (apart new old) ≡ d → ((a && not b) || (b && c) || (d && start)) ≡ true → Reportable old new start
   by true false c d start ea eb ec ed e = to-zero ea eb start
@@ -109,12 +109,12 @@ short-end-differs = (omega arith, refl)
 
 -- what is due may be reported, and what may be is due
 due-by : (end : Bool) (stamp clock : ℕ) → due end stamp clock ≡ true → MayReport stamp clock end
-due-by true stamp clock e = atTheEnd stamp clock
-due-by false stamp clock e = onceASecond stamp clock false (leb-true (stamp + 1000) clock e)
+due-by true stamp clock e = at_the_end stamp clock
+due-by false stamp clock e = once_a_second stamp clock false (leb-true (stamp + 1000) clock e)
 
 by-due : {stamp clock : ℕ} {end : Bool} → MayReport stamp clock end → due end stamp clock ≡ true
-by-due (onceASecond stamp clock end h) = rw (le-leb (stamp + 1000) clock h) (or-true end)
-by-due (atTheEnd stamp clock) = refl
+by-due (once_a_second stamp clock end h) = rw (le-leb (stamp + 1000) clock h) (or-true end)
+by-due (at_the_end stamp clock) = refl
 
 -- whether a list has a notice, of two lists
 reports-both : (n : ℕ) (xs ys : List ℕ) → reports n (xs ++ ys) ≡ (reports n xs || reports n ys)
@@ -127,40 +127,40 @@ but-for : (n : ℕ) (reported rest : List ℕ) → reports n rest ≡ false → 
 but-for n reported rest none = reports-both n reported rest ∙ rw none (or-false (reports n reported))
 
 -- of a change, its attributes and the modes are reported exactly where the change is due
-module _ (n attribute : ℕ) (enhanced : Bool) (other : reports n (markedDirty ∷ scenesNotified ∷ []) ≡ false) where
+module _ (n attribute : ℕ) (enhanced : Bool) (other : reports n (marked_dirty ∷ scenes_notified ∷ []) ≡ false) where
   abbrev noticed : List ℕ
   noticed = (attribute ∷ only enhanced EnhancedCurrentHue) ++ (ColorMode ∷ EnhancedColorMode ∷ [])
 
-  last-by : (d : Bool) → reports n (cond d noticed [] ++ (scenesNotified ∷ [])) ≡ d && reports n noticed
-  last-by true = but-for n noticed (scenesNotified ∷ []) (or_right (eqb n markedDirty) (reports n (scenesNotified ∷ [])) other)
-  last-by false = or_right (eqb n markedDirty) (reports n (scenesNotified ∷ [])) other
+  last-by : (d : Bool) → reports n (cond d noticed [] ++ (scenes_notified ∷ [])) ≡ d && reports n noticed
+  last-by true = but-for n noticed (scenes_notified ∷ []) (or_right (eqb n marked_dirty) (reports n (scenes_notified ∷ [])) other)
+  last-by false = or_right (eqb n marked_dirty) (reports n (scenes_notified ∷ [])) other
 
-  notices-by : (s a d : Bool) → reports n (changeReported (changeOf s d attribute enhanced) a) ≡ not s && (d && reports n noticed)
+  notices-by : (s a d : Bool) → reports n (change_reported (change_of s d attribute enhanced) a) ≡ not s && (d && reports n noticed)
   notices-by true a d = refl
   notices-by false true d = last-by d
-  notices-by false false d = rw (or_left (eqb n markedDirty) (reports n (scenesNotified ∷ [])) other) (last-by d)
+  notices-by false false d = rw (or_left (eqb n marked_dirty) (reports n (scenes_notified ∷ [])) other) (last-by d)
 
-  change-by : reports n noticed ≡ true → (s a d : Bool) → reports n (changeReported (changeOf s d attribute enhanced) a) ≡ not s && d
+  change-by : reports n noticed ≡ true → (s a d : Bool) → reports n (change_reported (change_of s d attribute enhanced) a) ≡ not s && d
   change-by has s a d = notices-by s a d ∙ rw (has, and-true d)
 
   -- and no other
-  no-change-by : reports n noticed ≡ false → (s a d : Bool) → reports n (changeReported (changeOf s d attribute enhanced) a) ≡ false
+  no-change-by : reports n noticed ≡ false → (s a d : Bool) → reports n (change_reported (change_of s d attribute enhanced) a) ≡ false
   no-change-by none s a d = notices-by s a d ∙ rw (none, and-false d, and-false (not s))
 
 -- of a hue, CurrentHue is reported, and with it EnhancedCurrentHue where the move is an enhanced one
 pub data HueNotice : ℕ → Bool → Type 0 where
-  ofCurrentHue : (enhanced : Bool) → HueNotice CurrentHue enhanced
-  ofEnhancedCurrentHue : HueNotice EnhancedCurrentHue true
+  of_current_hue : (enhanced : Bool) → HueNotice CurrentHue enhanced
+  of_enhanced_current_hue : HueNotice EnhancedCurrentHue true
 
 hue-by : {n : ℕ} {enhanced : Bool} → HueNotice n enhanced → (s a d : Bool) →
-    reports n (changeReported (changeOf s d CurrentHue enhanced) a) ≡ not s && d
-hue-by (ofCurrentHue enhanced) = change-by CurrentHue CurrentHue enhanced refl refl
-hue-by ofEnhancedCurrentHue = change-by EnhancedCurrentHue CurrentHue true refl refl
+    reports n (change_reported (change_of s d CurrentHue enhanced) a) ≡ not s && d
+hue-by (of_current_hue enhanced) = change-by CurrentHue CurrentHue enhanced refl refl
+hue-by of_enhanced_current_hue = change-by EnhancedCurrentHue CurrentHue true refl refl
 
 -- a notice of a number that becomes another is one that may be reported, and of a change each that may be is reported
 pub record ReportedAs (notice : ℕ) (reported : List ℕ) (old new stamp clock : ℕ) (end : Bool) : Type 0 where
-  pub whereItMay : reports notice reported ≡ true → MayReport stamp clock end
-  pub ofEachChange : (old ≡ new → ⊥) → MayReport stamp clock end → reports notice reported ≡ true
+  pub where_it_may : reports notice reported ≡ true → MayReport stamp clock end
+  pub of_each_change : (old ≡ new → ⊥) → MayReport stamp clock end → reports notice reported ≡ true
 
 -- it is reported so
 abbrev ReportedWhere : ℕ → List ℕ → ℕ → ℕ → ℕ → ℕ → Bool → Type 0
@@ -170,98 +170,98 @@ reported-as : (n : ℕ) (reported : List ℕ) (old new stamp clock : ℕ) (end :
     ReportedAs n reported old new stamp clock end
 reported-as n reported old new stamp clock end e =
     record {
-      whereItMay = λ h. due-by end stamp clock (and_right (not (same old new end)) (due end stamp clock) (sym e ∙ h));
-      ofEachChange = λ h m. e ∙ rw (ne_eqb old new h, by-due m);
+      where_it_may = λ h. due-by end stamp clock (and_right (not (same old new end)) (due end stamp clock) (sym e ∙ h));
+      of_each_change = λ h m. e ∙ rw (ne_eqb old new h, by-due m);
     }
 
 module _ (c : Color) (new : ℕ) (end : Bool) (clock : ℕ) (active : Bool) where
   hue-change-reported : {n : ℕ} {enhanced : Bool} → HueNotice n enhanced →
-      ReportedWhere n (hueReported c new end enhanced clock active) c.hue new c.stamps.hue clock end
+      ReportedWhere n (hue_reported c new end enhanced clock active) c.hue new c.stamps.hue clock end
   hue-change-reported h = hue-by h (same c.hue new end) active (due end c.stamps.hue clock)
 
-  saturation-change-reported : ReportedWhere CurrentSaturation (saturationReported c new end clock active) c.saturation new
+  saturation-change-reported : ReportedWhere CurrentSaturation (saturation_reported c new end clock active) c.saturation new
       c.stamps.saturation clock end
   saturation-change-reported = change-by CurrentSaturation CurrentSaturation false refl refl (same c.saturation new end) active (due end c.stamps.saturation clock)
 
-  mireds-change-reported : ReportedWhere ColorTemperatureMireds (miredsReported c new end clock active) c.mireds new
+  mireds-change-reported : ReportedWhere ColorTemperatureMireds (mireds_reported c new end clock active) c.mireds new
       c.stamps.mireds clock end
   mireds-change-reported = change-by ColorTemperatureMireds ColorTemperatureMireds false refl refl (same c.mireds new end) active (due end c.stamps.mireds clock)
 
   pub hue-reported : {n : ℕ} {enhanced : Bool} → HueNotice n enhanced →
-      ReportedAs n (hueReported c new end enhanced clock active) c.hue new c.stamps.hue clock end
+      ReportedAs n (hue_reported c new end enhanced clock active) c.hue new c.stamps.hue clock end
   hue-reported h = reported-as _ _ _ _ _ _ _ (hue-change-reported h)
 
-  pub saturation-reported : ReportedAs CurrentSaturation (saturationReported c new end clock active) c.saturation new
+  pub saturation-reported : ReportedAs CurrentSaturation (saturation_reported c new end clock active) c.saturation new
       c.stamps.saturation clock end
   saturation-reported = reported-as _ _ _ _ _ _ _ saturation-change-reported
 
-  pub mireds-reported : ReportedAs ColorTemperatureMireds (miredsReported c new end clock active) c.mireds new
+  pub mireds-reported : ReportedAs ColorTemperatureMireds (mireds_reported c new end clock active) c.mireds new
       c.stamps.mireds clock end
   mireds-reported = reported-as _ _ _ _ _ _ _ mireds-change-reported
 
 -- "at most once per second": what was reported at one clock is not reported again within the second, but at an end
 
 -- a notice that was reported sets its stamp to the clock, and then is not due
-once : (t u : Bool) (old new stamp oldNext next stampNext clock later : ℕ) (end : Bool) → later < clock + 1000 →
-    t ≡ not (same old new end) && due end stamp clock → u ≡ not (same oldNext next false) && due false stampNext later →
-    (same old new end ≡ false → due end stamp clock ≡ true → stampNext ≡ clock) → t ≡ true → u ≡ false
-once t u old new stamp oldNext next stampNext clock later end soon e f set h =
+once : (t u : Bool) (old new stamp old_next next stamp_next clock later : ℕ) (end : Bool) → later < clock + 1000 →
+    t ≡ not (same old new end) && due end stamp clock → u ≡ not (same old_next next false) && due false stamp_next later →
+    (same old new end ≡ false → due end stamp clock ≡ true → stamp_next ≡ clock) → t ≡ true → u ≡ false
+once t u old new stamp old_next next stamp_next clock later end soon e f set h =
     let both : (not (same old new end) && due end stamp clock) ≡ true = sym e ∙ h in
-    let a : stampNext ≡ clock =
+    let a : stamp_next ≡ clock =
     set (not-true (same old new end) (and_left (not (same old new end)) _ both))
     (and_right (not (same old new end)) _ both)
     in
-    f ∙ rw (lt-leb (stampNext + 1000) later (omega arith)) (and-false (not (same oldNext next false)))
+    f ∙ rw (lt-leb (stamp_next + 1000) later (omega arith)) (and-false (not (same old_next next false)))
 
 module _ (c : Color) (clock later : ℕ) (soon : later < clock + 1000) (end : Bool) (new next : ℕ) (active : Bool) where
-  pub hue-once : {n : ℕ} {enhanced enhancedNext : Bool} → HueNotice n enhanced → HueNotice n enhancedNext →
-      reports n (hueReported c new end enhanced clock active) ≡ true →
-      reports n (hueReported (hueSet c new end enhanced clock) next false enhancedNext later active) ≡ false
-  unfolding hueSet
+  pub hue-once : {n : ℕ} {enhanced enhanced_next : Bool} → HueNotice n enhanced → HueNotice n enhanced_next →
+      reports n (hue_reported c new end enhanced clock active) ≡ true →
+      reports n (hue_reported (hue_set c new end enhanced clock) next false enhanced_next later active) ≡ false
+  unfolding hue_set
   hue-once {enhanced = enhanced} h k =
-      let after : Color = hueSet c new end enhanced clock in
+      let after : Color = hue_set c new end enhanced clock in
       once _ _ c.hue new c.stamps.hue after.hue next after.stamps.hue clock later end soon
       (hue-change-reported c new end clock active h) (hue-change-reported after next false later active k) (λ e d. rw (e, d))
 
-  pub saturation-once : reports CurrentSaturation (saturationReported c new end clock active) ≡ true →
-      reports CurrentSaturation (saturationReported (saturationSet c new end clock) next false later active) ≡ false
-  unfolding saturationSet
+  pub saturation-once : reports CurrentSaturation (saturation_reported c new end clock active) ≡ true →
+      reports CurrentSaturation (saturation_reported (saturation_set c new end clock) next false later active) ≡ false
+  unfolding saturation_set
   saturation-once =
-      let after : Color = saturationSet c new end clock in
+      let after : Color = saturation_set c new end clock in
       once _ _ c.saturation new c.stamps.saturation after.saturation next after.stamps.saturation clock
       later end soon (saturation-change-reported c new end clock active)
       (saturation-change-reported after next false later active) (λ e d. rw (e, d))
 
-  pub mireds-once : reports ColorTemperatureMireds (miredsReported c new end clock active) ≡ true →
-      reports ColorTemperatureMireds (miredsReported (miredsSet c new end clock) next false later active) ≡ false
-  unfolding miredsSet
+  pub mireds-once : reports ColorTemperatureMireds (mireds_reported c new end clock active) ≡ true →
+      reports ColorTemperatureMireds (mireds_reported (mireds_set c new end clock) next false later active) ≡ false
+  unfolding mireds_set
   mireds-once =
-      let after : Color = miredsSet c new end clock in
+      let after : Color = mireds_set c new end clock in
       once _ _ c.mireds new c.stamps.mireds after.mireds next after.stamps.mireds clock later end soon
       (mireds-change-reported c new end clock active) (mireds-change-reported after next false later active) (λ e d. rw (e, d))
 
 -- ---- where the port reports more, or less
 
-mode-by : (s a d e : Bool) → reports ColorMode (changeReported (changeOf s d CurrentHue e) a) ≡ not s && d
+mode-by : (s a d e : Bool) → reports ColorMode (change_reported (change_of s d CurrentHue e) a) ≡ not s && d
 mode-by s a d true = change-by ColorMode CurrentHue true refl refl s a d
 mode-by s a d false = change-by ColorMode CurrentHue false refl refl s a d
 
 module _ (c : Color) (clock : ℕ) (active : Bool) where
   -- more: at an end the number is reported though it is the old one, where the text speaks of changes. Smallest: hue 0 to 0
-  pub unchanged-is-reported : (enhanced : Bool) → reports CurrentHue (hueReported c c.hue true enhanced clock active) ≡ true
+  pub unchanged-is-reported : (enhanced : Bool) → reports CurrentHue (hue_reported c c.hue true enhanced clock active) ≡ true
   unchanged-is-reported enhanced =
-      hue-by (ofCurrentHue enhanced) (same c.hue c.hue true) active true ∙ rw (and-false (eqb c.hue c.hue))
+      hue-by (of_current_hue enhanced) (same c.hue c.hue true) active true ∙ rw (and-false (eqb c.hue c.hue))
 
   module _ (new : ℕ) (moved : c.hue ≡ new → ⊥) where
     -- less: the modes change with the number and are withheld with it, where the text limits no report of ColorMode or
     -- EnhancedColorMode. Smallest: in XY mode, from hue 0 to 1 at clock 999, the last notice being at 0
-    pub mode-unreported : (enhanced : Bool) → clock < c.stamps.hue + 1000 → ((hueSet c new false enhanced clock).mode ≡ ColorModeEnum.CurrentHueAndCurrentSaturation) × (reports ColorMode (hueReported c new false enhanced clock active) ≡ false)
-    unfolding hueSet
+    pub mode-unreported : (enhanced : Bool) → clock < c.stamps.hue + 1000 → ((hue_set c new false enhanced clock).mode ≡ ColorModeEnum.CurrentHueAndCurrentSaturation) × (reports ColorMode (hue_reported c new false enhanced clock active) ≡ false)
+    unfolding hue_set
     mode-unreported enhanced h =
         (rw (ne_eqb c.hue new moved), mode-by (same c.hue new false) active (due false c.stamps.hue clock) enhanced ∙ rw (ne_eqb c.hue new moved, lt-leb (c.stamps.hue + 1000) clock h))
 
   -- less: a plain move reports no EnhancedCurrentHue, which it changes
-  pub enhanced-unreported : (new : ℕ) (end : Bool) → reports EnhancedCurrentHue (hueReported c new end false clock active) ≡ false
+  pub enhanced-unreported : (new : ℕ) (end : Bool) → reports EnhancedCurrentHue (hue_reported c new end false clock active) ≡ false
   enhanced-unreported new end =
       no-change-by EnhancedCurrentHue CurrentHue false refl refl (same c.hue new end) active (due end c.stamps.hue clock)
 
@@ -295,20 +295,20 @@ ended_by false r e = rw e
 
 -- they are not reported of the rest of a pass
 apart_from : {n : ℕ} {enhanced : Bool} → HueNotice n enhanced →
-    (eqb n 0 ≡ false) × (reports n (deviceHueSaturation ∷ []) ≡ false) × (eqb n RemainingTime ≡ false)
+    (eqb n 0 ≡ false) × (reports n (device_hue_saturation ∷ []) ≡ false) × (eqb n RemainingTime ≡ false)
     × (reports n (CurrentSaturation ∷ ColorMode ∷ EnhancedColorMode ∷ []) ≡ false)
-    × (reports n (markedDirty ∷ scenesNotified ∷ []) ≡ false)
-apart_from (ofCurrentHue enhanced) = (refl, refl, refl, refl, refl)
-apart_from ofEnhancedCurrentHue = (refl, refl, refl, refl, refl)
+    × (reports n (marked_dirty ∷ scenes_notified ∷ []) ≡ false)
+apart_from (of_current_hue enhanced) = (refl, refl, refl, refl, refl)
+apart_from of_enhanced_current_hue = (refl, refl, refl, refl, refl)
 
 no-saturation : (n : ℕ) → reports n (CurrentSaturation ∷ ColorMode ∷ EnhancedColorMode ∷ []) ≡ false →
-    reports n (markedDirty ∷ scenesNotified ∷ []) ≡ false →
+    reports n (marked_dirty ∷ scenes_notified ∷ []) ≡ false →
     (c : Color) (t : TargetSaturation) (first p clock : ℕ) (active : Bool) →
-    reports n (changeReported (saturationMoved c t first p clock).change active) ≡ false
+    reports n (change_reported (saturation_moved c t first p clock).change active) ≡ false
 no-saturation n none other c TargetSaturation.Keep first p clock active = refl
 no-saturation n none other c (TargetSaturation.To target) first p clock active =
     no-change-by n CurrentSaturation false other none
-    (same c.saturation (saturationNow first target p) (atEnd p)) active (due (atEnd p) c.stamps.saturation clock)
+    (same c.saturation (saturation_now first target p) (at_end p)) active (due (at_end p) c.stamps.saturation clock)
 
 -- nor is CurrentSaturation of a hue, which leaves its number and stamp
 no-hue-by : (enhanced : Bool) →
@@ -318,19 +318,19 @@ no-hue-by true = refl
 no-hue-by false = refl
 
 no-hue : (c : Color) (d : HueDelta) (first p : ℕ) (enhanced : Bool) (clock : ℕ) (active : Bool) →
-    reports CurrentSaturation (changeReported (hueMoved c d first p enhanced clock).change active) ≡ false
+    reports CurrentSaturation (change_reported (hue_moved c d first p enhanced clock).change active) ≡ false
 no-hue c HueDelta.Keep first p enhanced clock active = refl
 no-hue c (HueDelta.By way) first p enhanced clock active =
     no-change-by CurrentSaturation CurrentHue enhanced refl (no-hue-by enhanced)
-    (same c.hue (hueNow first way p) (atEnd p)) active (due (atEnd p) c.stamps.hue clock)
+    (same c.hue (hue_now first way p) (at_end p)) active (due (at_end p) c.stamps.hue clock)
 
 hue-leaves-stamp : (c : Color) (d : HueDelta) (first p : ℕ) (enhanced : Bool) (clock : ℕ) →
-    ((hueMoved c d first p enhanced clock).color.saturation ≡ c.saturation)
-    × ((hueMoved c d first p enhanced clock).color.stamps.saturation ≡ c.stamps.saturation)
-unfolding hueSet
+    ((hue_moved c d first p enhanced clock).color.saturation ≡ c.saturation)
+    × ((hue_moved c d first p enhanced clock).color.stamps.saturation ≡ c.stamps.saturation)
+unfolding hue_set
 hue-leaves-stamp c HueDelta.Keep first p enhanced clock = (refl, refl)
 hue-leaves-stamp c (HueDelta.By way) first p enhanced clock =
-    let t : Bool = same c.hue (hueNow first way p) (atEnd p) in (
+    let t : Bool = same c.hue (hue_now first way p) (at_end p) in (
       cond_both (λ (x : Color). x.saturation ≡ c.saturation) t c _ (λ e. refl) (λ e. refl),
       cond_both
           (λ (x : Color). x.stamps.saturation ≡ c.stamps.saturation) t c _ (λ e. refl) (λ e. refl),
@@ -338,7 +338,7 @@ hue-leaves-stamp c (HueDelta.By way) first p enhanced clock =
 
 module _ (l : Lamp) (clock : ℕ) (accepted : cause l (Call.Step clock) ≡ 0) where
   abbrev on : Lamp
-  on = atClock l clock
+  on = at_clock l clock
 
   answer-is : (r : Running) → l.running ≡ r → answer l (Call.Step clock) ≡ done (stepped on r)
   answer-is r e = granted-is l (Call.Step clock) accepted ∙ ap (λ (x : Running). done (stepped on x)) e
@@ -355,13 +355,13 @@ module _ (l : Lamp) (clock : ℕ) (accepted : cause l (Call.Step clock) ≡ 0) w
   -- a pass of the hue alone, which does not end
   hue-alone : (enhanced : Bool) (new : ℕ) (e : Effect) → answer l (Call.Step clock) ≡ done e → e.lamp.color.hue ≡ new →
       not (runs e.lamp.running) ≡ false →
-      e.reported ≡ hueReported l.color new false enhanced clock l.looping.active ++ (deviceHueSaturation ∷ []) →
+      e.reported ≡ hue_reported l.color new false enhanced clock l.looping.active ++ (device_hue_saturation ∷ []) →
       (n : ℕ) → HueNotice n enhanced → Reported n (λ c. c.hue) (λ c. c.stamps.hue) l clock (answer l (Call.Step clock))
   hue-alone enhanced new e is set over list n h =
       let (z, device, time, others, dirty) = apart_from h in
       reported-by n (λ c. c.hue) (λ c. c.stamps.hue) new false e is set over z
       (ap (reports n) list
-      ∙ but-for n (hueReported l.color new false enhanced clock l.looping.active) (deviceHueSaturation ∷ []) device
+      ∙ but-for n (hue_reported l.color new false enhanced clock l.looping.active) (device_hue_saturation ∷ []) device
       ∙ hue-change-reported l.color new false clock l.looping.active h)
 
   -- CurrentHue, and in an enhanced move EnhancedCurrentHue: of a move to a hue, of a move at a rate and of the loop
@@ -369,110 +369,110 @@ module _ (l : Lamp) (clock : ℕ) (accepted : cause l (Call.Step clock) ≡ 0) w
       run.task.delta ≡ HueDelta.By way →
       (n : ℕ) → HueNotice n run.task.enhanced →
       Reported n (λ c. c.hue) (λ c. c.stamps.hue) l clock (answer l (Call.Step clock))
-  unfolding stepped hueSaturationMoved timed
+  unfolding stepped hue_saturation_moved timed
   hue-to-reported run way e d n h =
-      let p : ℕ = permilleOf (clock - run.start) run.task.ms in
+      let p : ℕ = permille_of (clock - run.start) run.task.ms in
       let is = answer-is (Running.HueSaturationMoveTo run) e in
       let active : Bool = l.looping.active in
-      let hued : Color = (hueMoved l.color run.task.delta run.hue p run.task.enhanced clock).color in
-      let passed : Passed = hueSaturationPassed (foundIn on) run p in
-      let saturations : List ℕ = changeReported passed.second active in
+      let hued : Color = (hue_moved l.color run.task.delta run.hue p run.task.enhanced clock).color in
+      let passed : Passed = hue_saturation_passed (found_in on) run p in
+      let saturations : List ℕ = change_reported passed.second active in
       let (z, device, time, others, dirty) = apart_from h in
-      reported-by n (λ c. c.hue) (λ c. c.stamps.hue) (hueNow run.hue way p) (atEnd p)
+      reported-by n (λ c. c.hue) (λ c. c.stamps.hue) (hue_now run.hue way p) (at_end p)
       (stepped on (Running.HueSaturationMoveTo run)) is
       (sym (ap (λ (a : Answer). a.lamp.color.hue) is) ∙ (rw d at (step-shows l clock accepted run e).hue))
-      (ended_by (atEnd p) (Running.HueSaturationMoveTo run) refl) z
-      (but-for n (changeReported passed.first active) (reportedBehind passed active)
-      (but-for n (saturations ++ (deviceHueSaturation ∷ [])) (only passed.time RemainingTime) (no-time n time passed.time)
-      ∙ but-for n saturations (deviceHueSaturation ∷ []) device
+      (ended_by (at_end p) (Running.HueSaturationMoveTo run) refl) z
+      (but-for n (change_reported passed.first active) (reported_behind passed active)
+      (but-for n (saturations ++ (device_hue_saturation ∷ [])) (only passed.time RemainingTime) (no-time n time passed.time)
+      ∙ but-for n saturations (device_hue_saturation ∷ []) device
       ∙ no-saturation n others dirty hued run.task.saturation run.saturation p clock active)
-      ∙ ap (λ (x : HueDelta). reports n (changeReported (hueMoved l.color x run.hue p run.task.enhanced clock).change active)) d
-      ∙ hue-change-reported l.color (hueNow run.hue way p) (atEnd p) clock active h)
+      ∙ ap (λ (x : HueDelta). reports n (change_reported (hue_moved l.color x run.hue p run.task.enhanced clock).change active)) d
+      ∙ hue-change-reported l.color (hue_now run.hue way p) (at_end p) clock active h)
 
   pub hue-move-reported : (run : HueRun) → l.running ≡ Running.HueMove run →
       (n : ℕ) → HueNotice n run.task.enhanced →
       Reported n (λ c. c.hue) (λ c. c.stamps.hue) l clock (answer l (Call.Step clock))
-  unfolding stepped huePassed
+  unfolding stepped hue_passed
   hue-move-reported run e n h =
-      let now : ℕ = movedHue run.hue (deltaAtRate (signed run.task.direction run.task.rate) (clock - run.start)) in
+      let now : ℕ = moved_hue run.hue (delta_at_rate (signed run.task.direction run.task.rate) (clock - run.start)) in
       hue-alone run.task.enhanced now (stepped on (Running.HueMove run)) (answer-is (Running.HueMove run) e)
       (hue-is-set l.color now false run.task.enhanced clock) refl refl n h
 
-  pub loop-reported : (run : ColorLoopRun) → l.running ≡ loopRunning run →
+  pub loop-reported : (run : ColorLoopRun) → l.running ≡ loop_running run →
       (n : ℕ) → HueNotice n true → Reported n (λ c. c.hue) (λ c. c.stamps.hue) l clock (answer l (Call.Step clock))
-  unfolding stepped loopPassed
+  unfolding stepped loop_passed
   loop-reported run e n h =
-      let now : ℕ = movedHue run.hue (loopDelta run.task.direction (clock - run.start) run.task.seconds) in
-      hue-alone true now (stepped on (loopRunning run)) (answer-is (loopRunning run) e)
+      let now : ℕ = moved_hue run.hue (loop_delta run.task.direction (clock - run.start) run.task.seconds) in
+      hue-alone true now (stepped on (loop_running run)) (answer-is (loop_running run) e)
       (hue-is-set l.color now false true clock) refl refl n h
 
   -- CurrentSaturation: of a move to a saturation, and of a move at a rate
   pub saturation-to-reported : (run : HueSaturationRun) (target : ℕ) → l.running ≡ Running.HueSaturationMoveTo run →
       run.task.saturation ≡ TargetSaturation.To target →
       Reported CurrentSaturation (λ c. c.saturation) (λ c. c.stamps.saturation) l clock (answer l (Call.Step clock))
-  unfolding stepped hueSaturationMoved timed
+  unfolding stepped hue_saturation_moved timed
   saturation-to-reported run target e t =
-      let p : ℕ = permilleOf (clock - run.start) run.task.ms in
+      let p : ℕ = permille_of (clock - run.start) run.task.ms in
       let n : ℕ = CurrentSaturation in
       let active : Bool = l.looping.active in
-      let now : ℕ = saturationNow run.saturation target p in
-      let hued : Color = (hueMoved l.color run.task.delta run.hue p run.task.enhanced clock).color in
-      let passed : Passed = hueSaturationPassed (foundIn on) run p in
-      let saturations : List ℕ = changeReported passed.second active in
+      let now : ℕ = saturation_now run.saturation target p in
+      let hued : Color = (hue_moved l.color run.task.delta run.hue p run.task.enhanced clock).color in
+      let passed : Passed = hue_saturation_passed (found_in on) run p in
+      let saturations : List ℕ = change_reported passed.second active in
       let (kept, stamp) = hue-leaves-stamp l.color run.task.delta run.hue p run.task.enhanced clock in
-      reported-by n (λ c. c.saturation) (λ c. c.stamps.saturation) now (atEnd p)
+      reported-by n (λ c. c.saturation) (λ c. c.stamps.saturation) now (at_end p)
       (stepped on (Running.HueSaturationMoveTo run)) (answer-is (Running.HueSaturationMoveTo run) e)
-      (ap (λ (x : TargetSaturation). (saturationMoved hued x run.saturation p clock).color.saturation) t
-      ∙ saturation-is-set hued now (atEnd p) clock)
-      (ended_by (atEnd p) (Running.HueSaturationMoveTo run) refl) refl
-      (reports-both n (changeReported passed.first active) (reportedBehind passed active)
-      ∙ ap (λ (b : Bool). b || reports n (reportedBehind passed active))
+      (ap (λ (x : TargetSaturation). (saturation_moved hued x run.saturation p clock).color.saturation) t
+      ∙ saturation-is-set hued now (at_end p) clock)
+      (ended_by (at_end p) (Running.HueSaturationMoveTo run) refl) refl
+      (reports-both n (change_reported passed.first active) (reported_behind passed active)
+      ∙ ap (λ (b : Bool). b || reports n (reported_behind passed active))
       (no-hue l.color run.task.delta run.hue p run.task.enhanced clock active)
-      ∙ but-for n (saturations ++ (deviceHueSaturation ∷ [])) (only passed.time RemainingTime) (no-time n refl passed.time)
-      ∙ but-for n saturations (deviceHueSaturation ∷ []) refl
-      ∙ ap (λ (x : TargetSaturation). reports n (changeReported (saturationMoved hued x run.saturation p clock).change active)) t
-      ∙ saturation-change-reported hued now (atEnd p) clock active
-      ∙ ap (λ (x : ℕ). not (same x now (atEnd p)) && due (atEnd p) hued.stamps.saturation clock) kept
-      ∙ ap (λ (x : ℕ). not (same l.color.saturation now (atEnd p)) && due (atEnd p) x clock) stamp)
+      ∙ but-for n (saturations ++ (device_hue_saturation ∷ [])) (only passed.time RemainingTime) (no-time n refl passed.time)
+      ∙ but-for n saturations (device_hue_saturation ∷ []) refl
+      ∙ ap (λ (x : TargetSaturation). reports n (change_reported (saturation_moved hued x run.saturation p clock).change active)) t
+      ∙ saturation-change-reported hued now (at_end p) clock active
+      ∙ ap (λ (x : ℕ). not (same x now (at_end p)) && due (at_end p) hued.stamps.saturation clock) kept
+      ∙ ap (λ (x : ℕ). not (same l.color.saturation now (at_end p)) && due (at_end p) x clock) stamp)
 
   pub saturation-move-reported : (run : SaturationRun) → l.running ≡ Running.SaturationMove run →
       Reported CurrentSaturation (λ c. c.saturation) (λ c. c.stamps.saturation) l clock (answer l (Call.Step clock))
-  unfolding stepped saturationPassed
+  unfolding stepped saturation_passed
   saturation-move-reported run e =
-      let now : ℕ = clampedSum 0 saturationLimit run.saturation (deltaAtRate (signed run.task.direction run.task.rate) (clock - run.start)) in
-      let end : Bool = saturationDone run.task.direction now in
+      let now : ℕ = clamped_sum 0 saturation_limit run.saturation (delta_at_rate (signed run.task.direction run.task.rate) (clock - run.start)) in
+      let end : Bool = saturation_done run.task.direction now in
       let active : Bool = l.looping.active in
       reported-by CurrentSaturation (λ c. c.saturation) (λ c. c.stamps.saturation) now end
       (stepped on (Running.SaturationMove run)) (answer-is (Running.SaturationMove run) e)
       (saturation-is-set l.color now end clock) (ended_by end (Running.SaturationMove run) refl) refl
-      (but-for CurrentSaturation (saturationReported l.color now end clock active) (deviceHueSaturation ∷ []) refl
+      (but-for CurrentSaturation (saturation_reported l.color now end clock active) (device_hue_saturation ∷ []) refl
       ∙ saturation-change-reported l.color now end clock active)
 
   -- ColorTemperatureMireds: of a move to mireds, and of a move at a rate
   pub mireds-to-reported : (run : ColorTemperatureToRun) → l.running ≡ Running.ColorTemperatureMoveTo run →
       Reported ColorTemperatureMireds (λ c. c.mireds) (λ c. c.stamps.mireds) l clock (answer l (Call.Step clock))
-  unfolding stepped temperatureToMoved timed
+  unfolding stepped temperature_to_moved timed
   mireds-to-reported run e =
-      let p : ℕ = permilleOf (clock - run.start) run.task.ms in
-      let now : ℕ = miredsNow l.bounds run.mireds run.task.target p in
+      let p : ℕ = permille_of (clock - run.start) run.task.ms in
+      let now : ℕ = mireds_now l.bounds run.mireds run.task.target p in
       let active : Bool = l.looping.active in
-      let left : Bool = (temperatureToPassed (foundIn on) run p).time in
-      reported-by ColorTemperatureMireds (λ c. c.mireds) (λ c. c.stamps.mireds) now (atEnd p)
+      let left : Bool = (temperature_to_passed (found_in on) run p).time in
+      reported-by ColorTemperatureMireds (λ c. c.mireds) (λ c. c.stamps.mireds) now (at_end p)
       (stepped on (Running.ColorTemperatureMoveTo run)) (answer-is (Running.ColorTemperatureMoveTo run) e)
-      (mireds-is-set l.color now (atEnd p) clock) (ended_by (atEnd p) (Running.ColorTemperatureMoveTo run) refl) refl
-      (but-for ColorTemperatureMireds (miredsReported l.color now (atEnd p) clock active)
-      ((deviceMireds ∷ []) ++ only left RemainingTime) (no-time ColorTemperatureMireds refl left)
-      ∙ mireds-change-reported l.color now (atEnd p) clock active)
+      (mireds-is-set l.color now (at_end p) clock) (ended_by (at_end p) (Running.ColorTemperatureMoveTo run) refl) refl
+      (but-for ColorTemperatureMireds (mireds_reported l.color now (at_end p) clock active)
+      ((device_mireds ∷ []) ++ only left RemainingTime) (no-time ColorTemperatureMireds refl left)
+      ∙ mireds-change-reported l.color now (at_end p) clock active)
 
   pub mireds-move-reported : (run : ColorTemperatureRun) → l.running ≡ Running.ColorTemperatureMove run →
       Reported ColorTemperatureMireds (λ c. c.mireds) (λ c. c.stamps.mireds) l clock (answer l (Call.Step clock))
-  unfolding stepped temperaturePassed
+  unfolding stepped temperature_passed
   mireds-move-reported run e =
-      let now : ℕ = clampedSum run.lo run.hi run.mireds (deltaAtRate run.rate (clock - run.start)) in
-      let end : Bool = miredsDone run.rate run.lo run.hi now in
+      let now : ℕ = clamped_sum run.lo run.hi run.mireds (delta_at_rate run.rate (clock - run.start)) in
+      let end : Bool = mireds_done run.rate run.lo run.hi now in
       let active : Bool = l.looping.active in
       reported-by ColorTemperatureMireds (λ c. c.mireds) (λ c. c.stamps.mireds) now end
       (stepped on (Running.ColorTemperatureMove run)) (answer-is (Running.ColorTemperatureMove run) e)
       (mireds-is-set l.color now end clock) (ended_by end (Running.ColorTemperatureMove run) refl) refl
-      (but-for ColorTemperatureMireds (miredsReported l.color now end clock active) (deviceMireds ∷ []) refl
+      (but-for ColorTemperatureMireds (mireds_reported l.color now end clock active) (device_mireds ∷ []) refl
       ∙ mireds-change-reported l.color now end clock active)

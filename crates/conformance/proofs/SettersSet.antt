@@ -6,7 +6,7 @@ use lib.Dec.{eqb}
 use borrow.Author.Tests.{eqb-true}
 use Rattle.matter.proofs.Laws.{and_left, cond_both}
 use Rattle.color.specs.declared.Color.{Color}
-use Rattle.color.specs.Setters.{same, hueSet, saturationSet, miredsSet}
+use Rattle.color.specs.Setters.{same, hue_set, saturation_set, mireds_set}
 
 module _ (f : Color → ℕ) (c d : Color) where
   set-by : (new : ℕ) (end : Bool) → f d ≡ new → f (cond (same (f c) new end) c d) ≡ new
@@ -18,37 +18,37 @@ module _ (f : Color → ℕ) (c d : Color) where
   left_by : (t : Bool) → f d ≡ f c → f (cond t c d) ≡ f c
   left_by t e = cond_both (λ (x : Color). f x ≡ f c) t c d (λ s. refl) (λ s. e)
 
-pub hue-is-set : (c : Color) (new : ℕ) (end enhanced : Bool) (clock : ℕ) → (hueSet c new end enhanced clock).hue ≡ new
-unfolding hueSet
+pub hue-is-set : (c : Color) (new : ℕ) (end enhanced : Bool) (clock : ℕ) → (hue_set c new end enhanced clock).hue ≡ new
+unfolding hue_set
 hue-is-set c new end enhanced clock = set-by (λ x. x.hue) c _ new end refl
 
 pub hue-leaves : (c : Color) (new : ℕ) (end enhanced : Bool) (clock : ℕ) →
-    ((hueSet c new end enhanced clock).saturation ≡ c.saturation)
-    × ((hueSet c new end enhanced clock).mireds ≡ c.mireds)
-unfolding hueSet
+    ((hue_set c new end enhanced clock).saturation ≡ c.saturation)
+    × ((hue_set c new end enhanced clock).mireds ≡ c.mireds)
+unfolding hue_set
 hue-leaves c new end enhanced clock =
     let t : Bool = same c.hue new end in
     (left_by (λ x. x.saturation) c _ t refl, left_by (λ x. x.mireds) c _ t refl)
 
 module _ (c : Color) (new : ℕ) (end : Bool) (clock : ℕ) where
-  pub saturation-is-set : (saturationSet c new end clock).saturation ≡ new
-  unfolding saturationSet
+  pub saturation-is-set : (saturation_set c new end clock).saturation ≡ new
+  unfolding saturation_set
   saturation-is-set = set-by (λ x. x.saturation) c _ new end refl
 
-  pub saturation-leaves : ((saturationSet c new end clock).hue ≡ c.hue)
-      × ((saturationSet c new end clock).mireds ≡ c.mireds)
-  unfolding saturationSet
+  pub saturation-leaves : ((saturation_set c new end clock).hue ≡ c.hue)
+      × ((saturation_set c new end clock).mireds ≡ c.mireds)
+  unfolding saturation_set
   saturation-leaves =
       let t : Bool = same c.saturation new end in
       (left_by (λ x. x.hue) c _ t refl, left_by (λ x. x.mireds) c _ t refl)
 
-  pub mireds-is-set : (miredsSet c new end clock).mireds ≡ new
-  unfolding miredsSet
+  pub mireds-is-set : (mireds_set c new end clock).mireds ≡ new
+  unfolding mireds_set
   mireds-is-set = set-by (λ x. x.mireds) c _ new end refl
 
-  pub mireds-leaves : ((miredsSet c new end clock).hue ≡ c.hue)
-      × ((miredsSet c new end clock).saturation ≡ c.saturation)
-  unfolding miredsSet
+  pub mireds-leaves : ((mireds_set c new end clock).hue ≡ c.hue)
+      × ((mireds_set c new end clock).saturation ≡ c.saturation)
+  unfolding mireds_set
   mireds-leaves =
       let t : Bool = same c.mireds new end in
       (left_by (λ x. x.hue) c _ t refl, left_by (λ x. x.saturation) c _ t refl)

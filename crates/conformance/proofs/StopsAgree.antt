@@ -13,43 +13,43 @@ use Rattle.tasks.specs.declared.GivenTask.{GivenTask}
 use Rattle.tasks.specs.declared.HueSaturationMoveTo.{HueSaturationMoveTo}
 use Rattle.tasks.specs.declared.Running.{Running}
 use Rattle.tasks.specs.declared.Task.{Task}
-use Rattle.tasks.specs.Runs.{runs, loopRunning}
+use Rattle.tasks.specs.Runs.{runs, loop_running}
 use Rattle.lamp.specs.declared.Answer.{Answer}
 use Rattle.lamp.specs.declared.Lamp.{Lamp}
-use Rattle.lamp.specs.Answers.{atClock}
-use Rattle.lamp.specs.Calls.{haltAnswer, started, hueSaturationStart, startPermille, noHueDelta, noSaturationDelta}
-use Rattle.lamp.specs.Passes.{unless, atEnd, hueSaturationMoved, timed}
+use Rattle.lamp.specs.Answers.{at_clock}
+use Rattle.lamp.specs.Calls.{halt_answer, started, hue_saturation_start, start_permille, no_hue_delta, no_saturation_delta}
+use Rattle.lamp.specs.Passes.{unless, at_end, hue_saturation_moved, timed}
 use Rattle.lamp.specs.declared.Call.{Call}
 use Rattle.commands.specs.Answers.{allowed, cause, answer}
-use Rattle.commands.specs.Commands.{commandEffect}
+use Rattle.commands.specs.Commands.{command_effect}
 use Rattle.commands.proofs.Kept.{answer-both}
-use Rattle.conformance.specs.Stops.{Terminated, NoTimeLeft, turnsAfterStop, loopTurns}
+use Rattle.conformance.specs.Stops.{Terminated, NoTimeLeft, turns_after_stop, loop_turns}
 
 -- StopMoveStep that may execute asks for a stop (every Stop mode does: `options-passed-by` in OptionsAgree)
-pub stop-asked : (l : Lamp) (options : CommandOptions) (onOff : OnOff) (clock : ℕ) →
-    allowed l (request Command.StopMoveStep options) onOff ≡ true →
-    cause l (Call.Command (request Command.StopMoveStep options) onOff clock) ≡ 0 →
-    (answer l (Call.Command (request Command.StopMoveStep options) onOff clock)).task ≡ GivenTask.Given Task.Stop
-unfolding commandEffect
-stop-asked l options onOff clock mayExecute accepted =
+pub stop-asked : (l : Lamp) (options : CommandOptions) (on_off : OnOff) (clock : ℕ) →
+    allowed l (request Command.StopMoveStep options) on_off ≡ true →
+    cause l (Call.Command (request Command.StopMoveStep options) on_off clock) ≡ 0 →
+    (answer l (Call.Command (request Command.StopMoveStep options) on_off clock)).task ≡ GivenTask.Given Task.Stop
+unfolding command_effect
+stop-asked l options on_off clock may_execute accepted =
     answer-both l (λ (a : Answer). a.task ≡ GivenTask.Given Task.Stop)
-    (Call.Command (request Command.StopMoveStep options) onOff clock)
-    (λ z. rw mayExecute) (λ n. absurd (n accepted))
+    (Call.Command (request Command.StopMoveStep options) on_off clock)
+    (λ z. rw may_execute) (λ n. absurd (n accepted))
 
 -- which is answered by a halt
 module _ (l : Lamp) (clock : ℕ) (accepted : cause l (Call.Halt clock) ≡ 0) where
   pub halt-terminates : Terminated l (answer l (Call.Halt clock)).lamp
-  unfolding answer haltAnswer cause
+  unfolding answer halt_answer cause
   halt-terminates = record { still = rw accepted; hue = rw accepted; saturation = rw accepted; mireds = rw accepted }
 
   -- "If moving, stop, else ignore the command": where nothing moves, a halt changes nothing but the clock
-  pub halt-ignored : l.running ≡ Running.Idle → (answer l (Call.Halt clock)).lamp ≡ atClock l clock
-  unfolding answer haltAnswer cause
+  pub halt-ignored : l.running ≡ Running.Idle → (answer l (Call.Halt clock)).lamp ≡ at_clock l clock
+  unfolding answer halt_answer cause
   halt-ignored e = rw (accepted, ← e)
 
   -- the remaining time stays as it was, where the text has it 0
   pub halt-keeps-time : (answer l (Call.Halt clock)).lamp.remaining ≡ l.remaining
-  unfolding answer haltAnswer cause
+  unfolding answer halt_answer cause
   halt-keeps-time = rw accepted
 
   -- so it is the text's exactly where it was 0
@@ -66,7 +66,7 @@ module _ (l : Lamp) (clock : ℕ) (accepted : cause l (Call.Halt clock) ≡ 0) w
 -- ---- an active colour loop
 
 -- what does not run does not turn
-no-turn : (r : Running) → runs r ≡ false → loopTurns r ≡ false
+no-turn : (r : Running) → runs r ≡ false → loop_turns r ≡ false
 no-turn Running.Idle e = refl
 no-turn (Running.HueSaturationMoveTo run) e = refl
 no-turn (Running.HueMove run) e = refl
@@ -76,47 +76,47 @@ no-turn (Running.ColorTemperatureMove run) e = refl
 no-turn (Running.ColorLoop direction hue seconds start) e = absurd (true≢false e)
 
 -- the lamp after StopMoveStep and the halt that answers it
-abbrev pub afterStop : Lamp → CommandOptions → OnOff → ℕ → ℕ → Lamp
-afterStop l options onOff clock later =
-    (answer (answer l (Call.Command (request Command.StopMoveStep options) onOff clock)).lamp (Call.Halt later)).lamp
+abbrev pub after_stop : Lamp → CommandOptions → OnOff → ℕ → ℕ → Lamp
+after_stop l options on_off clock later =
+    (answer (answer l (Call.Command (request Command.StopMoveStep options) on_off clock)).lamp (Call.Halt later)).lamp
 
-module _ (l : Lamp) (options : CommandOptions) (onOff : OnOff) (clock later : ℕ)
-    (mayExecute : allowed l (request Command.StopMoveStep options) onOff ≡ true)
-    (accepted : cause l (Call.Command (request Command.StopMoveStep options) onOff clock) ≡ 0)
-    (halted : cause (answer l (Call.Command (request Command.StopMoveStep options) onOff clock)).lamp (Call.Halt later) ≡ 0) where
-  stopped : loopTurns (afterStop l options onOff clock later).running ≡ false
-  stopped = no-turn (afterStop l options onOff clock later).running (halt-terminates _ later halted).still
+module _ (l : Lamp) (options : CommandOptions) (on_off : OnOff) (clock later : ℕ)
+    (may_execute : allowed l (request Command.StopMoveStep options) on_off ≡ true)
+    (accepted : cause l (Call.Command (request Command.StopMoveStep options) on_off clock) ≡ 0)
+    (halted : cause (answer l (Call.Command (request Command.StopMoveStep options) on_off clock)).lamp (Call.Halt later) ≡ 0) where
+  stopped : loop_turns (after_stop l options on_off clock later).running ≡ false
+  stopped = no-turn (after_stop l options on_off clock later).running (halt-terminates _ later halted).still
 
   -- a loop that is not active turns no more, in both
   pub stop-agrees : l.looping.active ≡ false →
-      loopTurns (afterStop l options onOff clock later).running
-      ≡ turnsAfterStop l.looping.active (loopTurns l.running)
-  stop-agrees e = stopped ∙ sym (ap (λ (active : Bool). turnsAfterStop active (loopTurns l.running)) e)
+      loop_turns (after_stop l options on_off clock later).running
+      ≡ turns_after_stop l.looping.active (loop_turns l.running)
+  stop-agrees e = stopped ∙ sym (ap (λ (active : Bool). turns_after_stop active (loop_turns l.running)) e)
 
   -- one that is active turns on in the text; here a stop is asked for all the same, and with it the loop turns no more: any lamp whose
   -- loop is active and turns
-  pub stop-on-loop-differs : l.looping.active ≡ true → loopTurns l.running ≡ true →
-      (turnsAfterStop l.looping.active (loopTurns l.running) ≡ true)
-      × ((answer l (Call.Command (request Command.StopMoveStep options) onOff clock)).task ≡ GivenTask.Given Task.Stop)
-      × (loopTurns (afterStop l options onOff clock later).running ≡ false)
+  pub stop-on-loop-differs : l.looping.active ≡ true → loop_turns l.running ≡ true →
+      (turns_after_stop l.looping.active (loop_turns l.running) ≡ true)
+      × ((answer l (Call.Command (request Command.StopMoveStep options) on_off clock)).task ≡ GivenTask.Given Task.Stop)
+      × (loop_turns (after_stop l options on_off clock later).running ≡ false)
   stop-on-loop-differs e t = (
-    ap (λ (active : Bool). turnsAfterStop active (loopTurns l.running)) e ∙ t,
-    stop-asked l options onOff clock mayExecute accepted,
+    ap (λ (active : Bool). turns_after_stop active (loop_turns l.running)) e ∙ t,
+    stop-asked l options on_off clock may_execute accepted,
     stopped,
   )
 
 -- a start of a move to a hue takes the place of a loop that turns, which the text has turn on; and the loop's attribute says that it
 -- is active still
-idle-or : (t : Bool) (running : Running) → loopTurns running ≡ false → loopTurns (unless t running) ≡ false
+idle-or : (t : Bool) (running : Running) → loop_turns running ≡ false → loop_turns (unless t running) ≡ false
 idle-or true running e = refl
 idle-or false running e = e
 
-pub loop-replaced : (l : Lamp) (task : HueSaturationMoveTo) (run : ColorLoopRun) → l.running ≡ loopRunning run → (loopTurns l.running ≡ true) × (loopTurns (started l (Task.HueSaturationMoveTo task)).lamp.running ≡ false) × ((started l (Task.HueSaturationMoveTo task)).lamp.looping ≡ l.looping)
-unfolding started hueSaturationStart hueSaturationMoved timed
+pub loop-replaced : (l : Lamp) (task : HueSaturationMoveTo) (run : ColorLoopRun) → l.running ≡ loop_running run → (loop_turns l.running ≡ true) × (loop_turns (started l (Task.HueSaturationMoveTo task)).lamp.running ≡ false) × ((started l (Task.HueSaturationMoveTo task)).lamp.looping ≡ l.looping)
+unfolding started hue_saturation_start hue_saturation_moved timed
 loop-replaced l task run e = (
   rw e,
   idle-or
-      (atEnd (startPermille task.ms (noHueDelta task.delta && noSaturationDelta task.saturation l.color.saturation)))
+      (at_end (start_permille task.ms (no_hue_delta task.delta && no_saturation_delta task.saturation l.color.saturation)))
       (Running.HueSaturationMoveTo (record { start = l.clock; hue = l.color.hue; saturation = l.color.saturation; task = task }))
       refl,
   refl,

@@ -10,19 +10,19 @@ use lib.IntN.{ℤ, pos, negsuc, neg_ℤ, nat_abs, ◌-ℤ◌}
 use borrow.Author.Tests.{ltb-true, ltb-false, leb-true, leb-false, le-leb, lt-leb}
 use Rattle.matter.specs.declared.enums.StepModeEnum.{StepModeEnum}
 use Rattle.matter.proofs.Laws.{cond_both}
-use Rattle.hue.specs.Hue.{movedHue}
+use Rattle.hue.specs.Hue.{moved_hue}
 use Rattle.integers.proofs.Sizes.{abs_neg}
-use Rattle.progress.specs.Progress.{permilleOf, part_of, clampedSum}
+use Rattle.progress.specs.Progress.{permille_of, part_of, clamped_sum}
 use Rattle.progress.proofs.Laws.{permille-is, permille-full, permille-short, part-down, part-size, part-within, part-whole}
-use Rattle.commands.specs.Commands.{stepDelta}
+use Rattle.commands.specs.Commands.{step_delta}
 use Rattle.conformance.specs.Limits.{away}
-use Rattle.conformance.specs.Steps.{enhancedHueMaximum, hueStepTo}
+use Rattle.conformance.specs.Steps.{enhanced_hue_maximum, hue_step_to}
 use Rattle.conformance.proofs.StepsAgree.{within-up, within-down, hue-step-agrees}
-use Rattle.conformance.specs.Transition.{travelled, onLine, line_at}
+use Rattle.conformance.specs.Transition.{travelled, on_line, line_at}
 
 -- the size of the port's part, so long after the start
 abbrev pub gone : ℤ → ℕ → ℕ → ℕ
-gone way elapsed time = nat_abs (part_of way (permilleOf elapsed time))
+gone way elapsed time = nat_abs (part_of way (permille_of elapsed time))
 
 -- ---- the arithmetic: s the way, e the time elapsed, t the time, p the thousandths, g the part
 
@@ -95,7 +95,7 @@ module _ (way : ℤ) (time : ℕ) where
 
   module _ (elapsed : ℕ) (before : elapsed < time) where
     -- before the time, the quotients
-    permille-before : permilleOf elapsed time ≡ elapsed * 1000 / time
+    permille-before : permille_of elapsed time ≡ elapsed * 1000 / time
     permille-before = omega (arith, permille-is elapsed time (omega arith), permille-short elapsed time before)
 
     travelled-before : travelled (nat_abs way) elapsed time ≡ nat_abs way * elapsed / time
@@ -103,7 +103,7 @@ module _ (way : ℤ) (time : ℕ) where
     travelled-before = rw (lt-leb time elapsed before)
 
     gone-before : gone way elapsed time ≡ nat_abs way * (elapsed * 1000 / time) / 1000
-    gone-before = part-size way (permilleOf elapsed time) ∙ ap (λ (p : ℕ). nat_abs way * p / 1000) permille-before
+    gone-before = part-size way (permille_of elapsed time) ∙ ap (λ (p : ℕ). nat_abs way * p / 1000) permille-before
 
     -- never ahead
     pub transition-not-ahead : gone way elapsed time ≤ travelled (nat_abs way) elapsed time
@@ -135,25 +135,25 @@ travelled-exact size elapsed time h =
 
 -- the smallest way that differs: 3 units in 300 ms, after 100 ms
 pub transition-differs : (gone (pos 3) 100 300 ≡ 0) × (travelled 3 100 300 ≡ 1)
-unfolding permilleOf travelled
+unfolding permille_of travelled
 transition-differs = (refl, refl)
 
 -- ---- the hue: so many places up or down on the circle, one by one
 
 pub circle-agrees : (mode : StepModeEnum) (size elapsed time hue : ℕ) → hue < 65536 →
-    movedHue hue (part_of (stepDelta mode size) (permilleOf elapsed time))
-    ≡ hueStepTo mode enhancedHueMaximum (gone (stepDelta mode size) elapsed time) hue
+    moved_hue hue (part_of (step_delta mode size) (permille_of elapsed time))
+    ≡ hue_step_to mode enhanced_hue_maximum (gone (step_delta mode size) elapsed time) hue
 circle-agrees StepModeEnum.Up size elapsed time hue h =
     hue-step-agrees StepModeEnum.Up hue (gone (pos size) elapsed time) h
 circle-agrees StepModeEnum.Down size elapsed time hue h =
-    let part : ℕ = size * permilleOf elapsed time / 1000 in
-    let down : part_of (neg_ℤ (pos size)) (permilleOf elapsed time) ≡ neg_ℤ (pos part) = part-down size (permilleOf elapsed time) in
-    ap (movedHue hue) down ∙ hue-step-agrees StepModeEnum.Down hue part h
-    ∙ sym (ap (λ (z : ℤ). hueStepTo StepModeEnum.Down enhancedHueMaximum (nat_abs z) hue) down
-    ∙ ap (λ (n : ℕ). hueStepTo StepModeEnum.Down enhancedHueMaximum n hue) (abs_neg (pos part)))
+    let part : ℕ = size * permille_of elapsed time / 1000 in
+    let down : part_of (neg_ℤ (pos size)) (permille_of elapsed time) ≡ neg_ℤ (pos part) = part-down size (permille_of elapsed time) in
+    ap (moved_hue hue) down ∙ hue-step-agrees StepModeEnum.Down hue part h
+    ∙ sym (ap (λ (z : ℤ). hue_step_to StepModeEnum.Down enhanced_hue_maximum (nat_abs z) hue) down
+    ∙ ap (λ (n : ℕ). hue_step_to StepModeEnum.Down enhanced_hue_maximum n hue) (abs_neg (pos part)))
 
 -- at the time and after it, the whole way
-pub way-ends : (way : ℤ) (elapsed time : ℕ) → time ≤ elapsed → part_of way (permilleOf elapsed time) ≡ way
+pub way-ends : (way : ℤ) (elapsed time : ℕ) → time ≤ elapsed → part_of way (permille_of elapsed time) ≡ way
 way-ends way elapsed time h = ap (part_of way) (permille-full elapsed time h) ∙ part-whole way
 
 -- ---- saturation and mireds: numbers on a line, clamped to their bounds
@@ -180,23 +180,23 @@ way_down (suc s) t h = down_by s t (ltb t (suc s)) refl h
 module _ (lo hi start target p : ℕ) (few : p ≤ 1000) where
   -- a number on its way to a target above it: the start and the part
   line-up : lo ≤ start → start ≤ target → target ≤ hi →
-      clampedSum lo hi start (part_of (pos target -ℤ pos start) p)
+      clamped_sum lo hi start (part_of (pos target -ℤ pos start) p)
       ≡ start + nat_abs (part_of (pos target -ℤ pos start) p)
   line-up low h high =
       let w : pos target -ℤ pos start ≡ pos (target - start) = way_up start target h in
       let k : (target - start) * p / 1000 ≤ target - start = part-within (pos (target - start)) p few in
-      ap (λ (z : ℤ). clampedSum lo hi start (part_of z p)) w
+      ap (λ (z : ℤ). clamped_sum lo hi start (part_of z p)) w
       ∙ within-up lo hi start ((target - start) * p / 1000) low ∙ omega arith
       ∙ sym (ap (λ (z : ℤ). start + nat_abs (part_of z p)) w)
 
   -- and to one below it: the start less the part
   line-down : lo ≤ target → target < start → start ≤ hi →
-      clampedSum lo hi start (part_of (pos target -ℤ pos start) p)
+      clamped_sum lo hi start (part_of (pos target -ℤ pos start) p)
       ≡ start - nat_abs (part_of (pos target -ℤ pos start) p)
   line-down low h high =
       let w : part_of (pos target -ℤ pos start) p ≡ neg_ℤ (pos ((start - target) * p / 1000)) = ap (λ (z : ℤ). part_of z p) (way_down start target h) ∙ part-down (start - target) p in
       let k : (start - target) * p / 1000 ≤ start - target = part-within (pos (start - target)) p few in
-      ap (clampedSum lo hi start) w ∙ within-down lo hi start ((start - target) * p / 1000) (omega arith) high
+      ap (clamped_sum lo hi start) w ∙ within-down lo hi start ((start - target) * p / 1000) (omega arith) high
       ∙ omega arith
       ∙ sym (ap (λ (z : ℤ). start - nat_abs z) w
       ∙ ap (λ (n : ℕ). start - n) (abs_neg (pos ((start - target) * p / 1000))))
@@ -220,7 +220,7 @@ module _ (start target p : ℕ) (few : p ≤ 1000) where
 module _ (lo hi start target p : ℕ) (few : p ≤ 1000)
     (low : lo ≤ start) (high : start ≤ hi) (above : lo ≤ target) (below : target ≤ hi) where
   line-by : (b : Bool) → leb start target ≡ b →
-      cond (leb 1000 p) target (clampedSum lo hi start (part_of (pos target -ℤ pos start) p))
+      cond (leb 1000 p) target (clamped_sum lo hi start (part_of (pos target -ℤ pos start) p))
       ≡ cond b (start + nat_abs (part_of (pos target -ℤ pos start) p))
       (start - nat_abs (part_of (pos target -ℤ pos start) p))
   line-by true e =
@@ -234,8 +234,8 @@ module _ (lo hi start target p : ℕ) (few : p ≤ 1000)
       (whole-down start target p few h)
       (λ e. line-down lo hi start target p few above h high)
 
-  pub line-is : cond (leb 1000 p) target (clampedSum lo hi start (part_of (pos target -ℤ pos start) p))
-      ≡ onLine start target (nat_abs (part_of (pos target -ℤ pos start) p))
+  pub line-is : cond (leb 1000 p) target (clamped_sum lo hi start (part_of (pos target -ℤ pos start) p))
+      ≡ on_line start target (nat_abs (part_of (pos target -ℤ pos start) p))
   line-is = line-by (leb start target) refl
 
 -- the size of the way on a line
@@ -260,8 +260,8 @@ module _ (from to : ℕ) where
   module _ (elapsed time : ℕ) where
     -- wherever the port's part is the text's (above), the number is
     pub line-agrees : gone (pos to -ℤ pos from) elapsed time ≡ travelled (nat_abs (pos to -ℤ pos from)) elapsed time →
-        onLine from to (gone (pos to -ℤ pos from) elapsed time) ≡ line_at from to elapsed time
-    line-agrees e = ap (onLine from to) (e ∙ ap (λ (n : ℕ). travelled n elapsed time) way-size)
+        on_line from to (gone (pos to -ℤ pos from) elapsed time) ≡ line_at from to elapsed time
+    line-agrees e = ap (on_line from to) (e ∙ ap (λ (n : ℕ). travelled n elapsed time) way-size)
 
     -- and at the time and after it the text's is the number moved to
     pub line-arrives : time ≤ elapsed → line_at from to elapsed time ≡ to

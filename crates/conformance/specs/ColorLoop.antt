@@ -8,40 +8,40 @@ use Rattle.conformance.specs.Options.{bit}
 
 -- the attributes that the command writes
 pub record LoopAttributes : Type 0 where
-  pub colorLoopActive : Bool
-  pub colorLoopDirection : ColorLoopDirectionEnum
-  pub colorLoopTime : ℕ
-  pub colorLoopStartEnhancedHue : ℕ
-  pub colorLoopStoredEnhancedHue : ℕ
-  pub enhancedCurrentHue : ℕ
+  pub color_loop_active : Bool
+  pub color_loop_direction : ColorLoopDirectionEnum
+  pub color_loop_time : ℕ
+  pub color_loop_start_enhanced_hue : ℕ
+  pub color_loop_stored_enhanced_hue : ℕ
+  pub enhanced_current_hue : ℕ
 
 -- "UpdateFlags": bit 0 UpdateAction, 1 UpdateDirection, 2 UpdateTime, 3 UpdateStartHue; a field whose bit is 0 SHALL be
 -- ignored
 abbrev pub heeded : {A : Type 0} → ℕ → ℕ → A → A → A
 heeded k flags field attribute = cond (eqb (bit k flags) 1) field attribute
 
-unfoldable pub updatedBy : ℕ → ColorLoopDirectionEnum → ℕ → ℕ → LoopAttributes → LoopAttributes
-updatedBy flags direction time startHue a =
+unfoldable pub updated_by : ℕ → ColorLoopDirectionEnum → ℕ → ℕ → LoopAttributes → LoopAttributes
+updated_by flags direction time start_hue a =
     record {
-      colorLoopActive = a.colorLoopActive;
-      colorLoopDirection = heeded 1 flags direction a.colorLoopDirection;
-      colorLoopTime = heeded 2 flags time a.colorLoopTime;
-      colorLoopStartEnhancedHue = heeded 3 flags startHue a.colorLoopStartEnhancedHue;
-      colorLoopStoredEnhancedHue = a.colorLoopStoredEnhancedHue;
-      enhancedCurrentHue = a.enhancedCurrentHue;
+      color_loop_active = a.color_loop_active;
+      color_loop_direction = heeded 1 flags direction a.color_loop_direction;
+      color_loop_time = heeded 2 flags time a.color_loop_time;
+      color_loop_start_enhanced_hue = heeded 3 flags start_hue a.color_loop_start_enhanced_hue;
+      color_loop_stored_enhanced_hue = a.color_loop_stored_enhanced_hue;
+      enhanced_current_hue = a.enhanced_current_hue;
     }
 
 -- "ColorLoopStoredEnhancedHue: the value of the EnhancedCurrentHue attribute before the color loop was started": a loop
 -- that is active already is not started again
-abbrev pub activateFrom : ℕ → LoopAttributes → LoopAttributes
-activateFrom hue a =
+abbrev pub activate_from : ℕ → LoopAttributes → LoopAttributes
+activate_from hue a =
     record {
-      colorLoopActive = true;
-      colorLoopDirection = a.colorLoopDirection;
-      colorLoopTime = a.colorLoopTime;
-      colorLoopStartEnhancedHue = a.colorLoopStartEnhancedHue;
-      colorLoopStoredEnhancedHue = cond a.colorLoopActive a.colorLoopStoredEnhancedHue a.enhancedCurrentHue;
-      enhancedCurrentHue = hue;
+      color_loop_active = true;
+      color_loop_direction = a.color_loop_direction;
+      color_loop_time = a.color_loop_time;
+      color_loop_start_enhanced_hue = a.color_loop_start_enhanced_hue;
+      color_loop_stored_enhanced_hue = cond a.color_loop_active a.color_loop_stored_enhanced_hue a.enhanced_current_hue;
+      enhanced_current_hue = hue;
     }
 
 -- "Once the color loop is complete, the EnhancedCurrentHue attribute SHALL be restored to this value": where none was
@@ -49,26 +49,26 @@ activateFrom hue a =
 abbrev pub deactivate : LoopAttributes → LoopAttributes
 deactivate a =
     record {
-      colorLoopActive = false;
-      colorLoopDirection = a.colorLoopDirection;
-      colorLoopTime = a.colorLoopTime;
-      colorLoopStartEnhancedHue = a.colorLoopStartEnhancedHue;
-      colorLoopStoredEnhancedHue = a.colorLoopStoredEnhancedHue;
-      enhancedCurrentHue = cond a.colorLoopActive a.colorLoopStoredEnhancedHue a.enhancedCurrentHue;
+      color_loop_active = false;
+      color_loop_direction = a.color_loop_direction;
+      color_loop_time = a.color_loop_time;
+      color_loop_start_enhanced_hue = a.color_loop_start_enhanced_hue;
+      color_loop_stored_enhanced_hue = a.color_loop_stored_enhanced_hue;
+      enhanced_current_hue = cond a.color_loop_active a.color_loop_stored_enhanced_hue a.enhanced_current_hue;
     }
 
 -- "Action": "De-activate the color loop", "Activate the color loop from the value in the ColorLoopStartEnhancedHue
 -- field", "Activate the color loop from the value of the EnhancedCurrentHue attribute"
-unfoldable pub actedBy : ColorLoopActionEnum → LoopAttributes → LoopAttributes
-actedBy ColorLoopActionEnum.Deactivate a = deactivate a
-actedBy ColorLoopActionEnum.ActivateFromColorLoopStartEnhancedHue a = activateFrom a.colorLoopStartEnhancedHue a
-actedBy ColorLoopActionEnum.ActivateFromEnhancedCurrentHue a = activateFrom a.enhancedCurrentHue a
+unfoldable pub acted_by : ColorLoopActionEnum → LoopAttributes → LoopAttributes
+acted_by ColorLoopActionEnum.Deactivate a = deactivate a
+acted_by ColorLoopActionEnum.ActivateFromColorLoopStartEnhancedHue a = activate_from a.color_loop_start_enhanced_hue a
+acted_by ColorLoopActionEnum.ActivateFromEnhancedCurrentHue a = activate_from a.enhanced_current_hue a
 
 -- the fields, then the action
-unfoldable pub colorLoopSet : ℕ → ColorLoopActionEnum → ColorLoopDirectionEnum → ℕ → ℕ → LoopAttributes → LoopAttributes
-colorLoopSet flags action direction time startHue a =
-    heeded 0 flags (actedBy action (updatedBy flags direction time startHue a))
-    (updatedBy flags direction time startHue a)
+unfoldable pub color_loop_set : ℕ → ColorLoopActionEnum → ColorLoopDirectionEnum → ℕ → ℕ → LoopAttributes → LoopAttributes
+color_loop_set flags action direction time start_hue a =
+    heeded 0 flags (acted_by action (updated_by flags direction time start_hue a))
+    (updated_by flags direction time start_hue a)
 
 -- the direction and the time of the loop that turns: "If the color loop is active (and stays active), the device SHALL
 -- immediately react on updates of the ColorLoopDirection and ColorLoopTime attributes"
@@ -76,5 +76,5 @@ pub record Turning : Type 0 where
   pub direction : ColorLoopDirectionEnum
   pub seconds : ℕ
 
-abbrev pub turningBy : LoopAttributes → Turning
-turningBy a = record { direction = a.colorLoopDirection; seconds = a.colorLoopTime }
+abbrev pub turning_by : LoopAttributes → Turning
+turning_by a = record { direction = a.color_loop_direction; seconds = a.color_loop_time }

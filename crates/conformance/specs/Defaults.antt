@@ -2,34 +2,34 @@
 -- the table of attributes. Written from that text as known, what stands in quotes too: no copy was at hand.
 use Rattle.std.specs.Prelude.{ℕ}
 
-abbrev pub defaultCurrentHue : ℕ
-defaultCurrentHue = 0
+abbrev pub default_current_hue : ℕ
+default_current_hue = 0
 
-abbrev pub defaultCurrentSaturation : ℕ
-defaultCurrentSaturation = 0
+abbrev pub default_current_saturation : ℕ
+default_current_saturation = 0
 
-abbrev pub defaultRemainingTime : ℕ
-defaultRemainingTime = 0
+abbrev pub default_remaining_time : ℕ
+default_remaining_time = 0
 
 -- 00FA
-abbrev pub defaultColorTemperatureMireds : ℕ
-defaultColorTemperatureMireds = 250
+abbrev pub default_color_temperature_mireds : ℕ
+default_color_temperature_mireds = 250
 
 -- ColorMode and EnhancedColorMode: CurrentX and CurrentY
-abbrev pub defaultColorModeNumber : ℕ
-defaultColorModeNumber = 1
+abbrev pub default_color_mode_number : ℕ
+default_color_mode_number = 1
 
 -- ColorLoopDirection: 0, which is Decrement
-abbrev pub defaultColorLoopDirection : ℕ
-defaultColorLoopDirection = 0
+abbrev pub default_color_loop_direction : ℕ
+default_color_loop_direction = 0
 
 -- 0019
-abbrev pub defaultColorLoopTime : ℕ
-defaultColorLoopTime = 25
+abbrev pub default_color_loop_time : ℕ
+default_color_loop_time = 25
 
 -- 2300
-abbrev pub defaultColorLoopStartEnhancedHue : ℕ
-defaultColorLoopStartEnhancedHue = 8960
+abbrev pub default_color_loop_start_enhanced_hue : ℕ
+default_color_loop_start_enhanced_hue = 8960
 
-abbrev pub defaultColorLoopStoredEnhancedHue : ℕ
-defaultColorLoopStoredEnhancedHue = 0
+abbrev pub default_color_loop_stored_enhanced_hue : ℕ
+default_color_loop_stored_enhanced_hue = 0

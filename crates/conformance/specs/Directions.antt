@@ -6,12 +6,12 @@ use Rattle.std.specs.Prelude.{ℕ, suc, ◌+◌, ◌%◌, ◌≤◌, ◌⊎◌, 
 use Rattle.matter.specs.declared.enums.DirectionEnum.{DirectionEnum}
 
 -- the circle of EnhancedCurrentHue: sixteen bits
-abbrev pub enhancedCircle : ℕ
-enhancedCircle = 65536
+abbrev pub enhanced_circle : ℕ
+enhanced_circle = 65536
 
 -- the circle of CurrentHue: "Hue = CurrentHue × 360 / 254", so that 254 is 360 degrees, where 0 is
-abbrev pub plainCircle : ℕ
-plainCircle = 254
+abbrev pub plain_circle : ℕ
+plain_circle = 254
 
 -- a way leads from one hue to another: so many places above the one is the other
 abbrev pub Leads : ℕ → ℕ → ℕ → ℤ → Type 0

@@ -8,10 +8,10 @@ use Rattle.matter.specs.declared.limits.Bounds.{Bounds}
 -- "If the field is set to 0, ColorTempPhysicalMinMireds [ColorTempPhysicalMaxMireds] SHALL be used": which mireds a
 -- move or a step may reach
 pub record Allowed (bounds : Bounds) (minimum maximum mireds : ℕ) : Type 0 where
-  pub physicalMinimum : bounds.min ≤ mireds
-  pub physicalMaximum : mireds ≤ bounds.max
-  pub fieldMinimum : (minimum ≡ 0 → ⊥) → minimum ≤ mireds
-  pub fieldMaximum : (maximum ≡ 0 → ⊥) → mireds ≤ maximum
+  pub physical_minimum : bounds.min ≤ mireds
+  pub physical_maximum : mireds ≤ bounds.max
+  pub field_minimum : (minimum ≡ 0 → ⊥) → minimum ≤ mireds
+  pub field_maximum : (maximum ≡ 0 → ⊥) → mireds ≤ maximum
 
 -- by how much two numbers differ
 abbrev pub away : ℕ → ℕ → ℕ

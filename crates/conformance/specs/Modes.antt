@@ -10,8 +10,8 @@ pub record Modes : Type 0 where
   pub color : ColorModeEnum
   pub enhanced : EnhancedColorModeEnum
 
-abbrev pub hueModes : Modes
-hueModes =
+abbrev pub hue_modes : Modes
+hue_modes =
     record {
       color = ColorModeEnum.CurrentHueAndCurrentSaturation;
       enhanced = EnhancedColorModeEnum.CurrentHueAndCurrentSaturation;
@@ -19,15 +19,15 @@ hueModes =
 
 -- "the original ColorMode attribute SHALL indicate CurrentHue and CurrentSaturation when the light uses the
 -- EnhancedCurrentHue"
-abbrev pub enhancedHueModes : Modes
-enhancedHueModes =
+abbrev pub enhanced_hue_modes : Modes
+enhanced_hue_modes =
     record {
       color = ColorModeEnum.CurrentHueAndCurrentSaturation;
       enhanced = EnhancedColorModeEnum.EnhancedCurrentHueAndCurrentSaturation;
     }
 
-abbrev pub temperatureModes : Modes
-temperatureModes =
+abbrev pub temperature_modes : Modes
+temperature_modes =
     record {
       color = ColorModeEnum.ColorTemperatureMireds;
       enhanced = EnhancedColorModeEnum.ColorTemperatureMireds;
@@ -35,29 +35,29 @@ temperatureModes =
 
 -- a saturation needs the hue's ColorMode; "If the ColorMode attribute is changed, its new value SHALL be copied to the
 -- EnhancedColorMode attribute": where it is the hue's already, EnhancedColorMode stays
-abbrev pub saturationModes : Modes → Modes
-saturationModes modes = elim modes.color [
+abbrev pub saturation_modes : Modes → Modes
+saturation_modes modes = elim modes.color [
   | ColorModeEnum.CurrentHueAndCurrentSaturation ↦ modes
-  | ColorModeEnum.CurrentXAndCurrentY ↦ hueModes
-  | ColorModeEnum.ColorTemperatureMireds ↦ hueModes
+  | ColorModeEnum.CurrentXAndCurrentY ↦ hue_modes
+  | ColorModeEnum.ColorTemperatureMireds ↦ hue_modes
 ]
 
 -- "The first action taken when any one of these commands is received is to change the ColorMode attribute to the
 -- appropriate value for the command"
 unfoldable pub received : Modes → Command → Modes
-received modes (Command.MoveToHue hue direction time) = hueModes
-received modes (Command.MoveHue mode rate enhanced) = cond enhanced enhancedHueModes hueModes
-received modes (Command.StepHue mode size time) = hueModes
-received modes (Command.MoveToSaturation saturation time) = saturationModes modes
-received modes (Command.MoveSaturation mode rate) = saturationModes modes
-received modes (Command.StepSaturation mode size time) = saturationModes modes
-received modes (Command.MoveToHueAndSaturation hue saturation time enhanced enhancedHue) =
-    cond enhanced enhancedHueModes hueModes
-received modes (Command.EnhancedMoveToHue hue direction time) = enhancedHueModes
-received modes (Command.EnhancedMoveHue mode rate) = enhancedHueModes
-received modes (Command.EnhancedStepHue mode size time) = enhancedHueModes
-received modes (Command.MoveToColorTemperature mireds time) = temperatureModes
-received modes (Command.MoveColorTemperature mode rate min max) = temperatureModes
-received modes (Command.StepColorTemperature mode size time min max) = temperatureModes
-received modes (Command.ColorLoopSet flags action direction time startHue) = modes
+received modes (Command.MoveToHue hue direction time) = hue_modes
+received modes (Command.MoveHue mode rate enhanced) = cond enhanced enhanced_hue_modes hue_modes
+received modes (Command.StepHue mode size time) = hue_modes
+received modes (Command.MoveToSaturation saturation time) = saturation_modes modes
+received modes (Command.MoveSaturation mode rate) = saturation_modes modes
+received modes (Command.StepSaturation mode size time) = saturation_modes modes
+received modes (Command.MoveToHueAndSaturation hue saturation time enhanced enhanced_hue) =
+    cond enhanced enhanced_hue_modes hue_modes
+received modes (Command.EnhancedMoveToHue hue direction time) = enhanced_hue_modes
+received modes (Command.EnhancedMoveHue mode rate) = enhanced_hue_modes
+received modes (Command.EnhancedStepHue mode size time) = enhanced_hue_modes
+received modes (Command.MoveToColorTemperature mireds time) = temperature_modes
+received modes (Command.MoveColorTemperature mode rate min max) = temperature_modes
+received modes (Command.StepColorTemperature mode size time min max) = temperature_modes
+received modes (Command.ColorLoopSet flags action direction time start_hue) = modes
 received modes Command.StopMoveStep = modes

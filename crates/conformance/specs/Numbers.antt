@@ -17,34 +17,34 @@ pub record Line (A : Type 0) : Type 0 where
 abbrev line : {A : Type 0} → ℕ → A → Line A
 line number means = record { number = number; means = means }
 
-abbrev pub directionTable : List (Line DirectionEnum)
-directionTable =
+abbrev pub direction_table : List (Line DirectionEnum)
+direction_table =
     line 0 DirectionEnum.Shortest ∷ line 1 DirectionEnum.Longest ∷ line 2 DirectionEnum.Up ∷ line 3 DirectionEnum.Down
     ∷ []
 
-abbrev pub moveModeTable : List (Line MoveModeEnum)
-moveModeTable = line 0 MoveModeEnum.Stop ∷ line 1 MoveModeEnum.Up ∷ line 3 MoveModeEnum.Down ∷ []
+abbrev pub move_mode_table : List (Line MoveModeEnum)
+move_mode_table = line 0 MoveModeEnum.Stop ∷ line 1 MoveModeEnum.Up ∷ line 3 MoveModeEnum.Down ∷ []
 
-abbrev pub stepModeTable : List (Line StepModeEnum)
-stepModeTable = line 1 StepModeEnum.Up ∷ line 3 StepModeEnum.Down ∷ []
+abbrev pub step_mode_table : List (Line StepModeEnum)
+step_mode_table = line 1 StepModeEnum.Up ∷ line 3 StepModeEnum.Down ∷ []
 
-abbrev pub actionTable : List (Line ColorLoopActionEnum)
-actionTable =
+abbrev pub action_table : List (Line ColorLoopActionEnum)
+action_table =
     line 0 ColorLoopActionEnum.Deactivate
     ∷ line 1 ColorLoopActionEnum.ActivateFromColorLoopStartEnhancedHue
     ∷ line 2 ColorLoopActionEnum.ActivateFromEnhancedCurrentHue
     ∷ []
 
-abbrev pub loopDirectionTable : List (Line ColorLoopDirectionEnum)
-loopDirectionTable = line 0 ColorLoopDirectionEnum.Decrement ∷ line 1 ColorLoopDirectionEnum.Increment ∷ []
+abbrev pub loop_direction_table : List (Line ColorLoopDirectionEnum)
+loop_direction_table = line 0 ColorLoopDirectionEnum.Decrement ∷ line 1 ColorLoopDirectionEnum.Increment ∷ []
 
-abbrev pub colorModeTable : List (Line ColorModeEnum)
-colorModeTable =
+abbrev pub color_mode_table : List (Line ColorModeEnum)
+color_mode_table =
     line 0 ColorModeEnum.CurrentHueAndCurrentSaturation ∷ line 1 ColorModeEnum.CurrentXAndCurrentY
     ∷ line 2 ColorModeEnum.ColorTemperatureMireds ∷ []
 
-abbrev pub enhancedColorModeTable : List (Line EnhancedColorModeEnum)
-enhancedColorModeTable =
+abbrev pub enhanced_color_mode_table : List (Line EnhancedColorModeEnum)
+enhanced_color_mode_table =
     line 0 EnhancedColorModeEnum.CurrentHueAndCurrentSaturation
     ∷ line 1 EnhancedColorModeEnum.CurrentXAndCurrentY
     ∷ line 2 EnhancedColorModeEnum.ColorTemperatureMireds

@@ -15,30 +15,30 @@ bitmap b = b 0 + 2 * b 1 + 4 * b 2 + 8 * b 3 + 16 * b 4 + 32 * b 5 + 64 * b 6 + 
 -- "Each bit in the Options attribute SHALL determine the corresponding bit in the temporary Options bitmap, unless the
 -- OptionsMask field is present and has the corresponding bit set to 1, in which case the corresponding bit in the
 -- OptionsOverride field SHALL determine the corresponding bit in the temporary Options bitmap"
-abbrev pub temporaryBit : ℕ → ℕ → ℕ → ℕ → ℕ
-temporaryBit options mask over k = cond (eqb (bit k mask) 1) (bit k over) (bit k options)
+abbrev pub temporary_bit : ℕ → ℕ → ℕ → ℕ → ℕ
+temporary_bit options mask over k = cond (eqb (bit k mask) 1) (bit k over) (bit k options)
 
-unfoldable pub temporaryOptions : ℕ → ℕ → ℕ → ℕ
-temporaryOptions options mask over = bitmap (temporaryBit options mask over)
+unfoldable pub temporary_options : ℕ → ℕ → ℕ → ℕ
+temporary_options options mask over = bitmap (temporary_bit options mask over)
 
 -- OptionsBitmap: ExecuteIfOff is bit 0
-abbrev pub executeIfOffBit : ℕ → ℕ
-executeIfOffBit options = bit 0 options
+abbrev pub execute_if_off_bit : ℕ → ℕ
+execute_if_off_bit options = bit 0 options
 
 -- "The On/Off cluster exists on the same endpoint as this cluster"
-abbrev pub onOffExists : OnOff → Bool
-onOffExists OnOff.Off = true
-onOffExists OnOff.On = true
-onOffExists OnOff.NoHandler = false
+abbrev pub on_off_exists : OnOff → Bool
+on_off_exists OnOff.Off = true
+on_off_exists OnOff.On = true
+on_off_exists OnOff.NoHandler = false
 
 -- "The OnOff attribute of the On/Off cluster, on this endpoint, is FALSE"
-abbrev pub onOffFalse : OnOff → Bool
-onOffFalse OnOff.Off = true
-onOffFalse OnOff.On = false
-onOffFalse OnOff.NoHandler = false
+abbrev pub on_off_false : OnOff → Bool
+on_off_false OnOff.Off = true
+on_off_false OnOff.On = false
+on_off_false OnOff.NoHandler = false
 
 -- "Command execution SHALL NOT continue beyond the Options processing if all of these criteria are true", the third of
 -- which is "The value of the ExecuteIfOff bit is 0"
 unfoldable pub continues : OnOff → ℕ → ℕ → ℕ → Bool
-continues onOff options mask over =
-    not (onOffExists onOff && onOffFalse onOff && eqb (executeIfOffBit (temporaryOptions options mask over)) 0)
+continues on_off options mask over =
+    not (on_off_exists on_off && on_off_false on_off && eqb (execute_if_off_bit (temporary_options options mask over)) 0)

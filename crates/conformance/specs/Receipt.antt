@@ -7,10 +7,10 @@ use Rattle.matter.specs.declared.commands.Command.{Command}
 use Rattle.matter.specs.declared.enums.DirectionEnum.{DirectionEnum}
 use Rattle.matter.specs.declared.enums.StepModeEnum.{StepModeEnum}
 use Rattle.color.specs.declared.Color.{Color}
-use Rattle.conformance.specs.Directions.{enhancedCircle, Goes}
+use Rattle.conformance.specs.Directions.{enhanced_circle, Goes}
 use Rattle.conformance.specs.Limits.{Allowed, Closest}
-use Rattle.conformance.specs.Steps.{enhancedHueMaximum, saturationMaximum, stepsMade, stepTo, moveTo, hueStepTo}
-use Rattle.conformance.specs.Steps.{hueMoveTo}
+use Rattle.conformance.specs.Steps.{enhanced_hue_maximum, saturation_maximum, steps_made, step_to, move_to, hue_step_to}
+use Rattle.conformance.specs.Steps.{hue_move_to}
 use Rattle.conformance.specs.Transition.{milliseconds}
 
 -- a unit of CurrentHue, the upper byte, is 256 of EnhancedCurrentHue's, in a hue, in a size and in a rate
@@ -27,7 +27,7 @@ pub record Reaches (from to time elapsed now : ℕ) : Type 0 where
 -- a hue that goes so many places up or down: it is on this way all the time
 pub record Goes-by (mode : StepModeEnum) (size time elapsed from now : ℕ) : Type 0 where
   pub units : ℕ
-  pub on : now ≡ hueStepTo mode enhancedHueMaximum units from
+  pub on : now ≡ hue_step_to mode enhanced_hue_maximum units from
   pub within : units ≤ size
   pub reaches : Reaches 0 size time elapsed units
 
@@ -39,7 +39,7 @@ sense (negsuc n) = StepModeEnum.Down
 -- a hue that goes the way that leads from the hue on receipt to the new one, as the direction says
 pub record Goes-to (direction : DirectionEnum) (received to time elapsed from now : ℕ) : Type 0 where
   pub way : ℤ
-  pub goes : Goes enhancedCircle direction received to way
+  pub goes : Goes enhanced_circle direction received to way
   pub moves : Goes-by (sense way) (nat_abs way) time elapsed from now
 
 -- ---- mireds
@@ -90,14 +90,14 @@ moves (Command.StepHue mode size time) = true
 moves (Command.MoveToSaturation saturation time) = true
 moves (Command.MoveSaturation mode rate) = true
 moves (Command.StepSaturation mode size time) = true
-moves (Command.MoveToHueAndSaturation hue saturation time enhanced enhancedHue) = true
+moves (Command.MoveToHueAndSaturation hue saturation time enhanced enhanced_hue) = true
 moves (Command.EnhancedMoveToHue hue direction time) = true
 moves (Command.EnhancedMoveHue mode rate) = true
 moves (Command.EnhancedStepHue mode size time) = true
 moves (Command.MoveToColorTemperature mireds time) = true
 moves (Command.MoveColorTemperature mode rate min max) = true
 moves (Command.StepColorTemperature mode size time min max) = true
-moves (Command.ColorLoopSet flags action direction time startHue) = false
+moves (Command.ColorLoopSet flags action direction time start_hue) = false
 moves Command.StopMoveStep = false
 
 -- the device's bounds, the numbers on receipt, the command; the time since its movement began, the numbers then, and
@@ -107,36 +107,36 @@ abbrev pub OnReceipt : Bounds → Color → Command → ℕ → Color → Color 
 OnReceipt bounds received (Command.MoveToHue hue direction time) elapsed from now =
     HueAlone from now (Goes-to direction received.hue (places false hue) (milliseconds time) elapsed)
 OnReceipt bounds received (Command.MoveHue mode rate enhanced) elapsed from now =
-    HueAlone from now (λ a b. b ≡ hueMoveTo mode enhancedHueMaximum (stepsMade (places enhanced rate) elapsed) a)
+    HueAlone from now (λ a b. b ≡ hue_move_to mode enhanced_hue_maximum (steps_made (places enhanced rate) elapsed) a)
 OnReceipt bounds received (Command.StepHue mode size time) elapsed from now =
     HueAlone from now (Goes-by mode (places false size) (milliseconds time) elapsed)
 OnReceipt bounds received (Command.MoveToSaturation saturation time) elapsed from now =
     SaturationAlone from now (λ a b. Reaches a saturation (milliseconds time) elapsed b)
 OnReceipt bounds received (Command.MoveSaturation mode rate) elapsed from now =
-    SaturationAlone from now (λ a b. b ≡ moveTo mode 0 saturationMaximum (stepsMade rate elapsed) a)
+    SaturationAlone from now (λ a b. b ≡ move_to mode 0 saturation_maximum (steps_made rate elapsed) a)
 OnReceipt bounds received (Command.StepSaturation mode size time) elapsed from now =
     SaturationAlone from now
-    (λ a b. Reaches a (stepTo mode 0 saturationMaximum size received.saturation) (milliseconds time) elapsed b)
-OnReceipt bounds received (Command.MoveToHueAndSaturation hue saturation time enhanced enhancedHue) elapsed from now =
+    (λ a b. Reaches a (step_to mode 0 saturation_maximum size received.saturation) (milliseconds time) elapsed b)
+OnReceipt bounds received (Command.MoveToHueAndSaturation hue saturation time enhanced enhanced_hue) elapsed from now =
     Each
-    (Goes-to DirectionEnum.Shortest received.hue (cond enhanced enhancedHue (places false hue))
+    (Goes-to DirectionEnum.Shortest received.hue (cond enhanced enhanced_hue (places false hue))
     (milliseconds time) elapsed from.hue now.hue)
     (Reaches from.saturation saturation (milliseconds time) elapsed now.saturation)
     (now.mireds ≡ from.mireds)
 OnReceipt bounds received (Command.EnhancedMoveToHue hue direction time) elapsed from now =
     HueAlone from now (Goes-to direction received.hue hue (milliseconds time) elapsed)
 OnReceipt bounds received (Command.EnhancedMoveHue mode rate) elapsed from now =
-    HueAlone from now (λ a b. b ≡ hueMoveTo mode enhancedHueMaximum (stepsMade rate elapsed) a)
+    HueAlone from now (λ a b. b ≡ hue_move_to mode enhanced_hue_maximum (steps_made rate elapsed) a)
 OnReceipt bounds received (Command.EnhancedStepHue mode size time) elapsed from now =
     HueAlone from now (Goes-by mode size (milliseconds time) elapsed)
 OnReceipt bounds received (Command.MoveToColorTemperature mireds time) elapsed from now =
     MiredsAlone from now (Goes-near bounds mireds (milliseconds time) elapsed)
 OnReceipt bounds received (Command.MoveColorTemperature mode rate min max) elapsed from now =
     Within bounds min max from.mireds
-    (λ least most. MiredsAlone from now (λ a b. b ≡ moveTo mode least most (stepsMade rate elapsed) a))
+    (λ least most. MiredsAlone from now (λ a b. b ≡ move_to mode least most (steps_made rate elapsed) a))
 OnReceipt bounds received (Command.StepColorTemperature mode size time min max) elapsed from now =
     Within bounds min max received.mireds
     (λ least most. MiredsAlone from now
-    (λ a b. Reaches a (stepTo mode least most size received.mireds) (milliseconds time) elapsed b))
-OnReceipt bounds received (Command.ColorLoopSet flags action direction time startHue) elapsed from now = Unit
+    (λ a b. Reaches a (step_to mode least most size received.mireds) (milliseconds time) elapsed b))
+OnReceipt bounds received (Command.ColorLoopSet flags action direction time start_hue) elapsed from now = Unit
 OnReceipt bounds received Command.StopMoveStep elapsed from now = Unit

@@ -13,12 +13,12 @@ pub record RemainingTimeIs (milliseconds tenths : ℕ) : Type 0 where
 -- with whether the invoke of a command caused it
 pub data Reportable : ℕ → ℕ → Bool → Type 0 where
   -- "When it changes from 0 to any value higher than 10"
-  fromZero : (new : ℕ) (invoked : Bool) → 10 < new → Reportable 0 new invoked
+  from_zero : (new : ℕ) (invoked : Bool) → 10 < new → Reportable 0 new invoked
   -- "When it changes, with a delta larger than 10, caused by the invoke of a command"
   risen : (old new : ℕ) → old + 10 < new → Reportable old new true
   fallen : (old new : ℕ) → new + 10 < old → Reportable old new true
   -- "When it changes to 0"
-  toZero : (old : ℕ) (invoked : Bool) → 0 < old → Reportable old 0 invoked
+  to_zero : (old : ℕ) (invoked : Bool) → 0 < old → Reportable old 0 invoked
 
 -- "For commands with a transition time or changes to the transition time less than 1 second, changes to this attribute
 -- SHALL NOT be reported"
@@ -29,9 +29,9 @@ hushed time = time < 10
 -- marked as reportable in the following cases"
 pub data MayReport : ℕ → ℕ → Bool → Type 0 where
   -- "At most once per second"
-  onceASecond : (last now : ℕ) (end : Bool) → last + 1000 ≤ now → MayReport last now end
+  once_a_second : (last now : ℕ) (end : Bool) → last + 1000 ≤ now → MayReport last now end
   -- "At the end of the movement/transition"
-  atTheEnd : (last now : ℕ) → MayReport last now true
+  at_the_end : (last now : ℕ) → MayReport last now true
 
 -- whether a list of notices has one
 abbrev pub reports : ℕ → List ℕ → Bool

@@ -19,20 +19,20 @@ abbrev pub NoTimeLeft : Lamp → Type 0
 NoTimeLeft after = after.remaining.tenths ≡ 0
 
 -- "This command has no effect on an active color loop": whether it stops anything
-abbrev pub stopTakesEffect : Bool → Bool
-stopTakesEffect colorLoopActive = not colorLoopActive
+abbrev pub stop_takes_effect : Bool → Bool
+stop_takes_effect color_loop_active = not color_loop_active
 
 -- "If a color loop is active [..], it SHALL only be stopped by sending a specific ColorLoopSet command": whether the
 -- loop turns
-abbrev pub loopTurns : Running → Bool
-loopTurns Running.Idle = false
-loopTurns (Running.HueSaturationMoveTo run) = false
-loopTurns (Running.HueMove run) = false
-loopTurns (Running.SaturationMove run) = false
-loopTurns (Running.ColorTemperatureMoveTo run) = false
-loopTurns (Running.ColorTemperatureMove run) = false
-loopTurns (Running.ColorLoop direction hue seconds start) = true
+abbrev pub loop_turns : Running → Bool
+loop_turns Running.Idle = false
+loop_turns (Running.HueSaturationMoveTo run) = false
+loop_turns (Running.HueMove run) = false
+loop_turns (Running.SaturationMove run) = false
+loop_turns (Running.ColorTemperatureMoveTo run) = false
+loop_turns (Running.ColorTemperatureMove run) = false
+loop_turns (Running.ColorLoop direction hue seconds start) = true
 
 -- whether it turns after a stop
-abbrev pub turnsAfterStop : Bool → Bool → Bool
-turnsAfterStop colorLoopActive turns = cond (stopTakesEffect colorLoopActive) false turns
+abbrev pub turns_after_stop : Bool → Bool → Bool
+turns_after_stop color_loop_active turns = cond (stop_takes_effect color_loop_active) false turns

@@ -11,7 +11,7 @@ abbrev pub tenth : ℕ
 tenth = 100
 
 abbrev pub milliseconds : ℕ → ℕ
-milliseconds transitionTime = transitionTime * tenth
+milliseconds transition_time = transition_time * tenth
 
 -- how much of a way of this size is behind, in whole units, so long after the start: that share of it which the time
 -- elapsed is of the time, and from then on all of it
@@ -20,9 +20,9 @@ travelled size elapsed time = cond (leb time elapsed) size (size * elapsed / tim
 
 -- a saturation or a number of mireds on its way: up from the first number or down from it, as the second lies, by so
 -- many units
-abbrev pub onLine : ℕ → ℕ → ℕ → ℕ
-onLine from to units = cond (leb from to) (from + units) (from - units)
+abbrev pub on_line : ℕ → ℕ → ℕ → ℕ
+on_line from to units = cond (leb from to) (from + units) (from - units)
 
 -- and so long after the start
 abbrev pub line_at : ℕ → ℕ → ℕ → ℕ → ℕ
-line_at from to elapsed time = onLine from to (travelled (away from to) elapsed time)
+line_at from to elapsed time = on_line from to (travelled (away from to) elapsed time)

@@ -5,15 +5,15 @@
 use Rattle.std.specs.Prelude.{ℕ, cond, List, [], ◌∷◌, ◌++◌, ◌≡◌}
 use Rattle.lamp.specs.declared.Lamp.{Lamp}
 use Rattle.lamp.specs.declared.Call.{Call}
-use Rattle.commands.specs.Answers.{clockOf}
-use Rattle.schedule.specs.Calls.{next, idle, acceptedStep, steps}
+use Rattle.commands.specs.Answers.{clock_of}
+use Rattle.schedule.specs.Calls.{next, idle, accepted_step, steps}
 use Rattle.schedule.specs.Schedule.{target}
 use Rattle.schedule.specs.Fades.{Fade, found, begun, later, Premised}
 
 -- the clocks of the accepted steps of a list
-unfoldable pub stepClocks : Lamp → List Call → List ℕ
-stepClocks l [] = []
-stepClocks l (x ∷ xs) = cond (acceptedStep l x) (clockOf x ∷ stepClocks (next l x) xs) (stepClocks (next l x) xs)
+unfoldable pub step_clocks : Lamp → List Call → List ℕ
+step_clocks l [] = []
+step_clocks l (x ∷ xs) = cond (accepted_step l x) (clock_of x ∷ step_clocks (next l x) xs) (step_clocks (next l x) xs)
 
 -- found the same hue, were given the same move to a hue and started it at the same clock: the same target, direction
 -- and time. Options, on or off, the clock of the command, and whether it is plain or enhanced make no difference
@@ -35,12 +35,12 @@ abbrev pub Together : Type 0
 Together =
     (d e : Fade) → Premised d → Premised e → Alike d e → (xs xs' ys ys' : List Call) → d.calls ≡ xs ++ xs' →
     e.calls ≡ ys ++ ys' →
-    stepClocks (begun d).lamp xs ≡ stepClocks (begun e).lamp ys → ShowSame (later d xs) (later e ys)
+    step_clocks (begun d).lamp xs ≡ step_clocks (begun e).lamp ys → ShowSame (later d xs) (later e ys)
 
 -- after each: where all accepted steps came at the same clocks, after as many of the one as of the other
 abbrev pub AfterEach : Type 0
 AfterEach =
     (d e : Fade) → Premised d → Premised e → Alike d e →
-    stepClocks (begun d).lamp d.calls ≡ stepClocks (begun e).lamp e.calls → (xs xs' ys ys' : List Call) →
+    step_clocks (begun d).lamp d.calls ≡ step_clocks (begun e).lamp e.calls → (xs xs' ys ys' : List Call) →
     d.calls ≡ xs ++ xs' → e.calls ≡ ys ++ ys' → steps (begun d).lamp xs ≡ steps (begun e).lamp ys →
     ShowSame (later d xs) (later e ys)

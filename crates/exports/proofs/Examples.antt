@@ -25,14 +25,14 @@ use Rattle.tasks.specs.declared.Task.{Task}
 use Rattle.lamp.specs.declared.Answer.{Answer}
 use Rattle.lamp.specs.declared.Lamp.{Lamp}
 use Rattle.lamp.specs.declared.Call.{Call}
-use Rattle.exports.specs.Enums.{directionRead, moveModeRead, stepModeRead, loopActionRead, loopDirectionRead, colorModeRead, enhancedModeRead, onOffRead, directionKnown, moveModeKnown, stepModeKnown, loopActionKnown, loopDirectionKnown, colorModeKnown, enhancedModeKnown, onOffKnown}
-use Rattle.exports.specs.Moves.{recordNumbers, deltaOf, target_of, moveToOf, hueMoveOf, saturationMoveOf, miredsToOf, miredsMoveOf, colorLoopOf, task_of, taskFits, taskKnown, recordKnown, taskNumbers, givenNumbers}
-use Rattle.exports.specs.Lamps.{recordWords, lampWords, lampFits, lampKnown}
-use Rattle.exports.specs.Calls.{call_of, callKnown, hueCommand, saturationCommand, enhancedCommand, miredsCommand, loopCommand, commandOf, requestOf, commandFits, commandKnown}
-use Rattle.exports.specs.Answers.{answerWords}
+use Rattle.exports.specs.Enums.{direction_read, move_mode_read, step_mode_read, loop_action_read, loop_direction_read, color_mode_read, enhanced_mode_read, on_off_read, direction_known, move_mode_known, step_mode_known, loop_action_known, loop_direction_known, color_mode_known, enhanced_mode_known, on_off_known}
+use Rattle.exports.specs.Moves.{record_numbers, delta_of, target_of, move_to_of, hue_move_of, saturation_move_of, mireds_to_of, mireds_move_of, color_loop_of, task_of, task_fits, task_known, record_known, task_numbers, given_numbers}
+use Rattle.exports.specs.Lamps.{record_words, lamp_words, lamp_fits, lamp_known}
+use Rattle.exports.specs.Calls.{call_of, call_known, hue_command, saturation_command, enhanced_command, mireds_command, loop_command, command_of, request_of, command_fits, command_known}
+use Rattle.exports.specs.Answers.{answer_words}
 use Rattle.exports.specs.Exported.{Left, made, answered}
-use Rattle.matter.specs.Flags.{hasFlag}
-use Rattle.matter.specs.Rules.{defaultColorMode}
+use Rattle.matter.specs.Flags.{has_flag}
+use Rattle.matter.specs.Rules.{default_color_mode}
 use Rattle.progress.specs.Progress.{clamp}
 use Rattle.lamp.specs.Making.{making}
 use Rattle.exports.specs.Words.{flag, signed, sign_of}
@@ -41,40 +41,40 @@ use Rattle.exports.specs.Words.{flag, signed, sign_of}
 
 -- each number's case, and which numbers from 0 on exist
 pub record EnumWords : Type 0 where
-  pub on-off : map onOffRead (0 ∷ 1 ∷ 2 ∷ []) ≡ OnOff.Off ∷ OnOff.On ∷ OnOff.NoHandler ∷ []
+  pub on-off : map on_off_read (0 ∷ 1 ∷ 2 ∷ []) ≡ OnOff.Off ∷ OnOff.On ∷ OnOff.NoHandler ∷ []
   pub direction :
-      map directionRead (0 ∷ 1 ∷ 2 ∷ 3 ∷ [])
+      map direction_read (0 ∷ 1 ∷ 2 ∷ 3 ∷ [])
       ≡ DirectionEnum.Shortest ∷ DirectionEnum.Longest ∷ DirectionEnum.Up ∷ DirectionEnum.Down ∷ []
-  pub move-mode : map moveModeRead (0 ∷ 1 ∷ 3 ∷ []) ≡ MoveModeEnum.Stop ∷ MoveModeEnum.Up ∷ MoveModeEnum.Down ∷ []
-  pub step-mode : map stepModeRead (1 ∷ 3 ∷ []) ≡ StepModeEnum.Up ∷ StepModeEnum.Down ∷ []
+  pub move-mode : map move_mode_read (0 ∷ 1 ∷ 3 ∷ []) ≡ MoveModeEnum.Stop ∷ MoveModeEnum.Up ∷ MoveModeEnum.Down ∷ []
+  pub step-mode : map step_mode_read (1 ∷ 3 ∷ []) ≡ StepModeEnum.Up ∷ StepModeEnum.Down ∷ []
   pub loop-action :
-      map loopActionRead (0 ∷ 1 ∷ 2 ∷ [])
+      map loop_action_read (0 ∷ 1 ∷ 2 ∷ [])
       ≡ ColorLoopActionEnum.Deactivate ∷ ColorLoopActionEnum.ActivateFromColorLoopStartEnhancedHue
       ∷ ColorLoopActionEnum.ActivateFromEnhancedCurrentHue ∷ []
   pub loop-direction :
-      map loopDirectionRead (0 ∷ 1 ∷ []) ≡ ColorLoopDirectionEnum.Decrement ∷ ColorLoopDirectionEnum.Increment ∷ []
+      map loop_direction_read (0 ∷ 1 ∷ []) ≡ ColorLoopDirectionEnum.Decrement ∷ ColorLoopDirectionEnum.Increment ∷ []
   pub color-mode :
-      map colorModeRead (0 ∷ 1 ∷ 2 ∷ [])
+      map color_mode_read (0 ∷ 1 ∷ 2 ∷ [])
       ≡ ColorModeEnum.CurrentHueAndCurrentSaturation ∷ ColorModeEnum.CurrentXAndCurrentY
       ∷ ColorModeEnum.ColorTemperatureMireds ∷ []
   pub enhanced-mode :
-      map enhancedModeRead (0 ∷ 1 ∷ 2 ∷ 3 ∷ [])
+      map enhanced_mode_read (0 ∷ 1 ∷ 2 ∷ 3 ∷ [])
       ≡ EnhancedColorModeEnum.CurrentHueAndCurrentSaturation ∷ EnhancedColorModeEnum.CurrentXAndCurrentY
       ∷ EnhancedColorModeEnum.ColorTemperatureMireds ∷ EnhancedColorModeEnum.EnhancedCurrentHueAndCurrentSaturation ∷ []
-  pub on-off-known : map onOffKnown (0 ∷ 1 ∷ 2 ∷ 3 ∷ []) ≡ true ∷ true ∷ true ∷ false ∷ []
-  pub direction-known : map directionKnown (0 ∷ 1 ∷ 2 ∷ 3 ∷ 4 ∷ []) ≡ true ∷ true ∷ true ∷ true ∷ false ∷ []
-  pub move-mode-known : map moveModeKnown (0 ∷ 1 ∷ 2 ∷ 3 ∷ 4 ∷ []) ≡ true ∷ true ∷ false ∷ true ∷ false ∷ []
-  pub step-mode-known : map stepModeKnown (0 ∷ 1 ∷ 2 ∷ 3 ∷ 4 ∷ []) ≡ false ∷ true ∷ false ∷ true ∷ false ∷ []
-  pub loop-action-known : map loopActionKnown (0 ∷ 1 ∷ 2 ∷ 3 ∷ []) ≡ true ∷ true ∷ true ∷ false ∷ []
-  pub loop-direction-known : map loopDirectionKnown (0 ∷ 1 ∷ 2 ∷ []) ≡ true ∷ true ∷ false ∷ []
-  pub color-mode-known : map colorModeKnown (0 ∷ 1 ∷ 2 ∷ 3 ∷ []) ≡ true ∷ true ∷ true ∷ false ∷ []
-  pub enhanced-mode-known : map enhancedModeKnown (0 ∷ 1 ∷ 2 ∷ 3 ∷ 4 ∷ []) ≡ true ∷ true ∷ true ∷ true ∷ false ∷ []
+  pub on-off-known : map on_off_known (0 ∷ 1 ∷ 2 ∷ 3 ∷ []) ≡ true ∷ true ∷ true ∷ false ∷ []
+  pub direction-known : map direction_known (0 ∷ 1 ∷ 2 ∷ 3 ∷ 4 ∷ []) ≡ true ∷ true ∷ true ∷ true ∷ false ∷ []
+  pub move-mode-known : map move_mode_known (0 ∷ 1 ∷ 2 ∷ 3 ∷ 4 ∷ []) ≡ true ∷ true ∷ false ∷ true ∷ false ∷ []
+  pub step-mode-known : map step_mode_known (0 ∷ 1 ∷ 2 ∷ 3 ∷ 4 ∷ []) ≡ false ∷ true ∷ false ∷ true ∷ false ∷ []
+  pub loop-action-known : map loop_action_known (0 ∷ 1 ∷ 2 ∷ 3 ∷ []) ≡ true ∷ true ∷ true ∷ false ∷ []
+  pub loop-direction-known : map loop_direction_known (0 ∷ 1 ∷ 2 ∷ []) ≡ true ∷ true ∷ false ∷ []
+  pub color-mode-known : map color_mode_known (0 ∷ 1 ∷ 2 ∷ 3 ∷ []) ≡ true ∷ true ∷ true ∷ false ∷ []
+  pub enhanced-mode-known : map enhanced_mode_known (0 ∷ 1 ∷ 2 ∷ 3 ∷ 4 ∷ []) ≡ true ∷ true ∷ true ∷ true ∷ false ∷ []
 
 -- ---- calls
 
 -- ten words are this call
 abbrev pub Reads : List ℕ → Call → Type 0
-Reads w call = (call_of w ≡ call) × (callKnown w ≡ true)
+Reads w call = (call_of w ≡ call) × (call_known w ≡ true)
 
 -- options mask 2 and override 3
 abbrev pub options : CommandOptions
@@ -82,13 +82,13 @@ options = record { mask = 2; overrides = 3 }
 
 -- a command at clock 5000 with those options, in words and as a call; and the words of a start
 abbrev pub words : ℕ → ℕ → ℕ → ℕ → ℕ → ℕ → ℕ → List ℕ
-words kind onOff a b c d e = kind ∷ 5000 ∷ onOff ∷ 2 ∷ 3 ∷ a ∷ b ∷ c ∷ d ∷ e ∷ []
+words kind on_off a b c d e = kind ∷ 5000 ∷ on_off ∷ 2 ∷ 3 ∷ a ∷ b ∷ c ∷ d ∷ e ∷ []
 
 abbrev pub sending : Command → OnOff → Call
-sending command onOff = Call.Command (request command options) onOff 5000
+sending command on_off = Call.Command (request command options) on_off 5000
 
-abbrev pub startWords : ℕ → ℕ → ℕ → ℕ → ℕ → ℕ → ℕ → List ℕ
-startWords kind a b c d e f = 256 ∷ 5000 ∷ 0 ∷ kind ∷ a ∷ b ∷ c ∷ d ∷ e ∷ f ∷ []
+abbrev pub start_words : ℕ → ℕ → ℕ → ℕ → ℕ → ℕ → ℕ → List ℕ
+start_words kind a b c d e f = 256 ∷ 5000 ∷ 0 ∷ kind ∷ a ∷ b ∷ c ∷ d ∷ e ∷ f ∷ []
 
 pub record CommandWords : Type 0 where
   pub move-to-hue :
@@ -123,45 +123,45 @@ pub record CommandWords : Type 0 where
       (sending (Command.StepColorTemperature StepModeEnum.Up 30 20 160 400) OnOff.On)
 
 -- down 2000 and to saturation 250 in 7.7 s, enhanced
-abbrev pub downAndTo : HueSaturationMoveTo
-downAndTo =
+abbrev pub down_and_to : HueSaturationMoveTo
+down_and_to =
     record { delta = HueDelta.By (neg_ℤ (pos 2000)); saturation = TargetSaturation.To 250; ms = 7700; enhanced = true }
 
 pub record StartWords : Type 0 where
-  pub move-to : Reads (startWords 1 2 2000 1 250 7700 1) (Call.Start (Task.HueSaturationMoveTo downAndTo) 5000)
+  pub move-to : Reads (start_words 1 2 2000 1 250 7700 1) (Call.Start (Task.HueSaturationMoveTo down_and_to) 5000)
   -- no saturation, and no hue
   pub hue-alone :
-      Reads (startWords 1 1 2000 0 0 7700 0)
+      Reads (start_words 1 1 2000 0 0 7700 0)
       (Call.Start
       (Task.HueSaturationMoveTo
       (record { delta = HueDelta.By (pos 2000); saturation = TargetSaturation.Keep; ms = 7700; enhanced = false }))
       5000)
   pub saturation-alone :
-      Reads (startWords 1 0 0 1 250 7700 0)
+      Reads (start_words 1 0 0 1 250 7700 0)
       (Call.Start
       (Task.HueSaturationMoveTo
       (record { delta = HueDelta.Keep; saturation = TargetSaturation.To 250; ms = 7700; enhanced = false }))
       5000)
   pub hue-move :
-      Reads (startWords 2 1 700 1 0 0 0)
+      Reads (start_words 2 1 700 1 0 0 0)
       (Call.Start (Task.HueMove (record { direction = MoveModeEnum.Up; rate = 700; enhanced = true })) 5000)
   pub saturation-move :
-      Reads (startWords 3 3 9 0 0 0 0) (Call.Start (Task.SaturationMove (record {
+      Reads (start_words 3 3 9 0 0 0 0) (Call.Start (Task.SaturationMove (record {
         direction = MoveModeEnum.Down;
         rate = 9;
       })) 5000)
   pub move-to-mireds :
-      Reads (startWords 4 300 7700 0 0 0 0) (Call.Start (Task.ColorTemperatureMoveTo (record {
+      Reads (start_words 4 300 7700 0 0 0 0) (Call.Start (Task.ColorTemperatureMoveTo (record {
         target = 300;
         ms = 7700;
       })) 5000)
   pub mired-move :
-      Reads (startWords 5 2 100 160 400 0 0)
+      Reads (start_words 5 2 100 160 400 0 0)
       (Call.Start (Task.ColorTemperatureMove (record { rate = neg_ℤ (pos 100); min = 160; max = 400 })) 5000)
   pub color-loop :
-      Reads (startWords 6 1 33 0 0 0 0)
+      Reads (start_words 6 1 33 0 0 0 0)
       (Call.Start (Task.ColorLoop (record { direction = ColorLoopDirectionEnum.Increment; seconds = 33 })) 5000)
-  pub stop : Reads (startWords 7 0 0 0 0 0 0) (Call.Start Task.Stop 5000)
+  pub stop : Reads (start_words 7 0 0 0 0 0 0) (Call.Start Task.Stop 5000)
   -- and a step and a halt
   pub stepping : Reads (257 ∷ 5000 ∷ 0 ∷ 0 ∷ 0 ∷ 0 ∷ 0 ∷ 0 ∷ 0 ∷ 0 ∷ []) (Call.Step 5000)
   pub halting : Reads (258 ∷ 5000 ∷ 0 ∷ 0 ∷ 0 ∷ 0 ∷ 0 ∷ 0 ∷ 0 ∷ 0 ∷ []) (Call.Halt 5000)
@@ -169,8 +169,8 @@ pub record StartWords : Type 0 where
 -- ---- lamps
 
 -- the words of a fresh lamp: bounds 153 and 500, all features, options 0, clock 5000
-abbrev pub freshWords : List ℕ
-freshWords =
+abbrev pub fresh_words : List ℕ
+fresh_words =
     153 ∷ 500 ∷ 5000 ∷ 0 ∷ 0 ∷ 0 ∷ 0 ∷ 0 ∷ 0 ∷ 0 ∷ 250 ∷ 1 ∷ 1 ∷ 0 ∷ 1 ∷ 25 ∷ 8960 ∷ 0 ∷ 0 ∷ 0 ∷ 0 ∷ 0 ∷ 0 ∷ 0 ∷ 0 ∷ 0
     ∷ 0 ∷ 0 ∷ []
 
@@ -199,44 +199,44 @@ busy =
           };
       remaining = record { tenths = 77 };
       options = 7;
-      running = Running.HueSaturationMoveTo (record { start = 8500; hue = 39000; saturation = 100; task = downAndTo });
+      running = Running.HueSaturationMoveTo (record { start = 8500; hue = 39000; saturation = 100; task = down_and_to });
     }
 
 -- the words of a running record, 18 to 27
-abbrev pub runningWords : Running → List ℕ
-runningWords r = recordWords (recordNumbers r)
+abbrev pub running_words : Running → List ℕ
+running_words r = record_words (record_numbers r)
 
 pub record LampWords : Type 0 where
   pub fresh : made (replicate 28 0) (record { min = 153; max = 500 }) 31 0 5000
-      ≡ record { number = 0; lamp = freshWords }
+      ≡ record { number = 0; lamp = fresh_words }
   pub running :
-      lampWords busy
+      lamp_words busy
       ≡ 101 ∷ 499 ∷ 9000 ∷ 7 ∷ 77 ∷ 11 ∷ 12 ∷ 13 ∷ 40000 ∷ 200 ∷ 300 ∷ 0 ∷ 3 ∷ 1 ∷ 0 ∷ 33 ∷ 1234 ∷ 4321 ∷ 8500 ∷ 39000
       ∷ 100
       ∷ 1 ∷ 2 ∷ 2000 ∷ 1 ∷ 250 ∷ 7700 ∷ 1 ∷ []
   pub hue-move :
-      runningWords (Running.HueMove (record {
+      running_words (Running.HueMove (record {
         start = 8500;
         hue = 39000;
         task = record { direction = MoveModeEnum.Up; rate = 700; enhanced = true };
       }))
       ≡ 8500 ∷ 39000 ∷ 0 ∷ 2 ∷ 1 ∷ 700 ∷ 1 ∷ 0 ∷ 0 ∷ 0 ∷ []
   pub saturation-move :
-      runningWords (Running.SaturationMove (record {
+      running_words (Running.SaturationMove (record {
         start = 8500;
         saturation = 100;
         task = record { direction = MoveModeEnum.Down; rate = 9 };
       }))
       ≡ 8500 ∷ 100 ∷ 0 ∷ 3 ∷ 3 ∷ 9 ∷ 0 ∷ 0 ∷ 0 ∷ 0 ∷ []
   pub move-to-mireds :
-      runningWords (Running.ColorTemperatureMoveTo (record {
+      running_words (Running.ColorTemperatureMoveTo (record {
         start = 8500;
         mireds = 250;
         task = record { target = 300; ms = 7700 };
       }))
       ≡ 8500 ∷ 250 ∷ 0 ∷ 4 ∷ 300 ∷ 7700 ∷ 0 ∷ 0 ∷ 0 ∷ 0 ∷ []
   pub mired-move :
-      runningWords (Running.ColorTemperatureMove (record {
+      running_words (Running.ColorTemperatureMove (record {
         start = 8500;
         mireds = 250;
         rate = neg_ℤ (pos 100);
@@ -245,7 +245,7 @@ pub record LampWords : Type 0 where
       }))
       ≡ 8500 ∷ 250 ∷ 0 ∷ 5 ∷ 2 ∷ 100 ∷ 160 ∷ 400 ∷ 0 ∷ 0 ∷ []
   pub color-loop :
-      runningWords (Running.ColorLoop ColorLoopDirectionEnum.Increment 39000 33 8500)
+      running_words (Running.ColorLoop ColorLoopDirectionEnum.Increment 39000 33 8500)
       ≡ 8500 ∷ 39000 ∷ 0 ∷ 6 ∷ 1 ∷ 33 ∷ 0 ∷ 0 ∷ 0 ∷ 0 ∷ []
 
 -- ---- answers
@@ -263,14 +263,14 @@ replying task =
 
 pub record AnswerWords : Type 0 where
   pub given :
-      answerWords (replying (GivenTask.Given (Task.HueSaturationMoveTo downAndTo)))
+      answer_words (replying (GivenTask.Given (Task.HueSaturationMoveTo down_and_to)))
       ≡ 6 ∷ 13 ∷ 2 ∷ 17 ∷ 0 ∷ 0 ∷ 0 ∷ 0 ∷ 0 ∷ 0 ∷ 0 ∷ 0 ∷ 0 ∷ 0 ∷ 0 ∷ 0 ∷ 0 ∷ 1 ∷ 2 ∷ 2000 ∷ 1 ∷ 250 ∷ 7700 ∷ 1 ∷ 70
       ∷ []
   pub stopping :
-      answerWords (replying (GivenTask.Given Task.Stop))
+      answer_words (replying (GivenTask.Given Task.Stop))
       ≡ 6 ∷ 13 ∷ 2 ∷ 17 ∷ 0 ∷ 0 ∷ 0 ∷ 0 ∷ 0 ∷ 0 ∷ 0 ∷ 0 ∷ 0 ∷ 0 ∷ 0 ∷ 0 ∷ 0 ∷ 7 ∷ 0 ∷ 0 ∷ 0 ∷ 0 ∷ 0 ∷ 0 ∷ 70 ∷ []
   pub nothing :
-      answerWords (replying GivenTask.Nothing)
+      answer_words (replying GivenTask.Nothing)
       ≡ 6 ∷ 13 ∷ 2 ∷ 17 ∷ 0 ∷ 0 ∷ 0 ∷ 0 ∷ 0 ∷ 0 ∷ 0 ∷ 0 ∷ 0 ∷ 0 ∷ 0 ∷ 0 ∷ 0 ∷ 0 ∷ 0 ∷ 0 ∷ 0 ∷ 0 ∷ 0 ∷ 0 ∷ 70 ∷ []
 
 -- "The first in this order wins": no lamp by its count of words, no room, no lamp, no call
@@ -281,14 +281,14 @@ pub record NumbersReturned : Type 0 where
   pub short-lamp : (answered (replicate 27 0) (replicate 9 0) (replicate 24 0)).number ≡ 101
   pub no_room : (answered (replicate 28 9) (replicate 9 0) (replicate 24 0)).number ≡ 102
   pub no-lamp : (answered (replicate 28 9) (replicate 9 0) (replicate 25 0)).number ≡ 101
-  pub no_call : (answered freshWords (replicate 9 0) (replicate 25 0)).number ≡ 100
-  pub no-such-kind : (answered freshWords (words 7 1 0 0 0 0 0) (replicate 25 0)).number ≡ 100
-  pub past-its-field : (answered freshWords (words 0 1 256 0 0 0 0) (replicate 25 0)).number ≡ 100
+  pub no_call : (answered fresh_words (replicate 9 0) (replicate 25 0)).number ≡ 100
+  pub no-such-kind : (answered fresh_words (words 7 1 0 0 0 0 0) (replicate 25 0)).number ≡ 100
+  pub past-its-field : (answered fresh_words (words 0 1 256 0 0 0 0) (replicate 25 0)).number ≡ 100
 
 -- ---- by computation
 
 pub enum-words : EnumWords
-unfolding directionRead moveModeRead stepModeRead loopActionRead loopDirectionRead colorModeRead enhancedModeRead onOffRead directionKnown moveModeKnown stepModeKnown loopActionKnown loopDirectionKnown colorModeKnown enhancedModeKnown onOffKnown
+unfolding direction_read move_mode_read step_mode_read loop_action_read loop_direction_read color_mode_read enhanced_mode_read on_off_read direction_known move_mode_known step_mode_known loop_action_known loop_direction_known color_mode_known enhanced_mode_known on_off_known
 enum-words =
     record {
       on-off = refl;
@@ -310,7 +310,7 @@ enum-words =
     }
 
 pub command-words : CommandWords
-unfolding flag directionRead moveModeRead stepModeRead loopActionRead loopDirectionRead onOffRead directionKnown moveModeKnown stepModeKnown loopActionKnown loopDirectionKnown onOffKnown hueCommand saturationCommand enhancedCommand miredsCommand loopCommand commandOf requestOf commandFits commandKnown call_of callKnown
+unfolding flag direction_read move_mode_read step_mode_read loop_action_read loop_direction_read on_off_read direction_known move_mode_known step_mode_known loop_action_known loop_direction_known on_off_known hue_command saturation_command enhanced_command mireds_command loop_command command_of request_of command_fits command_known call_of call_known
 command-words =
     record {
       move-to-hue = (refl, refl);
@@ -331,7 +331,7 @@ command-words =
     }
 
 pub start-words : StartWords
-unfolding flag signed moveModeRead loopDirectionRead moveModeKnown loopDirectionKnown deltaOf target_of moveToOf hueMoveOf saturationMoveOf miredsToOf miredsMoveOf colorLoopOf task_of taskFits taskKnown call_of callKnown
+unfolding flag signed move_mode_read loop_direction_read move_mode_known loop_direction_known delta_of target_of move_to_of hue_move_of saturation_move_of mireds_to_of mireds_move_of color_loop_of task_of task_fits task_known call_of call_known
 start-words =
     record {
       move-to = (refl, refl);
@@ -348,7 +348,7 @@ start-words =
     }
 
 pub lamp-words : LampWords
-unfolding hasFlag defaultColorMode clamp making sign_of recordNumbers made
+unfolding has_flag default_color_mode clamp making sign_of record_numbers made
 lamp-words =
     record {
       fresh = refl;
@@ -361,11 +361,11 @@ lamp-words =
     }
 
 pub answer-words : AnswerWords
-unfolding sign_of taskNumbers givenNumbers
+unfolding sign_of task_numbers given_numbers
 answer-words = record { given = refl; stopping = refl; nothing = refl }
 
 pub numbers-returned : NumbersReturned
-unfolding making made answered lampFits lampKnown colorModeKnown enhancedModeKnown loopDirectionKnown onOffKnown directionKnown recordKnown commandFits commandKnown callKnown
+unfolding making made answered lamp_fits lamp_known color_mode_known enhanced_mode_known loop_direction_known on_off_known direction_known record_known command_fits command_known call_known
 numbers-returned =
     record {
       new-short = refl;

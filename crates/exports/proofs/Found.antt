@@ -15,7 +15,7 @@ use Rattle.matter.specs.declared.enums.ColorModeFound.{ColorModeFound}
 use Rattle.matter.specs.declared.enums.EnhancedColorModeFound.{EnhancedColorModeFound}
 use Rattle.matter.specs.declared.enums.OnOffFound.{OnOffFound}
 use Rattle.matter.proofs.Laws.{and_left, and_right}
-use Rattle.matter.specs.Numbers.{caseNumbered, directionNumber, directions, directionFound, moveModeNumber, moveModes, moveModeFound, stepModeNumber, stepModes, stepModeFound, loopActionNumber, loopActions, loopActionFound, loopDirectionNumber, loopDirections, loopDirectionFound, colorModeNumber, colorModes, colorModeFound, enhancedColorModeNumber, enhancedColorModes, enhancedColorModeFound, onOffNumber, onOffs, onOffFound}
+use Rattle.matter.specs.Numbers.{case_numbered, direction_number, directions, direction_found, move_mode_number, move_modes, move_mode_found, step_mode_number, step_modes, step_mode_found, loop_action_number, loop_actions, loop_action_found, loop_direction_number, loop_directions, loop_direction_found, color_mode_number, color_modes, color_mode_found, enhanced_color_mode_number, enhanced_color_modes, enhanced_color_mode_found, on_off_number, on_offs, on_off_found}
 use Rattle.exports.specs.Words.{capped}
 
 module _ (n m : ℕ) (h : m < 255) where
@@ -32,32 +32,32 @@ module _ {A B : Type 0} (number : A → ℕ) (known : A → B) (none : B) (n : �
   below [] = true
   below (x ∷ xs) = ltb (number x) 255 && below xs
 
-  same-found : (xs : List A) → below xs ≡ true → caseNumbered number known none xs (capped n) ≡ caseNumbered number known none xs n
+  same-found : (xs : List A) → below xs ≡ true → case_numbered number known none xs (capped n) ≡ case_numbered number known none xs n
   same-found [] e = refl
   same-found (x ∷ xs) e =
       let h = ltb-true (number x) 255 (and_left _ (below xs) e) in
       simp (same_test n (number x) h (leb n 255) refl, same-found xs (and_right (ltb (number x) 255) _ e))
 
-pub direction-capped : (n : ℕ) {m : ℕ} → m ≡ capped n → directionFound m ≡ directionFound n
-direction-capped n e = ap directionFound e ∙ same-found directionNumber DirectionFound.Known DirectionFound.Reserved n directions refl
+pub direction-capped : (n : ℕ) {m : ℕ} → m ≡ capped n → direction_found m ≡ direction_found n
+direction-capped n e = ap direction_found e ∙ same-found direction_number DirectionFound.Known DirectionFound.Reserved n directions refl
 
-pub move-mode-capped : (n : ℕ) {m : ℕ} → m ≡ capped n → moveModeFound m ≡ moveModeFound n
-move-mode-capped n e = ap moveModeFound e ∙ same-found moveModeNumber MoveModeFound.Known MoveModeFound.Reserved n moveModes refl
+pub move-mode-capped : (n : ℕ) {m : ℕ} → m ≡ capped n → move_mode_found m ≡ move_mode_found n
+move-mode-capped n e = ap move_mode_found e ∙ same-found move_mode_number MoveModeFound.Known MoveModeFound.Reserved n move_modes refl
 
-pub step-mode-capped : (n : ℕ) {m : ℕ} → m ≡ capped n → stepModeFound m ≡ stepModeFound n
-step-mode-capped n e = ap stepModeFound e ∙ same-found stepModeNumber StepModeFound.Known StepModeFound.Reserved n stepModes refl
+pub step-mode-capped : (n : ℕ) {m : ℕ} → m ≡ capped n → step_mode_found m ≡ step_mode_found n
+step-mode-capped n e = ap step_mode_found e ∙ same-found step_mode_number StepModeFound.Known StepModeFound.Reserved n step_modes refl
 
-pub loop-action-capped : (n : ℕ) {m : ℕ} → m ≡ capped n → loopActionFound m ≡ loopActionFound n
-loop-action-capped n e = ap loopActionFound e ∙ same-found loopActionNumber ColorLoopActionFound.Known ColorLoopActionFound.Reserved n loopActions refl
+pub loop-action-capped : (n : ℕ) {m : ℕ} → m ≡ capped n → loop_action_found m ≡ loop_action_found n
+loop-action-capped n e = ap loop_action_found e ∙ same-found loop_action_number ColorLoopActionFound.Known ColorLoopActionFound.Reserved n loop_actions refl
 
-pub loop-direction-capped : (n : ℕ) {m : ℕ} → m ≡ capped n → loopDirectionFound m ≡ loopDirectionFound n
-loop-direction-capped n e = ap loopDirectionFound e ∙ same-found loopDirectionNumber ColorLoopDirectionFound.Known ColorLoopDirectionFound.Reserved n loopDirections refl
+pub loop-direction-capped : (n : ℕ) {m : ℕ} → m ≡ capped n → loop_direction_found m ≡ loop_direction_found n
+loop-direction-capped n e = ap loop_direction_found e ∙ same-found loop_direction_number ColorLoopDirectionFound.Known ColorLoopDirectionFound.Reserved n loop_directions refl
 
-pub color-mode-capped : (n : ℕ) {m : ℕ} → m ≡ capped n → colorModeFound m ≡ colorModeFound n
-color-mode-capped n e = ap colorModeFound e ∙ same-found colorModeNumber ColorModeFound.Known ColorModeFound.Reserved n colorModes refl
+pub color-mode-capped : (n : ℕ) {m : ℕ} → m ≡ capped n → color_mode_found m ≡ color_mode_found n
+color-mode-capped n e = ap color_mode_found e ∙ same-found color_mode_number ColorModeFound.Known ColorModeFound.Reserved n color_modes refl
 
-pub enhanced-mode-capped : (n : ℕ) {m : ℕ} → m ≡ capped n → enhancedColorModeFound m ≡ enhancedColorModeFound n
-enhanced-mode-capped n e = ap enhancedColorModeFound e ∙ same-found enhancedColorModeNumber EnhancedColorModeFound.Known EnhancedColorModeFound.Reserved n enhancedColorModes refl
+pub enhanced-mode-capped : (n : ℕ) {m : ℕ} → m ≡ capped n → enhanced_color_mode_found m ≡ enhanced_color_mode_found n
+enhanced-mode-capped n e = ap enhanced_color_mode_found e ∙ same-found enhanced_color_mode_number EnhancedColorModeFound.Known EnhancedColorModeFound.Reserved n enhanced_color_modes refl
 
-pub on-off-capped : (n : ℕ) {m : ℕ} → m ≡ capped n → onOffFound m ≡ onOffFound n
-on-off-capped n e = ap onOffFound e ∙ same-found onOffNumber OnOffFound.Known OnOffFound.Reserved n onOffs refl
+pub on-off-capped : (n : ℕ) {m : ℕ} → m ≡ capped n → on_off_found m ≡ on_off_found n
+on-off-capped n e = ap on_off_found e ∙ same-found on_off_number OnOffFound.Known OnOffFound.Reserved n on_offs refl

@@ -21,22 +21,22 @@ use Rattle.matter.specs.declared.enums.OnOff.{OnOff}
 use Rattle.matter.specs.declared.limits.Bounds.{Bounds}
 use Rattle.matter.proofs.Laws.{and_left, and_right, each}
 use Rattle.matter.proofs.Laws as by_number
-use Rattle.matter.specs.Numbers.{directionNumber, moveModeNumber, stepModeNumber, loopActionNumber, loopDirectionNumber, colorModeNumber, enhancedColorModeNumber, onOffNumber}
+use Rattle.matter.specs.Numbers.{direction_number, move_mode_number, step_mode_number, loop_action_number, loop_direction_number, color_mode_number, enhanced_color_mode_number, on_off_number}
 use Rattle.tasks.specs.declared.HueDelta.{HueDelta}
 use Rattle.tasks.specs.declared.TargetSaturation.{TargetSaturation}
 use Rattle.tasks.specs.declared.Task.{Task}
 use Rattle.tasks.specs.declared.Running.{Running}
-use Rattle.tasks.specs.Valid.{small, deltaValid, rateValid, moveToValid, runningValid}
+use Rattle.tasks.specs.Valid.{small, delta_valid, rate_valid, move_to_valid, running_valid}
 use Rattle.tasks.specs.InRange.{InRangeTarget, InRangeTask, InRangeRunning}
 use Rattle.lamp.specs.declared.Lamp.{Lamp}
-use Rattle.lamp.specs.Valid.{lampValid}
+use Rattle.lamp.specs.Valid.{lamp_valid}
 use Rattle.lamp.proofs.Kept.{valid-running}
 use Rattle.lamp.specs.InRange.{InRangeLamp}
-use Rattle.exports.specs.Words.{flag, flagNumber, signed, sign_of, size_of}
-use Rattle.exports.specs.Enums.{directionCase, moveModeCase, stepModeCase, loopActionCase, loopDirectionCase, colorModeCase, enhancedModeCase, onOffCase, directionHas, moveModeHas, stepModeHas, loopActionHas, loopDirectionHas, colorModeHas, enhancedModeHas, onOffHas, directionRead, moveModeRead, stepModeRead, loopActionRead, loopDirectionRead, colorModeRead, enhancedModeRead, onOffRead, directionKnown, moveModeKnown, stepModeKnown, loopActionKnown, loopDirectionKnown, colorModeKnown, enhancedModeKnown, onOffKnown}
-use Rattle.exports.specs.Moves.{deltaOf, target_of, moveToOf, hueMoveOf, saturationMoveOf, miredsToOf, miredsMoveOf, colorLoopOf, task_of, runningOf, taskFits, taskKnown, recordKnown, none, deltaSign, deltaSize, targetGiven, targetNumber, taskNumbers, recordNumbers}
+use Rattle.exports.specs.Words.{flag, flag_number, signed, sign_of, size_of}
+use Rattle.exports.specs.Enums.{direction_case, move_mode_case, step_mode_case, loop_action_case, loop_direction_case, color_mode_case, enhanced_mode_case, on_off_case, direction_has, move_mode_has, step_mode_has, loop_action_has, loop_direction_has, color_mode_has, enhanced_mode_has, on_off_has, direction_read, move_mode_read, step_mode_read, loop_action_read, loop_direction_read, color_mode_read, enhanced_mode_read, on_off_read, direction_known, move_mode_known, step_mode_known, loop_action_known, loop_direction_known, color_mode_known, enhanced_mode_known, on_off_known}
+use Rattle.exports.specs.Moves.{delta_of, target_of, move_to_of, hue_move_of, saturation_move_of, mireds_to_of, mireds_move_of, color_loop_of, task_of, running_of, task_fits, task_known, record_known, none, delta_sign, delta_size, target_given, target_number, task_numbers, record_numbers}
 use Rattle.exports.specs.RoundTrips.{Back}
-use Rattle.exports.specs.Lamps.{recordOf, lampOf, lampFits, lampKnown, lampWords}
+use Rattle.exports.specs.Lamps.{record_of, lamp_of, lamp_fits, lamp_known, lamp_words}
 
 -- ---- numbers, flags and enums
 
@@ -44,42 +44,42 @@ use Rattle.exports.specs.Lamps.{recordOf, lampOf, lampFits, lampKnown, lampWords
 pub within : {n : ℕ} (limit : ℕ) → n < suc limit → Back (λ x. x % suc limit) (λ x. leb x limit) n n
 within {n} limit h = record { same = mod-eq_of_lt h; taken = le-leb n limit (omega arith) }
 
-pub flag-back : (b : Bool) → Back flag (λ n. leb n 1) (flagNumber b) b
+pub flag-back : (b : Bool) → Back flag (λ n. leb n 1) (flag_number b) b
 unfolding flag
 flag-back true = record { same = refl; taken = refl }
 flag-back false = record { same = refl; taken = refl }
 
-pub direction-back : (d : DirectionEnum) → Back directionRead directionKnown (directionNumber d) d
-unfolding directionRead directionKnown
-direction-back d = record { same = ap directionCase (by_number.direction-back d); taken = ap directionHas (by_number.direction-back d) }
+pub direction-back : (d : DirectionEnum) → Back direction_read direction_known (direction_number d) d
+unfolding direction_read direction_known
+direction-back d = record { same = ap direction_case (by_number.direction-back d); taken = ap direction_has (by_number.direction-back d) }
 
-pub move-mode-back : (m : MoveModeEnum) → Back moveModeRead moveModeKnown (moveModeNumber m) m
-unfolding moveModeRead moveModeKnown
-move-mode-back m = record { same = ap moveModeCase (by_number.move-mode-back m); taken = ap moveModeHas (by_number.move-mode-back m) }
+pub move-mode-back : (m : MoveModeEnum) → Back move_mode_read move_mode_known (move_mode_number m) m
+unfolding move_mode_read move_mode_known
+move-mode-back m = record { same = ap move_mode_case (by_number.move-mode-back m); taken = ap move_mode_has (by_number.move-mode-back m) }
 
-pub step-mode-back : (m : StepModeEnum) → Back stepModeRead stepModeKnown (stepModeNumber m) m
-unfolding stepModeRead stepModeKnown
-step-mode-back m = record { same = ap stepModeCase (by_number.step-mode-back m); taken = ap stepModeHas (by_number.step-mode-back m) }
+pub step-mode-back : (m : StepModeEnum) → Back step_mode_read step_mode_known (step_mode_number m) m
+unfolding step_mode_read step_mode_known
+step-mode-back m = record { same = ap step_mode_case (by_number.step-mode-back m); taken = ap step_mode_has (by_number.step-mode-back m) }
 
-pub loop-action-back : (a : ColorLoopActionEnum) → Back loopActionRead loopActionKnown (loopActionNumber a) a
-unfolding loopActionRead loopActionKnown
-loop-action-back a = record { same = ap loopActionCase (by_number.loop-action-back a); taken = ap loopActionHas (by_number.loop-action-back a) }
+pub loop-action-back : (a : ColorLoopActionEnum) → Back loop_action_read loop_action_known (loop_action_number a) a
+unfolding loop_action_read loop_action_known
+loop-action-back a = record { same = ap loop_action_case (by_number.loop-action-back a); taken = ap loop_action_has (by_number.loop-action-back a) }
 
-pub loop-direction-back : (d : ColorLoopDirectionEnum) → Back loopDirectionRead loopDirectionKnown (loopDirectionNumber d) d
-unfolding loopDirectionRead loopDirectionKnown
-loop-direction-back d = record { same = ap loopDirectionCase (by_number.loop-direction-back d); taken = ap loopDirectionHas (by_number.loop-direction-back d) }
+pub loop-direction-back : (d : ColorLoopDirectionEnum) → Back loop_direction_read loop_direction_known (loop_direction_number d) d
+unfolding loop_direction_read loop_direction_known
+loop-direction-back d = record { same = ap loop_direction_case (by_number.loop-direction-back d); taken = ap loop_direction_has (by_number.loop-direction-back d) }
 
-pub color-mode-back : (m : ColorModeEnum) → Back colorModeRead colorModeKnown (colorModeNumber m) m
-unfolding colorModeRead colorModeKnown
-color-mode-back m = record { same = ap colorModeCase (by_number.color-mode-back m); taken = ap colorModeHas (by_number.color-mode-back m) }
+pub color-mode-back : (m : ColorModeEnum) → Back color_mode_read color_mode_known (color_mode_number m) m
+unfolding color_mode_read color_mode_known
+color-mode-back m = record { same = ap color_mode_case (by_number.color-mode-back m); taken = ap color_mode_has (by_number.color-mode-back m) }
 
-pub enhanced-mode-back : (m : EnhancedColorModeEnum) → Back enhancedModeRead enhancedModeKnown (enhancedColorModeNumber m) m
-unfolding enhancedModeRead enhancedModeKnown
-enhanced-mode-back m = record { same = ap enhancedModeCase (by_number.enhanced-color-mode-back m); taken = ap enhancedModeHas (by_number.enhanced-color-mode-back m) }
+pub enhanced-mode-back : (m : EnhancedColorModeEnum) → Back enhanced_mode_read enhanced_mode_known (enhanced_color_mode_number m) m
+unfolding enhanced_mode_read enhanced_mode_known
+enhanced-mode-back m = record { same = ap enhanced_mode_case (by_number.enhanced-color-mode-back m); taken = ap enhanced_mode_has (by_number.enhanced-color-mode-back m) }
 
-pub on-off-back : (o : OnOff) → Back onOffRead onOffKnown (onOffNumber o) o
-unfolding onOffRead onOffKnown
-on-off-back o = record { same = ap onOffCase (by_number.on-off-back o); taken = ap onOffHas (by_number.on-off-back o) }
+pub on-off-back : (o : OnOff) → Back on_off_read on_off_known (on_off_number o) o
+unfolding on_off_read on_off_known
+on-off-back o = record { same = ap on_off_case (by_number.on-off-back o); taken = ap on_off_has (by_number.on-off-back o) }
 
 -- ---- signed numbers
 
@@ -99,12 +99,12 @@ size-known z h = le-leb (nat_abs z) 9223372036854775807 (omega arith)
 -- ---- tasks
 
 -- the signed number of a task, 0 where it has none
-abbrev pub deltaWay : HueDelta → ℤ
-deltaWay HueDelta.Keep = pos 0
-deltaWay (HueDelta.By way) = way
+abbrev pub delta_way : HueDelta → ℤ
+delta_way HueDelta.Keep = pos 0
+delta_way (HueDelta.By way) = way
 
 abbrev pub way_of : Task → ℤ
-way_of (Task.HueSaturationMoveTo t) = deltaWay t.delta
+way_of (Task.HueSaturationMoveTo t) = delta_way t.delta
 way_of (Task.HueMove t) = pos 0
 way_of (Task.SaturationMove t) = pos 0
 way_of (Task.ColorTemperatureMoveTo t) = pos 0
@@ -112,21 +112,21 @@ way_of (Task.ColorTemperatureMove t) = t.rate
 way_of (Task.ColorLoop t) = pos 0
 way_of Task.Stop = pos 0
 
-delta-back : (d : HueDelta) → Sized (deltaWay d) → (deltaOf (deltaSign d) (deltaSize d) ≡ d) × (leb (deltaSign d) 2 ≡ true) × (leb (deltaSize d) 9223372036854775807 ≡ true)
-unfolding deltaOf
+delta-back : (d : HueDelta) → Sized (delta_way d) → (delta_of (delta_sign d) (delta_size d) ≡ d) × (leb (delta_sign d) 2 ≡ true) × (leb (delta_size d) 9223372036854775807 ≡ true)
+unfolding delta_of
 delta-back HueDelta.Keep h = (refl, refl, refl)
 delta-back (HueDelta.By way) h =
     let s = signed_back way h in
     (simp (s.2, s.0), s.1, size-known way h)
 
-target-back : (s : TargetSaturation) → InRangeTarget s → (target_of (targetGiven s) (targetNumber s) ≡ s) × (leb (targetGiven s) 1 ≡ true) × (leb (targetNumber s) 255 ≡ true)
+target-back : (s : TargetSaturation) → InRangeTarget s → (target_of (target_given s) (target_number s) ≡ s) × (leb (target_given s) 1 ≡ true) × (leb (target_number s) 255 ≡ true)
 unfolding target_of
 target-back TargetSaturation.Keep h = (refl, refl, refl)
 target-back (TargetSaturation.To saturation) h = (simp (within 255 h).same, refl, (within 255 h).taken)
 
 -- a task, where its way is not the smallest number
-pub task-back : (t : Task) → InRangeTask t → Sized (way_of t) → Back task_of taskKnown (taskNumbers t) t
-unfolding taskNumbers task_of taskKnown taskFits moveToOf hueMoveOf saturationMoveOf miredsToOf miredsMoveOf colorLoopOf
+pub task-back : (t : Task) → InRangeTask t → Sized (way_of t) → Back task_of task_known (task_numbers t) t
+unfolding task_numbers task_of task_known task_fits move_to_of hue_move_of saturation_move_of mireds_to_of mireds_move_of color_loop_of
 task-back (Task.HueSaturationMoveTo t) h s =
     let d = delta-back t.delta s in
     let g = target-back t.saturation h.saturation in
@@ -158,8 +158,8 @@ task-back (Task.ColorLoop t) h s =
 task-back Task.Stop h s = record { same = refl; taken = refl }
 
 -- the smallest number, as a rate of mireds, is written, and not known
-pub smallest-unknown : (min max : ℕ) → taskKnown (taskNumbers (Task.ColorTemperatureMove (record { rate = negsuc 9223372036854775807; min = min; max = max }))) ≡ false
-unfolding taskNumbers taskKnown taskFits
+pub smallest-unknown : (min max : ℕ) → task_known (task_numbers (Task.ColorTemperatureMove (record { rate = negsuc 9223372036854775807; min = min; max = max }))) ≡ false
+unfolding task_numbers task_known task_fits
 smallest-unknown min max = refl
 
 -- a way or a rate valid is not that number
@@ -170,11 +170,11 @@ bounded (negsuc n) e f = omega (arith, leb-true n 65534 e)
 small-sized : (z : ℤ) → small z ≡ true → Sized z
 small-sized z e = bounded z (and_left (le_z (neg_ℤ (pos 65535)) z) _ e) (and_right (le_z (neg_ℤ (pos 65535)) z) _ e)
 
-delta-sized : (d : HueDelta) → deltaValid d ≡ true → Sized (deltaWay d)
+delta-sized : (d : HueDelta) → delta_valid d ≡ true → Sized (delta_way d)
 delta-sized HueDelta.Keep e = omega arith
 delta-sized (HueDelta.By way) e = small-sized way e
 
-rate-sized : (z : ℤ) → rateValid z ≡ true → Sized z
+rate-sized : (z : ℤ) → rate_valid z ≡ true → Sized z
 rate-sized z e = small-sized z (and_right (not (eqb (nat_abs z) 0)) (small z) e)
 
 -- ---- running records
@@ -185,8 +185,8 @@ unfolding task_of
 no-task = refl
 
 -- a task, with what was found at its start in fields of its kind; an idle lamp has no task
-pub running-back : (r : Running) (bounds : Bounds) (clock : ℕ) → runningValid r bounds clock ≡ true → InRangeRunning r → Back runningOf recordKnown (recordNumbers r) r
-unfolding recordNumbers recordKnown taskNumbers moveToValid runningValid
+pub running-back : (r : Running) (bounds : Bounds) (clock : ℕ) → running_valid r bounds clock ≡ true → InRangeRunning r → Back running_of record_known (record_numbers r) r
+unfolding record_numbers record_known task_numbers move_to_valid running_valid
 running-back Running.Idle bounds clock e h = record { same = simp no-task; taken = refl }
 running-back (Running.HueSaturationMoveTo run) bounds clock e h =
     let t = task-back (Task.HueSaturationMoveTo run.task) h.3 (delta-sized run.task.delta (each _ (each _ e).0).1.0) in
@@ -218,8 +218,8 @@ running-back (Running.ColorLoop direction hue seconds start) bounds clock e h =
 -- ---- lamps
 
 -- a valid lamp in range
-pub lamp-back : (l : Lamp) → lampValid l ≡ true → InRangeLamp l → Back lampOf lampKnown (lampWords l) l
-unfolding lampKnown lampFits
+pub lamp-back : (l : Lamp) → lamp_valid l ≡ true → InRangeLamp l → Back lamp_of lamp_known (lamp_words l) l
+unfolding lamp_known lamp_fits
 lamp-back l validity h =
     let low = within 65535 h.bounds.min in
     let high = within 65535 h.bounds.max in
@@ -232,10 +232,10 @@ lamp-back l validity h =
     let emode = enhanced-mode-back l.color.emode in
     let active = flag-back l.looping.active in
     let direction = loop-direction-back l.looping.direction in
-    let time = within 65535 h.loopTime in
-    let first = within 65535 h.loopStart in
-    let stored = within 65535 h.loopStored in
-    let run : Back runningOf recordKnown (recordOf (lampWords l)) l.running = running-back l.running l.bounds l.clock (valid-running l validity) h.running in
+    let time = within 65535 h.loop_time in
+    let first = within 65535 h.loop_start in
+    let stored = within 65535 h.loop_stored in
+    let run : Back running_of record_known (record_of (lamp_words l)) l.running = running-back l.running l.bounds l.clock (valid-running l validity) h.running in
     record {
       same = simp (low.same, high.same, options.same, tenths.same, hue.same, saturation.same, mireds.same, mode.same, emode.same, active.same, direction.same, time.same, first.same, stored.same, run.same);
       taken = simp (low.taken, high.taken, options.taken, tenths.taken, hue.taken, saturation.taken, mireds.taken, mode.taken, emode.taken, active.taken, direction.taken, time.taken, first.taken, stored.taken, run.taken);

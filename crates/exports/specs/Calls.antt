@@ -13,10 +13,10 @@ use Rattle.exports.specs.declared.moves.TaskNumbers.{TaskNumbers}
 use Rattle.exports.specs.declared.calls.CommandNumbers.{CommandNumbers}
 use Rattle.exports.specs.Kinds as K
 use Rattle.exports.specs.Words.{at, byte, short, flag}
-use Rattle.exports.specs.Enums.{directionRead, moveModeRead, stepModeRead, loopActionRead, loopDirectionRead}
-use Rattle.exports.specs.Enums.{onOffRead, directionKnown, moveModeKnown, stepModeKnown, loopActionKnown}
-use Rattle.exports.specs.Enums.{loopDirectionKnown, onOffKnown}
-use Rattle.exports.specs.Moves.{task_of, taskKnown}
+use Rattle.exports.specs.Enums.{direction_read, move_mode_read, step_mode_read, loop_action_read, loop_direction_read}
+use Rattle.exports.specs.Enums.{on_off_read, direction_known, move_mode_known, step_mode_known, loop_action_known}
+use Rattle.exports.specs.Enums.{loop_direction_known, on_off_known}
+use Rattle.exports.specs.Moves.{task_of, task_known}
 
 -- the number of an answer to words that are no call
 abbrev pub unreadable : ℕ
@@ -27,80 +27,80 @@ unreadable = 100
 abbrev is : CommandNumbers → ℕ → Bool
 is n kind = eqb n.kind kind
 
-unfoldable pub hueCommand : CommandNumbers → Command
-hueCommand n =
-    cond (is n K.moveToHue) (Command.MoveToHue (byte n.a) (directionRead n.b) (short n.c))
-    (cond (is n K.moveHue) (Command.MoveHue (moveModeRead n.a) (byte n.b) (flag n.c))
-    (Command.StepHue (stepModeRead n.a) (byte n.b) (short n.c)))
+unfoldable pub hue_command : CommandNumbers → Command
+hue_command n =
+    cond (is n K.move_to_hue) (Command.MoveToHue (byte n.a) (direction_read n.b) (short n.c))
+    (cond (is n K.move_hue) (Command.MoveHue (move_mode_read n.a) (byte n.b) (flag n.c))
+    (Command.StepHue (step_mode_read n.a) (byte n.b) (short n.c)))
 
-unfoldable pub saturationCommand : CommandNumbers → Command
-saturationCommand n =
-    cond (is n K.moveToSaturation) (Command.MoveToSaturation (byte n.a) (short n.b))
-    (cond (is n K.moveSaturation) (Command.MoveSaturation (moveModeRead n.a) (byte n.b))
-    (cond (is n K.stepSaturation) (Command.StepSaturation (stepModeRead n.a) (byte n.b) (short n.c))
+unfoldable pub saturation_command : CommandNumbers → Command
+saturation_command n =
+    cond (is n K.move_to_saturation) (Command.MoveToSaturation (byte n.a) (short n.b))
+    (cond (is n K.move_saturation) (Command.MoveSaturation (move_mode_read n.a) (byte n.b))
+    (cond (is n K.step_saturation) (Command.StepSaturation (step_mode_read n.a) (byte n.b) (short n.c))
     (Command.MoveToHueAndSaturation (byte n.a) (byte n.b) (short n.c) (flag n.d) (short n.e))))
 
-unfoldable pub enhancedCommand : CommandNumbers → Command
-enhancedCommand n =
-    cond (is n K.enhancedMoveToHue) (Command.EnhancedMoveToHue (short n.a) (directionRead n.b) (short n.c))
-    (cond (is n K.enhancedMoveHue) (Command.EnhancedMoveHue (moveModeRead n.a) (short n.b))
-    (Command.EnhancedStepHue (stepModeRead n.a) (short n.b) (short n.c)))
+unfoldable pub enhanced_command : CommandNumbers → Command
+enhanced_command n =
+    cond (is n K.enhanced_move_to_hue) (Command.EnhancedMoveToHue (short n.a) (direction_read n.b) (short n.c))
+    (cond (is n K.enhanced_move_hue) (Command.EnhancedMoveHue (move_mode_read n.a) (short n.b))
+    (Command.EnhancedStepHue (step_mode_read n.a) (short n.b) (short n.c)))
 
-unfoldable pub miredsCommand : CommandNumbers → Command
-miredsCommand n =
-    cond (is n K.moveToColorTemperature) (Command.MoveToColorTemperature (short n.a) (short n.b))
-    (cond (is n K.moveColorTemperature)
-    (Command.MoveColorTemperature (moveModeRead n.a) (short n.b) (short n.c) (short n.d))
-    (Command.StepColorTemperature (stepModeRead n.a) (short n.b) (short n.c) (short n.d) (short n.e)))
+unfoldable pub mireds_command : CommandNumbers → Command
+mireds_command n =
+    cond (is n K.move_to_color_temperature) (Command.MoveToColorTemperature (short n.a) (short n.b))
+    (cond (is n K.move_color_temperature)
+    (Command.MoveColorTemperature (move_mode_read n.a) (short n.b) (short n.c) (short n.d))
+    (Command.StepColorTemperature (step_mode_read n.a) (short n.b) (short n.c) (short n.d) (short n.e)))
 
-unfoldable pub loopCommand : CommandNumbers → Command
-loopCommand n =
-    Command.ColorLoopSet (byte n.a) (loopActionRead n.b) (loopDirectionRead n.c) (short n.d) (short n.e)
+unfoldable pub loop_command : CommandNumbers → Command
+loop_command n =
+    Command.ColorLoopSet (byte n.a) (loop_action_read n.b) (loop_direction_read n.c) (short n.d) (short n.e)
 
-unfoldable pub commandOf : CommandNumbers → Command
-commandOf n =
-    cond (leb n.kind K.stepHue) (hueCommand n)
-    (cond (leb n.kind K.moveToHueAndSaturation) (saturationCommand n)
-    (cond (is n K.colorLoopSet) (loopCommand n)
-    (cond (is n K.stopMoveStep) Command.StopMoveStep
-    (cond (leb K.enhancedMoveToHue n.kind && leb n.kind K.enhancedStepHue) (enhancedCommand n)
-    (miredsCommand n)))))
+unfoldable pub command_of : CommandNumbers → Command
+command_of n =
+    cond (leb n.kind K.step_hue) (hue_command n)
+    (cond (leb n.kind K.move_to_hue_and_saturation) (saturation_command n)
+    (cond (is n K.color_loop_set) (loop_command n)
+    (cond (is n K.stop_move_step) Command.StopMoveStep
+    (cond (leb K.enhanced_move_to_hue n.kind && leb n.kind K.enhanced_step_hue) (enhanced_command n)
+    (mireds_command n)))))
 
-unfoldable pub requestOf : CommandNumbers → Request
-requestOf n = request (commandOf n) (options (byte n.mask) (byte n.overrides))
+unfoldable pub request_of : CommandNumbers → Request
+request_of n = request (command_of n) (options (byte n.mask) (byte n.overrides))
 
 -- each argument is within its field: sixteen bits at most, eight for some, 0 or 1 for a flag
-unfoldable pub commandFits : CommandNumbers → Bool
-commandFits n =
+unfoldable pub command_fits : CommandNumbers → Bool
+command_fits n =
     leb n.mask 255 && leb n.overrides 255
     && leb n.a 65535
     && leb n.b 65535
     && leb n.c 65535
     && leb n.d 65535
     && leb n.e 65535
-    && (not (is n K.moveToHue || is n K.moveToSaturation || is n K.moveToHueAndSaturation || is n K.colorLoopSet)
+    && (not (is n K.move_to_hue || is n K.move_to_saturation || is n K.move_to_hue_and_saturation || is n K.color_loop_set)
     || leb n.a 255)
-    && (not (is n K.moveHue || is n K.stepHue || is n K.moveSaturation || is n K.stepSaturation
-    || is n K.moveToHueAndSaturation) || leb n.b 255)
-    && (not (is n K.moveHue) || leb n.c 1)
-    && (not (is n K.moveToHueAndSaturation) || leb n.d 1)
+    && (not (is n K.move_hue || is n K.step_hue || is n K.move_saturation || is n K.step_saturation
+    || is n K.move_to_hue_and_saturation) || leb n.b 255)
+    && (not (is n K.move_hue) || leb n.c 1)
+    && (not (is n K.move_to_hue_and_saturation) || leb n.d 1)
 
 -- which can be read: the kind exists, the enums' numbers do, and each argument is within its field
-unfoldable pub commandKnown : CommandNumbers → Bool
-commandKnown n =
-    commandFits n
-    && (((is n K.moveToHue || is n K.enhancedMoveToHue) && directionKnown n.b)
-    || ((is n K.moveHue || is n K.moveSaturation || is n K.enhancedMoveHue || is n K.moveColorTemperature)
-    && moveModeKnown n.a)
-    || ((is n K.stepHue || is n K.stepSaturation || is n K.enhancedStepHue || is n K.stepColorTemperature)
-    && stepModeKnown n.a)
-    || is n K.moveToSaturation || is n K.moveToHueAndSaturation || is n K.moveToColorTemperature || is n K.stopMoveStep
-    || (is n K.colorLoopSet && loopActionKnown n.b && loopDirectionKnown n.c))
+unfoldable pub command_known : CommandNumbers → Bool
+command_known n =
+    command_fits n
+    && (((is n K.move_to_hue || is n K.enhanced_move_to_hue) && direction_known n.b)
+    || ((is n K.move_hue || is n K.move_saturation || is n K.enhanced_move_hue || is n K.move_color_temperature)
+    && move_mode_known n.a)
+    || ((is n K.step_hue || is n K.step_saturation || is n K.enhanced_step_hue || is n K.step_color_temperature)
+    && step_mode_known n.a)
+    || is n K.move_to_saturation || is n K.move_to_hue_and_saturation || is n K.move_to_color_temperature || is n K.stop_move_step
+    || (is n K.color_loop_set && loop_action_known n.b && loop_direction_known n.c))
 
 -- ---- calls
 
-abbrev pub commandNumbers : List ℕ → CommandNumbers
-commandNumbers w =
+abbrev pub command_numbers : List ℕ → CommandNumbers
+command_numbers w =
     record {
       kind = at w 0;
       mask = at w 3;
@@ -112,22 +112,22 @@ commandNumbers w =
       e = at w 9;
     }
 
-abbrev pub startNumbers : List ℕ → TaskNumbers
-startNumbers w = record { kind = at w 3; a = at w 4; b = at w 5; c = at w 6; d = at w 7; e = at w 8; f = at w 9 }
+abbrev pub start_numbers : List ℕ → TaskNumbers
+start_numbers w = record { kind = at w 3; a = at w 4; b = at w 5; c = at w 6; d = at w 7; e = at w 8; f = at w 9 }
 
 unfoldable pub call_of : List ℕ → Call
 call_of w =
     cond (eqb (at w 0) K.step) (Call.Step (at w 1))
-    (cond (eqb (at w 0) K.start) (Call.Start (task_of (startNumbers w)) (at w 1))
+    (cond (eqb (at w 0) K.start) (Call.Start (task_of (start_numbers w)) (at w 1))
     (cond (eqb (at w 0) K.halt) (Call.Halt (at w 1))
-    (Call.Command (requestOf (commandNumbers w)) (onOffRead (at w 2)) (at w 1))))
+    (Call.Command (request_of (command_numbers w)) (on_off_read (at w 2)) (at w 1))))
 
 -- words that are a call: ten of them, with a kind and enums' numbers that exist, and each within its field
-unfoldable pub callKnown : List ℕ → Bool
-callKnown w =
+unfoldable pub call_known : List ℕ → Bool
+call_known w =
     eqb (length w) 10
-    && ((eqb (at w 0) K.start && taskKnown (startNumbers w)) || eqb (at w 0) K.step || eqb (at w 0) K.halt
-    || (commandKnown (commandNumbers w) && onOffKnown (at w 2)))
+    && ((eqb (at w 0) K.start && task_known (start_numbers w)) || eqb (at w 0) K.step || eqb (at w 0) K.halt
+    || (command_known (command_numbers w) && on_off_known (at w 2)))
 
 -- the answer to a call in words; a kind past the last one is no call
 unfoldable pub sent : Lamp → List ℕ → Answer

@@ -1,8 +1,8 @@
 -- The cluster's enums by their numbers, which `matter` states: the case that a number has, and whether one has it. A
 -- number that no case has is read as the case that the line of `Reserved` has here.
 use Rattle.std.specs.Prelude.{ℕ, Bool, true, false}
-use Rattle.matter.specs.Numbers.{directionFound, moveModeFound, stepModeFound, loopActionFound, loopDirectionFound}
-use Rattle.matter.specs.Numbers.{colorModeFound, enhancedColorModeFound, onOffFound}
+use Rattle.matter.specs.Numbers.{direction_found, move_mode_found, step_mode_found, loop_action_found, loop_direction_found}
+use Rattle.matter.specs.Numbers.{color_mode_found, enhanced_color_mode_found, on_off_found}
 use Rattle.matter.specs.declared.enums.DirectionEnum.{DirectionEnum}
 use Rattle.matter.specs.declared.enums.DirectionFound.{DirectionFound}
 use Rattle.matter.specs.declared.enums.MoveModeEnum.{MoveModeEnum}
@@ -21,121 +21,121 @@ use Rattle.matter.specs.declared.enums.OnOff.{OnOff}
 use Rattle.matter.specs.declared.enums.OnOffFound.{OnOffFound}
 
 -- DirectionEnum
-abbrev pub directionCase : DirectionFound → DirectionEnum
-directionCase (DirectionFound.Known direction) = direction
-directionCase DirectionFound.Reserved = DirectionEnum.Shortest
+abbrev pub direction_case : DirectionFound → DirectionEnum
+direction_case (DirectionFound.Known direction) = direction
+direction_case DirectionFound.Reserved = DirectionEnum.Shortest
 
-abbrev pub directionHas : DirectionFound → Bool
-directionHas (DirectionFound.Known direction) = true
-directionHas DirectionFound.Reserved = false
+abbrev pub direction_has : DirectionFound → Bool
+direction_has (DirectionFound.Known direction) = true
+direction_has DirectionFound.Reserved = false
 
-unfoldable pub directionRead : ℕ → DirectionEnum
-directionRead n = directionCase (directionFound n)
+unfoldable pub direction_read : ℕ → DirectionEnum
+direction_read n = direction_case (direction_found n)
 
-unfoldable pub directionKnown : ℕ → Bool
-directionKnown n = directionHas (directionFound n)
+unfoldable pub direction_known : ℕ → Bool
+direction_known n = direction_has (direction_found n)
 
 -- MoveModeEnum
-abbrev pub moveModeCase : MoveModeFound → MoveModeEnum
-moveModeCase (MoveModeFound.Known mode) = mode
-moveModeCase MoveModeFound.Reserved = MoveModeEnum.Stop
+abbrev pub move_mode_case : MoveModeFound → MoveModeEnum
+move_mode_case (MoveModeFound.Known mode) = mode
+move_mode_case MoveModeFound.Reserved = MoveModeEnum.Stop
 
-abbrev pub moveModeHas : MoveModeFound → Bool
-moveModeHas (MoveModeFound.Known mode) = true
-moveModeHas MoveModeFound.Reserved = false
+abbrev pub move_mode_has : MoveModeFound → Bool
+move_mode_has (MoveModeFound.Known mode) = true
+move_mode_has MoveModeFound.Reserved = false
 
-unfoldable pub moveModeRead : ℕ → MoveModeEnum
-moveModeRead n = moveModeCase (moveModeFound n)
+unfoldable pub move_mode_read : ℕ → MoveModeEnum
+move_mode_read n = move_mode_case (move_mode_found n)
 
-unfoldable pub moveModeKnown : ℕ → Bool
-moveModeKnown n = moveModeHas (moveModeFound n)
+unfoldable pub move_mode_known : ℕ → Bool
+move_mode_known n = move_mode_has (move_mode_found n)
 
 -- StepModeEnum
-abbrev pub stepModeCase : StepModeFound → StepModeEnum
-stepModeCase (StepModeFound.Known mode) = mode
-stepModeCase StepModeFound.Reserved = StepModeEnum.Down
+abbrev pub step_mode_case : StepModeFound → StepModeEnum
+step_mode_case (StepModeFound.Known mode) = mode
+step_mode_case StepModeFound.Reserved = StepModeEnum.Down
 
-abbrev pub stepModeHas : StepModeFound → Bool
-stepModeHas (StepModeFound.Known mode) = true
-stepModeHas StepModeFound.Reserved = false
+abbrev pub step_mode_has : StepModeFound → Bool
+step_mode_has (StepModeFound.Known mode) = true
+step_mode_has StepModeFound.Reserved = false
 
-unfoldable pub stepModeRead : ℕ → StepModeEnum
-stepModeRead n = stepModeCase (stepModeFound n)
+unfoldable pub step_mode_read : ℕ → StepModeEnum
+step_mode_read n = step_mode_case (step_mode_found n)
 
-unfoldable pub stepModeKnown : ℕ → Bool
-stepModeKnown n = stepModeHas (stepModeFound n)
+unfoldable pub step_mode_known : ℕ → Bool
+step_mode_known n = step_mode_has (step_mode_found n)
 
 -- ColorLoopActionEnum
-abbrev pub loopActionCase : ColorLoopActionFound → ColorLoopActionEnum
-loopActionCase (ColorLoopActionFound.Known action) = action
-loopActionCase ColorLoopActionFound.Reserved = ColorLoopActionEnum.Deactivate
+abbrev pub loop_action_case : ColorLoopActionFound → ColorLoopActionEnum
+loop_action_case (ColorLoopActionFound.Known action) = action
+loop_action_case ColorLoopActionFound.Reserved = ColorLoopActionEnum.Deactivate
 
-abbrev pub loopActionHas : ColorLoopActionFound → Bool
-loopActionHas (ColorLoopActionFound.Known action) = true
-loopActionHas ColorLoopActionFound.Reserved = false
+abbrev pub loop_action_has : ColorLoopActionFound → Bool
+loop_action_has (ColorLoopActionFound.Known action) = true
+loop_action_has ColorLoopActionFound.Reserved = false
 
-unfoldable pub loopActionRead : ℕ → ColorLoopActionEnum
-loopActionRead n = loopActionCase (loopActionFound n)
+unfoldable pub loop_action_read : ℕ → ColorLoopActionEnum
+loop_action_read n = loop_action_case (loop_action_found n)
 
-unfoldable pub loopActionKnown : ℕ → Bool
-loopActionKnown n = loopActionHas (loopActionFound n)
+unfoldable pub loop_action_known : ℕ → Bool
+loop_action_known n = loop_action_has (loop_action_found n)
 
 -- ColorLoopDirectionEnum
-abbrev pub loopDirectionCase : ColorLoopDirectionFound → ColorLoopDirectionEnum
-loopDirectionCase (ColorLoopDirectionFound.Known direction) = direction
-loopDirectionCase ColorLoopDirectionFound.Reserved = ColorLoopDirectionEnum.Decrement
+abbrev pub loop_direction_case : ColorLoopDirectionFound → ColorLoopDirectionEnum
+loop_direction_case (ColorLoopDirectionFound.Known direction) = direction
+loop_direction_case ColorLoopDirectionFound.Reserved = ColorLoopDirectionEnum.Decrement
 
-abbrev pub loopDirectionHas : ColorLoopDirectionFound → Bool
-loopDirectionHas (ColorLoopDirectionFound.Known direction) = true
-loopDirectionHas ColorLoopDirectionFound.Reserved = false
+abbrev pub loop_direction_has : ColorLoopDirectionFound → Bool
+loop_direction_has (ColorLoopDirectionFound.Known direction) = true
+loop_direction_has ColorLoopDirectionFound.Reserved = false
 
-unfoldable pub loopDirectionRead : ℕ → ColorLoopDirectionEnum
-loopDirectionRead n = loopDirectionCase (loopDirectionFound n)
+unfoldable pub loop_direction_read : ℕ → ColorLoopDirectionEnum
+loop_direction_read n = loop_direction_case (loop_direction_found n)
 
-unfoldable pub loopDirectionKnown : ℕ → Bool
-loopDirectionKnown n = loopDirectionHas (loopDirectionFound n)
+unfoldable pub loop_direction_known : ℕ → Bool
+loop_direction_known n = loop_direction_has (loop_direction_found n)
 
 -- ColorModeEnum
-abbrev pub colorModeCase : ColorModeFound → ColorModeEnum
-colorModeCase (ColorModeFound.Known mode) = mode
-colorModeCase ColorModeFound.Reserved = ColorModeEnum.CurrentHueAndCurrentSaturation
+abbrev pub color_mode_case : ColorModeFound → ColorModeEnum
+color_mode_case (ColorModeFound.Known mode) = mode
+color_mode_case ColorModeFound.Reserved = ColorModeEnum.CurrentHueAndCurrentSaturation
 
-abbrev pub colorModeHas : ColorModeFound → Bool
-colorModeHas (ColorModeFound.Known mode) = true
-colorModeHas ColorModeFound.Reserved = false
+abbrev pub color_mode_has : ColorModeFound → Bool
+color_mode_has (ColorModeFound.Known mode) = true
+color_mode_has ColorModeFound.Reserved = false
 
-unfoldable pub colorModeRead : ℕ → ColorModeEnum
-colorModeRead n = colorModeCase (colorModeFound n)
+unfoldable pub color_mode_read : ℕ → ColorModeEnum
+color_mode_read n = color_mode_case (color_mode_found n)
 
-unfoldable pub colorModeKnown : ℕ → Bool
-colorModeKnown n = colorModeHas (colorModeFound n)
+unfoldable pub color_mode_known : ℕ → Bool
+color_mode_known n = color_mode_has (color_mode_found n)
 
 -- EnhancedColorModeEnum
-abbrev pub enhancedModeCase : EnhancedColorModeFound → EnhancedColorModeEnum
-enhancedModeCase (EnhancedColorModeFound.Known mode) = mode
-enhancedModeCase EnhancedColorModeFound.Reserved = EnhancedColorModeEnum.CurrentHueAndCurrentSaturation
+abbrev pub enhanced_mode_case : EnhancedColorModeFound → EnhancedColorModeEnum
+enhanced_mode_case (EnhancedColorModeFound.Known mode) = mode
+enhanced_mode_case EnhancedColorModeFound.Reserved = EnhancedColorModeEnum.CurrentHueAndCurrentSaturation
 
-abbrev pub enhancedModeHas : EnhancedColorModeFound → Bool
-enhancedModeHas (EnhancedColorModeFound.Known mode) = true
-enhancedModeHas EnhancedColorModeFound.Reserved = false
+abbrev pub enhanced_mode_has : EnhancedColorModeFound → Bool
+enhanced_mode_has (EnhancedColorModeFound.Known mode) = true
+enhanced_mode_has EnhancedColorModeFound.Reserved = false
 
-unfoldable pub enhancedModeRead : ℕ → EnhancedColorModeEnum
-enhancedModeRead n = enhancedModeCase (enhancedColorModeFound n)
+unfoldable pub enhanced_mode_read : ℕ → EnhancedColorModeEnum
+enhanced_mode_read n = enhanced_mode_case (enhanced_color_mode_found n)
 
-unfoldable pub enhancedModeKnown : ℕ → Bool
-enhancedModeKnown n = enhancedModeHas (enhancedColorModeFound n)
+unfoldable pub enhanced_mode_known : ℕ → Bool
+enhanced_mode_known n = enhanced_mode_has (enhanced_color_mode_found n)
 
 -- OnOff
-abbrev pub onOffCase : OnOffFound → OnOff
-onOffCase (OnOffFound.Known state) = state
-onOffCase OnOffFound.Reserved = OnOff.Off
+abbrev pub on_off_case : OnOffFound → OnOff
+on_off_case (OnOffFound.Known state) = state
+on_off_case OnOffFound.Reserved = OnOff.Off
 
-abbrev pub onOffHas : OnOffFound → Bool
-onOffHas (OnOffFound.Known state) = true
-onOffHas OnOffFound.Reserved = false
+abbrev pub on_off_has : OnOffFound → Bool
+on_off_has (OnOffFound.Known state) = true
+on_off_has OnOffFound.Reserved = false
 
-unfoldable pub onOffRead : ℕ → OnOff
-onOffRead n = onOffCase (onOffFound n)
+unfoldable pub on_off_read : ℕ → OnOff
+on_off_read n = on_off_case (on_off_found n)
 
-unfoldable pub onOffKnown : ℕ → Bool
-onOffKnown n = onOffHas (onOffFound n)
+unfoldable pub on_off_known : ℕ → Bool
+on_off_known n = on_off_has (on_off_found n)

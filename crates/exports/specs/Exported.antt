@@ -5,16 +5,16 @@ use Rattle.lamp.specs.declared.Lamp.{Lamp}
 use Rattle.lamp.specs.declared.Answer.{Answer}
 use Rattle.lamp.specs.declared.Made.{Made}
 use Rattle.lamp.specs.Making.{making}
-use Rattle.exports.specs.Lamps.{lampOf, lampKnown, lampWords}
-use Rattle.exports.specs.Calls.{unreadable, callKnown, sent}
-use Rattle.exports.specs.Answers.{answerWords}
+use Rattle.exports.specs.Lamps.{lamp_of, lamp_known, lamp_words}
+use Rattle.exports.specs.Calls.{unreadable, call_known, sent}
+use Rattle.exports.specs.Answers.{answer_words}
 
 -- the numbers of a lamp that is no lamp, and of an answer that has not its room
-abbrev pub unreadableLamp : ℕ
-unreadableLamp = 101
+abbrev pub unreadable_lamp : ℕ
+unreadable_lamp = 101
 
-abbrev pub noRoom : ℕ
-noRoom = 102
+abbrev pub no_room : ℕ
+no_room = 102
 
 -- a lamp's words and a number
 pub record Left : Type 0 where
@@ -30,20 +30,20 @@ pub record Answered : Type 0 where
 -- ---- a lamp is made
 
 abbrev pub laid : List ℕ → Made → Left
-laid w (Made.Lamp l) = record { number = 0; lamp = lampWords l }
+laid w (Made.Lamp l) = record { number = 0; lamp = lamp_words l }
 laid w (Made.Refused number) = record { number = number; lamp = w }
 
 unfoldable pub made : List ℕ → Bounds → ℕ → ℕ → ℕ → Left
 made w bounds features options clock =
     cond (eqb (length w) 28) (laid w (making bounds features options clock)) (record {
-      number = unreadableLamp;
+      number = unreadable_lamp;
       lamp = w;
     })
 
 -- ---- a call is answered
 
 abbrev pub taken : Answer → Answered
-taken r = record { number = r.number; lamp = lampWords r.lamp; answer = answerWords r }
+taken r = record { number = r.number; lamp = lamp_words r.lamp; answer = answer_words r }
 
 -- nothing changes
 abbrev pub away : ℕ → List ℕ → List ℕ → Answered
@@ -51,7 +51,7 @@ away number w answer = record { number = number; lamp = w; answer = answer }
 
 unfoldable pub answered : List ℕ → List ℕ → List ℕ → Answered
 answered w call answer =
-    cond (not (eqb (length w) 28)) (away unreadableLamp w answer)
-    (cond (not (eqb (length answer) 25)) (away noRoom w answer)
-    (cond (not (lampKnown w)) (away unreadableLamp w answer)
-    (cond (not (callKnown call)) (away unreadable w answer) (taken (sent (lampOf w) call)))))
+    cond (not (eqb (length w) 28)) (away unreadable_lamp w answer)
+    (cond (not (eqb (length answer) 25)) (away no_room w answer)
+    (cond (not (lamp_known w)) (away unreadable_lamp w answer)
+    (cond (not (call_known call)) (away unreadable w answer) (taken (sent (lamp_of w) call)))))

@@ -2,50 +2,50 @@
 -- Control, commands); a start, a step and a halt have numbers past those.
 use Rattle.std.specs.Prelude.{ℕ}
 
-abbrev pub moveToHue : ℕ
-moveToHue = 0
+abbrev pub move_to_hue : ℕ
+move_to_hue = 0
 
-abbrev pub moveHue : ℕ
-moveHue = 1
+abbrev pub move_hue : ℕ
+move_hue = 1
 
-abbrev pub stepHue : ℕ
-stepHue = 2
+abbrev pub step_hue : ℕ
+step_hue = 2
 
-abbrev pub moveToSaturation : ℕ
-moveToSaturation = 3
+abbrev pub move_to_saturation : ℕ
+move_to_saturation = 3
 
-abbrev pub moveSaturation : ℕ
-moveSaturation = 4
+abbrev pub move_saturation : ℕ
+move_saturation = 4
 
-abbrev pub stepSaturation : ℕ
-stepSaturation = 5
+abbrev pub step_saturation : ℕ
+step_saturation = 5
 
-abbrev pub moveToHueAndSaturation : ℕ
-moveToHueAndSaturation = 6
+abbrev pub move_to_hue_and_saturation : ℕ
+move_to_hue_and_saturation = 6
 
-abbrev pub moveToColorTemperature : ℕ
-moveToColorTemperature = 10
+abbrev pub move_to_color_temperature : ℕ
+move_to_color_temperature = 10
 
-abbrev pub enhancedMoveToHue : ℕ
-enhancedMoveToHue = 64
+abbrev pub enhanced_move_to_hue : ℕ
+enhanced_move_to_hue = 64
 
-abbrev pub enhancedMoveHue : ℕ
-enhancedMoveHue = 65
+abbrev pub enhanced_move_hue : ℕ
+enhanced_move_hue = 65
 
-abbrev pub enhancedStepHue : ℕ
-enhancedStepHue = 66
+abbrev pub enhanced_step_hue : ℕ
+enhanced_step_hue = 66
 
-abbrev pub colorLoopSet : ℕ
-colorLoopSet = 68
+abbrev pub color_loop_set : ℕ
+color_loop_set = 68
 
-abbrev pub stopMoveStep : ℕ
-stopMoveStep = 71
+abbrev pub stop_move_step : ℕ
+stop_move_step = 71
 
-abbrev pub moveColorTemperature : ℕ
-moveColorTemperature = 75
+abbrev pub move_color_temperature : ℕ
+move_color_temperature = 75
 
-abbrev pub stepColorTemperature : ℕ
-stepColorTemperature = 76
+abbrev pub step_color_temperature : ℕ
+step_color_temperature = 76
 
 abbrev pub start : ℕ
 start = 256

@@ -24,8 +24,8 @@ capped x = cond (leb x 255) x 255
 unfoldable pub flag : ℕ → Bool
 flag x = eqb x 1
 
-abbrev pub flagNumber : Bool → ℕ
-flagNumber b = cond b 1 0
+abbrev pub flag_number : Bool → ℕ
+flag_number b = cond b 1 0
 
 -- a signed number is its sign, 1 up or 2 down, and its size
 unfoldable pub signed : ℕ → ℕ → ℤ

@@ -1,7 +1,7 @@
 // An answer in 25 words: its number, the sixteen notices, the task it gives and the wait.
 ghost use Rattle.std.specs.Prelude.{◌≡◌};
 ghost use Rattle.exports.specs.Answers as S;
-ghost use Rattle.exports.specs.Answers.{answerWords};
+ghost use Rattle.exports.specs.Answers.{answer_words};
 
 use crate::moves;
 use lamp::Answer;
@@ -16,7 +16,7 @@ pub fn place(p: [u8; 16], i: usize) -> u64
 }
 
 pub(crate) fn answer_words(answer: Answer) -> [u64; 25]
-    ensures { result ≡ answerWords answer }
+    ensures { result ≡ answer_words answer }
 {
     let notices = answer.notices;
     let p = notices.places;

@@ -2,7 +2,7 @@
 // task's kind and six numbers.
 ghost use Rattle.std.specs.Prelude.{◌≡◌};
 ghost use Rattle.exports.specs.Calls as C;
-ghost use Rattle.exports.specs.Calls.{hueCommand, saturationCommand, enhancedCommand, miredsCommand, loopCommand, commandOf, requestOf, commandFits, commandKnown, commandNumbers, startNumbers, call_of, callKnown};
+ghost use Rattle.exports.specs.Calls.{hue_command, saturation_command, enhanced_command, mireds_command, loop_command, command_of, request_of, command_fits, command_known, command_numbers, start_numbers, call_of, call_known};
 
 use crate::moves::TaskNumbers;
 use crate::words::at;
@@ -53,7 +53,7 @@ pub const HALT: u64 = 258;
 pub const UNREADABLE: u8 = 100;
 
 // A command's number, options and arguments.
-#[derive(Drop)]
+#[derive(Clone, Copy)]
 pub struct CommandNumbers {
     pub kind: u64,
     pub mask: u64,
@@ -67,7 +67,7 @@ pub struct CommandNumbers {
 
 impl CommandNumbers {
     fn hue_command(self) -> Command
-        ensures { result ≡ hueCommand self }
+        ensures { result ≡ hue_command self }
     {
         if self.kind == MOVE_TO_HUE {
             return Command::MoveToHue {
@@ -91,7 +91,7 @@ impl CommandNumbers {
     }
 
     fn saturation_command(self) -> Command
-        ensures { result ≡ saturationCommand self }
+        ensures { result ≡ saturation_command self }
     {
         if self.kind == MOVE_TO_SATURATION {
             return Command::MoveToSaturation {
@@ -122,7 +122,7 @@ impl CommandNumbers {
     }
 
     fn enhanced_command(self) -> Command
-        ensures { result ≡ enhancedCommand self }
+        ensures { result ≡ enhanced_command self }
     {
         if self.kind == ENHANCED_MOVE_TO_HUE {
             return Command::EnhancedMoveToHue {
@@ -145,7 +145,7 @@ impl CommandNumbers {
     }
 
     fn mireds_command(self) -> Command
-        ensures { result ≡ miredsCommand self }
+        ensures { result ≡ mireds_command self }
     {
         if self.kind == MOVE_TO_COLOR_TEMPERATURE {
             return Command::MoveToColorTemperature {
@@ -171,7 +171,7 @@ impl CommandNumbers {
     }
 
     fn loop_command(self) -> Command
-        ensures { result ≡ loopCommand self }
+        ensures { result ≡ loop_command self }
     {
         Command::ColorLoopSet {
             flags: words::byte(self.a),
@@ -183,7 +183,7 @@ impl CommandNumbers {
     }
 
     fn command(self) -> Command
-        ensures { result ≡ commandOf self }
+        ensures { result ≡ command_of self }
     {
         if self.kind <= STEP_HUE {
             return self.hue_command();
@@ -204,7 +204,7 @@ impl CommandNumbers {
     }
 
     fn request(self) -> Request
-        ensures { result ≡ requestOf self }
+        ensures { result ≡ request_of self }
     {
         Request {
             options: CommandOptions {
@@ -217,7 +217,7 @@ impl CommandNumbers {
 
     // Whether each argument is within its field: sixteen bits at most, eight for some, 0 or 1 for a flag.
     fn fits(self) -> bool
-        ensures { result ≡ commandFits self }
+        ensures { result ≡ command_fits self }
     {
         let k = self.kind;
         (self.mask <= 255)
@@ -244,7 +244,7 @@ impl CommandNumbers {
 
     // Whether the kind and the enums' numbers exist, and each argument is within its field.
     fn known(self) -> bool
-        ensures { result ≡ commandKnown self }
+        ensures { result ≡ command_known self }
     {
         let k = self.kind;
         self.fits()
@@ -270,7 +270,7 @@ impl CommandNumbers {
 }
 
 fn command_numbers(w: &[u64]) -> CommandNumbers
-    ensures { result ≡ commandNumbers w.now }
+    ensures { result ≡ command_numbers w.now }
 {
     CommandNumbers {
         kind: at(w, 0),
@@ -285,7 +285,7 @@ fn command_numbers(w: &[u64]) -> CommandNumbers
 }
 
 fn task_numbers(w: &[u64]) -> TaskNumbers
-    ensures { result ≡ startNumbers w.now }
+    ensures { result ≡ start_numbers w.now }
 {
     TaskNumbers {
         kind: at(w, 3),
@@ -300,7 +300,7 @@ fn task_numbers(w: &[u64]) -> TaskNumbers
 
 // Whether the words are a call: as many as it has, with a kind and enums' numbers that exist, and each within its field.
 pub(crate) fn call_known(w: &[u64]) -> bool
-    ensures { result ≡ callKnown w.now }
+    ensures { result ≡ call_known w.now }
 {
     let kind = at(w, 0);
     let task = task_numbers(w);

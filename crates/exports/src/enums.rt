@@ -1,7 +1,7 @@
 // The cluster's enums by their numbers, which `matter` states. A number that no case has is read as the case that the
 // line of `Reserved` has here.
 ghost use Rattle.std.specs.Prelude.{◌≡◌};
-ghost use Rattle.exports.specs.Enums.{directionRead, moveModeRead, stepModeRead, loopActionRead, loopDirectionRead, colorModeRead, enhancedModeRead, onOffRead, directionKnown, moveModeKnown, stepModeKnown, loopActionKnown, loopDirectionKnown, colorModeKnown, enhancedModeKnown, onOffKnown};
+ghost use Rattle.exports.specs.Enums.{direction_read, move_mode_read, step_mode_read, loop_action_read, loop_direction_read, color_mode_read, enhanced_mode_read, on_off_read, direction_known, move_mode_known, step_mode_known, loop_action_known, loop_direction_known, color_mode_known, enhanced_mode_known, on_off_known};
 
 use crate::words;
 use matter::{
@@ -12,7 +12,7 @@ use matter::{
 };
 
 pub(crate) fn direction(n: u64) -> DirectionEnum
-    ensures { result ≡ directionRead n }
+    ensures { result ≡ direction_read n }
 {
     match DirectionEnum::of_number(words::capped(n)) {
         DirectionFound::Known(direction) => direction,
@@ -21,7 +21,7 @@ pub(crate) fn direction(n: u64) -> DirectionEnum
 }
 
 pub(crate) fn move_mode(n: u64) -> MoveModeEnum
-    ensures { result ≡ moveModeRead n }
+    ensures { result ≡ move_mode_read n }
 {
     match MoveModeEnum::of_number(words::capped(n)) {
         MoveModeFound::Known(mode) => mode,
@@ -30,7 +30,7 @@ pub(crate) fn move_mode(n: u64) -> MoveModeEnum
 }
 
 pub(crate) fn step_mode(n: u64) -> StepModeEnum
-    ensures { result ≡ stepModeRead n }
+    ensures { result ≡ step_mode_read n }
 {
     match StepModeEnum::of_number(words::capped(n)) {
         StepModeFound::Known(mode) => mode,
@@ -39,7 +39,7 @@ pub(crate) fn step_mode(n: u64) -> StepModeEnum
 }
 
 pub(crate) fn loop_action(n: u64) -> ColorLoopActionEnum
-    ensures { result ≡ loopActionRead n }
+    ensures { result ≡ loop_action_read n }
 {
     match ColorLoopActionEnum::of_number(words::capped(n)) {
         ColorLoopActionFound::Known(action) => action,
@@ -48,7 +48,7 @@ pub(crate) fn loop_action(n: u64) -> ColorLoopActionEnum
 }
 
 pub(crate) fn loop_direction(n: u64) -> ColorLoopDirectionEnum
-    ensures { result ≡ loopDirectionRead n }
+    ensures { result ≡ loop_direction_read n }
 {
     match ColorLoopDirectionEnum::of_number(words::capped(n)) {
         ColorLoopDirectionFound::Known(direction) => direction,
@@ -57,7 +57,7 @@ pub(crate) fn loop_direction(n: u64) -> ColorLoopDirectionEnum
 }
 
 pub(crate) fn color_mode(n: u64) -> ColorModeEnum
-    ensures { result ≡ colorModeRead n }
+    ensures { result ≡ color_mode_read n }
 {
     match ColorModeEnum::of_number(words::capped(n)) {
         ColorModeFound::Known(mode) => mode,
@@ -66,7 +66,7 @@ pub(crate) fn color_mode(n: u64) -> ColorModeEnum
 }
 
 pub(crate) fn enhanced_mode(n: u64) -> EnhancedColorModeEnum
-    ensures { result ≡ enhancedModeRead n }
+    ensures { result ≡ enhanced_mode_read n }
 {
     match EnhancedColorModeEnum::of_number(words::capped(n)) {
         EnhancedColorModeFound::Known(mode) => mode,
@@ -75,7 +75,7 @@ pub(crate) fn enhanced_mode(n: u64) -> EnhancedColorModeEnum
 }
 
 pub(crate) fn on_off(n: u64) -> OnOff
-    ensures { result ≡ onOffRead n }
+    ensures { result ≡ on_off_read n }
 {
     match OnOff::of_number(words::capped(n)) {
         OnOffFound::Known(state) => state,
@@ -85,7 +85,7 @@ pub(crate) fn on_off(n: u64) -> OnOff
 
 // Whether a case has the number.
 pub(crate) fn direction_known(number: u64) -> bool
-    ensures { result ≡ directionKnown number }
+    ensures { result ≡ direction_known number }
 {
     match DirectionEnum::of_number(words::capped(number)) {
         DirectionFound::Known(_) => true,
@@ -94,7 +94,7 @@ pub(crate) fn direction_known(number: u64) -> bool
 }
 
 pub(crate) fn move_mode_known(number: u64) -> bool
-    ensures { result ≡ moveModeKnown number }
+    ensures { result ≡ move_mode_known number }
 {
     match MoveModeEnum::of_number(words::capped(number)) {
         MoveModeFound::Known(_) => true,
@@ -103,7 +103,7 @@ pub(crate) fn move_mode_known(number: u64) -> bool
 }
 
 pub(crate) fn step_mode_known(number: u64) -> bool
-    ensures { result ≡ stepModeKnown number }
+    ensures { result ≡ step_mode_known number }
 {
     match StepModeEnum::of_number(words::capped(number)) {
         StepModeFound::Known(_) => true,
@@ -112,7 +112,7 @@ pub(crate) fn step_mode_known(number: u64) -> bool
 }
 
 pub(crate) fn loop_action_known(number: u64) -> bool
-    ensures { result ≡ loopActionKnown number }
+    ensures { result ≡ loop_action_known number }
 {
     match ColorLoopActionEnum::of_number(words::capped(number)) {
         ColorLoopActionFound::Known(_) => true,
@@ -121,7 +121,7 @@ pub(crate) fn loop_action_known(number: u64) -> bool
 }
 
 pub(crate) fn loop_direction_known(number: u64) -> bool
-    ensures { result ≡ loopDirectionKnown number }
+    ensures { result ≡ loop_direction_known number }
 {
     match ColorLoopDirectionEnum::of_number(words::capped(number)) {
         ColorLoopDirectionFound::Known(_) => true,
@@ -130,7 +130,7 @@ pub(crate) fn loop_direction_known(number: u64) -> bool
 }
 
 pub(crate) fn color_mode_known(number: u64) -> bool
-    ensures { result ≡ colorModeKnown number }
+    ensures { result ≡ color_mode_known number }
 {
     match ColorModeEnum::of_number(words::capped(number)) {
         ColorModeFound::Known(_) => true,
@@ -139,7 +139,7 @@ pub(crate) fn color_mode_known(number: u64) -> bool
 }
 
 pub(crate) fn enhanced_mode_known(number: u64) -> bool
-    ensures { result ≡ enhancedModeKnown number }
+    ensures { result ≡ enhanced_mode_known number }
 {
     match EnhancedColorModeEnum::of_number(words::capped(number)) {
         EnhancedColorModeFound::Known(_) => true,
@@ -148,7 +148,7 @@ pub(crate) fn enhanced_mode_known(number: u64) -> bool
 }
 
 pub(crate) fn on_off_known(number: u64) -> bool
-    ensures { result ≡ onOffKnown number }
+    ensures { result ≡ on_off_known number }
 {
     match OnOff::of_number(words::capped(number)) {
         OnOffFound::Known(_) => true,

@@ -2,7 +2,7 @@
 // numbers found at its start, its task's kind and six numbers.
 ghost use Rattle.std.specs.Prelude.{◌≡◌};
 ghost use Rattle.exports.specs.Words.{at, short};
-ghost use Rattle.exports.specs.Lamps.{colorOf, loopingOf, recordOf, lampOf, lampFits, lampKnown, lampWords};
+ghost use Rattle.exports.specs.Lamps.{color_of, looping_of, record_of, lamp_of, lamp_fits, lamp_known, lamp_words};
 
 use crate::moves::{RecordNumbers, TaskNumbers};
 use crate::words::at;
@@ -24,7 +24,7 @@ fn bounds(w: &[u64]) -> Bounds
 }
 
 fn color(w: &[u64]) -> Color
-    ensures { result ≡ colorOf w.now }
+    ensures { result ≡ color_of w.now }
 {
     Color {
         hue: words::short(at(w, 8)),
@@ -41,7 +41,7 @@ fn color(w: &[u64]) -> Color
 }
 
 fn looping(w: &[u64]) -> LoopSettings
-    ensures { result ≡ loopingOf w.now }
+    ensures { result ≡ looping_of w.now }
 {
     LoopSettings {
         active: words::flag(at(w, 13)),
@@ -53,7 +53,7 @@ fn looping(w: &[u64]) -> LoopSettings
 }
 
 fn record(w: &[u64]) -> RecordNumbers
-    ensures { result ≡ recordOf w.now }
+    ensures { result ≡ record_of w.now }
 {
     RecordNumbers {
         start: at(w, 18),
@@ -72,7 +72,7 @@ fn record(w: &[u64]) -> RecordNumbers
 }
 
 pub fn lamp_of(w: &[u64]) -> Lamp
-    ensures { result ≡ lampOf w.now }
+    ensures { result ≡ lamp_of w.now }
 {
     let record = record(w);
     Lamp {
@@ -90,7 +90,7 @@ pub fn lamp_of(w: &[u64]) -> Lamp
 
 // Whether each number is within its field.
 fn lamp_fits(w: &[u64]) -> bool
-    ensures { result ≡ lampFits w.now }
+    ensures { result ≡ lamp_fits w.now }
 {
     (at(w, 0) <= 65535)
         & (at(w, 1) <= 65535)
@@ -107,7 +107,7 @@ fn lamp_fits(w: &[u64]) -> bool
 
 // Whether the enums have their numbers, and each number is within its field.
 pub(crate) fn lamp_known(w: &[u64]) -> bool
-    ensures { result ≡ lampKnown w.now }
+    ensures { result ≡ lamp_known w.now }
 {
     let record = record(w);
     let mode = at(w, 11);
@@ -121,7 +121,7 @@ pub(crate) fn lamp_known(w: &[u64]) -> bool
 }
 
 pub(crate) fn lamp_words(lamp: Lamp) -> [u64; 28]
-    ensures { result ≡ lampWords lamp }
+    ensures { result ≡ lamp_words lamp }
 {
     let color = lamp.color;
     let stamps = color.stamps;

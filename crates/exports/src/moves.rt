@@ -2,7 +2,7 @@
 ghost use Rattle.std.specs.Prelude.{◌≡◌};
 ghost use Rattle.exports.specs.Words.{short};
 ghost use Rattle.exports.specs.Moves as M;
-ghost use Rattle.exports.specs.Moves.{deltaOf, target_of, moveToOf, hueMoveOf, saturationMoveOf, miredsToOf, miredsMoveOf, colorLoopOf, task_of, runningOf, taskFits, taskKnown, recordKnown, deltaSign, deltaSize, targetGiven, targetNumber, moveToNumbers, hueMoveNumbers, saturationMoveNumbers, miredsToNumbers, miredsMoveNumbers, colorLoopNumbers, taskNumbers, givenNumbers, found, recordNumbers};
+ghost use Rattle.exports.specs.Moves.{delta_of, target_of, move_to_of, hue_move_of, saturation_move_of, mireds_to_of, mireds_move_of, color_loop_of, task_of, running_of, task_fits, task_known, record_known, delta_sign, delta_size, target_given, target_number, move_to_numbers, hue_move_numbers, saturation_move_numbers, mireds_to_numbers, mireds_move_numbers, color_loop_numbers, task_numbers, given_numbers, found, record_numbers};
 
 use crate::{enums, words};
 use tasks::{
@@ -30,7 +30,7 @@ pub const STOP: u64 = 7;
 const LARGEST: u64 = 9223372036854775807;
 
 // A task's kind and its six numbers.
-#[derive(Drop)]
+#[derive(Clone, Copy)]
 pub struct TaskNumbers {
     pub kind: u64,
     pub a: u64,
@@ -42,7 +42,7 @@ pub struct TaskNumbers {
 }
 
 // A record's start: the clock and the numbers found there, and its task.
-#[derive(Drop)]
+#[derive(Clone, Copy)]
 pub struct RecordNumbers {
     pub start: u64,
     pub x: u64,
@@ -51,7 +51,7 @@ pub struct RecordNumbers {
 }
 
 fn delta(sign: u64, size: u64) -> HueDelta
-    ensures { result ≡ deltaOf sign size }
+    ensures { result ≡ delta_of sign size }
 {
     if sign == 0 {
         HueDelta::Keep
@@ -72,7 +72,7 @@ fn target(given: u64, saturation: u64) -> TargetSaturation
 
 impl TaskNumbers {
     fn move_to(self) -> HueSaturationMoveTo
-        ensures { result ≡ moveToOf self }
+        ensures { result ≡ move_to_of self }
     {
         HueSaturationMoveTo {
             delta: delta(self.a, self.b),
@@ -83,7 +83,7 @@ impl TaskNumbers {
     }
 
     fn hue_move(self) -> HueMove
-        ensures { result ≡ hueMoveOf self }
+        ensures { result ≡ hue_move_of self }
     {
         HueMove {
             direction: enums::move_mode(self.a),
@@ -93,7 +93,7 @@ impl TaskNumbers {
     }
 
     fn saturation_move(self) -> SaturationMove
-        ensures { result ≡ saturationMoveOf self }
+        ensures { result ≡ saturation_move_of self }
     {
         SaturationMove {
             direction: enums::move_mode(self.a),
@@ -102,7 +102,7 @@ impl TaskNumbers {
     }
 
     fn mireds_to(self) -> ColorTemperatureMoveTo
-        ensures { result ≡ miredsToOf self }
+        ensures { result ≡ mireds_to_of self }
     {
         ColorTemperatureMoveTo {
             target: words::short(self.a),
@@ -111,7 +111,7 @@ impl TaskNumbers {
     }
 
     fn mireds_move(self) -> ColorTemperatureMove
-        ensures { result ≡ miredsMoveOf self }
+        ensures { result ≡ mireds_move_of self }
     {
         ColorTemperatureMove {
             rate: words::signed(self.a, self.b),
@@ -121,7 +121,7 @@ impl TaskNumbers {
     }
 
     fn color_loop(self) -> ColorLoop
-        ensures { result ≡ colorLoopOf self }
+        ensures { result ≡ color_loop_of self }
     {
         ColorLoop {
             direction: enums::loop_direction(self.a),
@@ -131,7 +131,7 @@ impl TaskNumbers {
 
     // Whether each number is within its field.
     fn fits(self) -> bool
-        ensures { result ≡ taskFits self }
+        ensures { result ≡ task_fits self }
     {
         let k = self.kind;
         (!(k == MOVE_TO)
@@ -149,7 +149,7 @@ impl TaskNumbers {
 
     // Whether the kind and the enums' numbers exist, and each number is within its field.
     pub(crate) fn known(self) -> bool
-        ensures { result ≡ taskKnown self }
+        ensures { result ≡ task_known self }
     {
         self.fits()
             & (((self.kind == MOVE_TO) & (self.a <= 2))
@@ -189,7 +189,7 @@ impl TaskNumbers {
 impl RecordNumbers {
     // The same of a record.
     pub(crate) fn known(self) -> bool
-        ensures { result ≡ recordKnown self }
+        ensures { result ≡ record_known self }
     {
         let task = self.task;
         (self.x <= 65535)
@@ -211,7 +211,7 @@ impl RecordNumbers {
     }
 
     pub(crate) fn running(self) -> Running
-        ensures { result ≡ runningOf self }
+        ensures { result ≡ running_of self }
     {
         let numbers = self.task;
         let task = numbers.task();
@@ -269,7 +269,7 @@ fn numbers(kind: u64, a: u64, b: u64, c: u64, d: u64, e: u64, f: u64) -> TaskNum
 }
 
 fn delta_sign(delta: HueDelta) -> u64
-    ensures { result ≡ deltaSign delta }
+    ensures { result ≡ delta_sign delta }
 {
     match delta {
         HueDelta::Keep => 0,
@@ -278,7 +278,7 @@ fn delta_sign(delta: HueDelta) -> u64
 }
 
 fn delta_size(delta: HueDelta) -> u64
-    ensures { result ≡ deltaSize delta }
+    ensures { result ≡ delta_size delta }
 {
     match delta {
         HueDelta::Keep => 0,
@@ -287,7 +287,7 @@ fn delta_size(delta: HueDelta) -> u64
 }
 
 fn target_given(target: TargetSaturation) -> u64
-    ensures { result ≡ targetGiven target }
+    ensures { result ≡ target_given target }
 {
     match target {
         TargetSaturation::Keep => 0,
@@ -296,7 +296,7 @@ fn target_given(target: TargetSaturation) -> u64
 }
 
 fn target_saturation(target: TargetSaturation) -> u64
-    ensures { result ≡ targetNumber target }
+    ensures { result ≡ target_number target }
 {
     match target {
         TargetSaturation::Keep => 0,
@@ -305,7 +305,7 @@ fn target_saturation(target: TargetSaturation) -> u64
 }
 
 fn of_move_to(t: HueSaturationMoveTo) -> TaskNumbers
-    ensures { result ≡ moveToNumbers t }
+    ensures { result ≡ move_to_numbers t }
 {
     let delta = t.delta;
     let target = t.saturation;
@@ -321,7 +321,7 @@ fn of_move_to(t: HueSaturationMoveTo) -> TaskNumbers
 }
 
 fn of_hue_move(t: HueMove) -> TaskNumbers
-    ensures { result ≡ hueMoveNumbers t }
+    ensures { result ≡ hue_move_numbers t }
 {
     let direction = t.direction;
     numbers(
@@ -336,7 +336,7 @@ fn of_hue_move(t: HueMove) -> TaskNumbers
 }
 
 fn of_saturation_move(t: SaturationMove) -> TaskNumbers
-    ensures { result ≡ saturationMoveNumbers t }
+    ensures { result ≡ saturation_move_numbers t }
 {
     let direction = t.direction;
     numbers(
@@ -351,13 +351,13 @@ fn of_saturation_move(t: SaturationMove) -> TaskNumbers
 }
 
 fn of_mireds_to(t: ColorTemperatureMoveTo) -> TaskNumbers
-    ensures { result ≡ miredsToNumbers t }
+    ensures { result ≡ mireds_to_numbers t }
 {
     numbers(MIREDS_TO, t.target as u64, t.ms as u64, 0, 0, 0, 0)
 }
 
 fn of_mireds_move(t: ColorTemperatureMove) -> TaskNumbers
-    ensures { result ≡ miredsMoveNumbers t }
+    ensures { result ≡ mireds_move_numbers t }
 {
     numbers(
         MIREDS_MOVE,
@@ -371,7 +371,7 @@ fn of_mireds_move(t: ColorTemperatureMove) -> TaskNumbers
 }
 
 fn of_color_loop(t: ColorLoop) -> TaskNumbers
-    ensures { result ≡ colorLoopNumbers t }
+    ensures { result ≡ color_loop_numbers t }
 {
     let direction = t.direction;
     numbers(
@@ -386,7 +386,7 @@ fn of_color_loop(t: ColorLoop) -> TaskNumbers
 }
 
 pub(crate) fn of_task(task: Task) -> TaskNumbers
-    ensures { result ≡ taskNumbers task }
+    ensures { result ≡ task_numbers task }
 {
     match task {
         Task::HueSaturationMoveTo(t) => of_move_to(t),
@@ -400,7 +400,7 @@ pub(crate) fn of_task(task: Task) -> TaskNumbers
 }
 
 pub fn of_given(task: GivenTask) -> TaskNumbers
-    ensures { result ≡ givenNumbers task }
+    ensures { result ≡ given_numbers task }
 {
     match task {
         GivenTask::Nothing => numbers(0, 0, 0, 0, 0, 0, 0),
@@ -420,7 +420,7 @@ fn record(start: u64, x: u64, y: u64, task: TaskNumbers) -> RecordNumbers
 }
 
 pub fn of_running(running: Running) -> RecordNumbers
-    ensures { result ≡ recordNumbers running }
+    ensures { result ≡ record_numbers running }
 {
     match running {
         Running::Idle => record(0, 0, 0, numbers(0, 0, 0, 0, 0, 0, 0)),

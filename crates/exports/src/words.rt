@@ -69,7 +69,7 @@ pub(crate) fn size_of(n: i64) -> u64
 }
 
 pub fn of_flag(b: bool) -> u64
-    ensures { result ≡ W.flagNumber b }
+    ensures { result ≡ W.flag_number b }
 {
     if b { 1 } else { 0 }
 }

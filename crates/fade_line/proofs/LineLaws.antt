@@ -8,18 +8,18 @@ use lib.Dec.{eqb, leb}
 use lib.ListN.{length}
 use borrow.Author.Tests.{leb-false, lt-leb, ne_eqb}
 use Rattle.text.specs.declared.digits.Grown.{Grown}
-use Rattle.text.specs.Digits.{isDigit, notEmpty, digitsAlone, value, is_number, grown}
+use Rattle.text.specs.Digits.{is_digit, not_empty, digits_alone, value, is_number, grown}
 use Rattle.text.specs.Words.{up_to}
 use Rattle.text.proofs.DigitLaws.{value-next, value-join, value_grows}
 use Rattle.fade_line.specs.declared.reader.Asked.{Asked}
 use Rattle.fade_line.specs.declared.reader.Reader.{Reader}
-use Rattle.fade_line.specs.Line.{line, longer, words, largest, allNumbers, wanted, askedByWords, askedBy}
-use Rattle.fade_line.specs.Reading.{fresh, spoilt, ended, nextWord, with_last, nextDigit, settled, readByte, read_all, lineRead}
+use Rattle.fade_line.specs.Line.{line, longer, words, largest, all_numbers, wanted, asked_by_words, asked_by}
+use Rattle.fade_line.specs.Reading.{fresh, spoilt, ended, next_word, with_last, next_digit, settled, read_byte, read_all, line_read}
 
 -- ---- a settled line: nothing that follows changes what has been read, nor what it asks for
 
 pub settled-final : (r : Reader) (s : List ℕ) → settled r ≡ true → read_all r s ≡ r
-unfolding read_all readByte
+unfolding read_all read_byte
 settled-final r [] e = refl
 settled-final r (b ∷ s) e = rw e (settled-final r s e)
 
@@ -28,17 +28,17 @@ settled-final r (b ∷ s) e = rw e (settled-final r s e)
 pub parts : (r : Reader) (s t : List ℕ) → read_all (read_all r s) t ≡ read_all r (s ++ t)
 unfolding read_all
 parts r [] t = refl
-parts r (b ∷ s) t = parts (readByte r b) s t
+parts r (b ∷ s) t = parts (read_byte r b) s t
 
 -- ---- what spoils the line, and what ends it
 
-spoilt-stays : (r : Reader) (bs : List ℕ) → r.bad ≡ true → lineRead (read_all r bs) ≡ Asked.BadLine
-unfolding read_all readByte lineRead
+spoilt-stays : (r : Reader) (bs : List ℕ) → r.bad ≡ true → line_read (read_all r bs) ≡ Asked.BadLine
+unfolding read_all read_byte line_read
 spoilt-stays r [] e = simp e
 spoilt-stays r (b ∷ bs) e = simp e (spoilt-stays r bs e)
 
 ended-stays : (r : Reader) (bs : List ℕ) → r.bad ≡ false → r.over ≡ true → read_all r bs ≡ r
-unfolding read_all readByte
+unfolding read_all read_byte
 ended-stays r [] e f = refl
 ended-stays r (b ∷ bs) e f = simp (e, f) (ended-stays r bs e f)
 
@@ -50,24 +50,24 @@ unfolding is_number
 too_large w b u e =
     let grown : largest < value (w ++ (b ∷ u)) =
     subst⁻¹ (λ (n : ℕ). largest < n) (value-join 0 w (b ∷ u)) (omega (arith, leb-false (value w * 10 + (b - 48)) largest e, value_grows (value w * 10 + (b - 48)) u)) in
-    ap (λ (t : Bool). notEmpty (w ++ (b ∷ u)) && digitsAlone (w ++ (b ∷ u)) && t) (lt-leb (value (w ++ (b ∷ u))) largest grown)
-    ∙ and-false (notEmpty (w ++ (b ∷ u)) && digitsAlone (w ++ (b ∷ u)))
+    ap (λ (t : Bool). not_empty (w ++ (b ∷ u)) && digits_alone (w ++ (b ∷ u)) && t) (lt-leb (value (w ++ (b ∷ u))) largest grown)
+    ∙ and-false (not_empty (w ++ (b ∷ u)) && digits_alone (w ++ (b ∷ u)))
 
-not-digits : (w : List ℕ) (b : ℕ) (u : List ℕ) → isDigit b ≡ false → digitsAlone (w ++ (b ∷ u)) ≡ false
+not-digits : (w : List ℕ) (b : ℕ) (u : List ℕ) → is_digit b ≡ false → digits_alone (w ++ (b ∷ u)) ≡ false
 not-digits [] b u e = simp e
-not-digits (x ∷ w) b u e = ap (λ (t : Bool). isDigit x && t) (not-digits w b u e) ∙ and-false (isDigit x)
+not-digits (x ∷ w) b u e = ap (λ (t : Bool). is_digit x && t) (not-digits w b u e) ∙ and-false (is_digit x)
 
-no_digit : (w : List ℕ) (b : ℕ) (u : List ℕ) → isDigit b ≡ false → is_number largest (w ++ (b ∷ u)) ≡ false
+no_digit : (w : List ℕ) (b : ℕ) (u : List ℕ) → is_digit b ≡ false → is_number largest (w ++ (b ∷ u)) ≡ false
 unfolding is_number
 no_digit w b u e =
-    ap (λ (t : Bool). notEmpty (w ++ (b ∷ u)) && t && leb (value (w ++ (b ∷ u))) largest) (not-digits w b u e)
-    ∙ ap (λ (t : Bool). t && leb (value (w ++ (b ∷ u))) largest) (and-false (notEmpty (w ++ (b ∷ u))))
+    ap (λ (t : Bool). not_empty (w ++ (b ∷ u)) && t && leb (value (w ++ (b ∷ u))) largest) (not-digits w b u e)
+    ∙ ap (λ (t : Bool). t && leb (value (w ++ (b ∷ u))) largest) (and-false (not_empty (w ++ (b ∷ u))))
 
-digits-next : (w : List ℕ) (b : ℕ) → digitsAlone w ≡ true → isDigit b ≡ true → digitsAlone (w ++ (b ∷ [])) ≡ true
+digits-next : (w : List ℕ) (b : ℕ) → digits_alone w ≡ true → is_digit b ≡ true → digits_alone (w ++ (b ∷ [])) ≡ true
 digits-next [] b e f = simp f
-digits-next (x ∷ w) b e f = go (isDigit x) (λ g. digits-next w b g f) e
+digits-next (x ∷ w) b e f = go (is_digit x) (λ g. digits-next w b g f) e
   where
-    go : (t : Bool) → (digitsAlone w ≡ true → digitsAlone (w ++ (b ∷ [])) ≡ true) → (t && digitsAlone w) ≡ true → (t && digitsAlone (w ++ (b ∷ []))) ≡ true
+    go : (t : Bool) → (digits_alone w ≡ true → digits_alone (w ++ (b ∷ [])) ≡ true) → (t && digits_alone w) ≡ true → (t && digits_alone (w ++ (b ∷ []))) ≡ true
     go true h e = h e
     go false h e = e
 
@@ -91,15 +91,15 @@ glue-longer : (w : List ℕ) (b : ℕ) (ws : List (List ℕ)) → glue w (longer
 glue-longer w b [] = refl
 glue-longer w b (u ∷ us) = ap {B = List (List ℕ)} (λ (x : List ℕ). x ∷ us) (sym (append_assoc w (b ∷ []) u))
 
-none_of : (p : List (List ℕ)) (x : List ℕ) (q : List (List ℕ)) → is_number largest x ≡ false → askedByWords (p ++ (x ∷ q)) ≡ Asked.BadLine
-unfolding askedByWords
+none_of : (p : List (List ℕ)) (x : List ℕ) (q : List (List ℕ)) → is_number largest x ≡ false → asked_by_words (p ++ (x ∷ q)) ≡ Asked.BadLine
+unfolding asked_by_words
 none_of p x q e = simp (no-numbers p, and-false (eqb (length (p ++ (x ∷ q))) 4))
   where
-    no-numbers : (p : List (List ℕ)) → allNumbers (p ++ (x ∷ q)) ≡ false
+    no-numbers : (p : List (List ℕ)) → all_numbers (p ++ (x ∷ q)) ≡ false
     no-numbers [] = simp e
     no-numbers (y ∷ p) = ap (λ (t : Bool). is_number largest y && t) (no-numbers p) ∙ and-false (is_number largest y)
 
-spoilt-word : (p : List (List ℕ)) (w : List ℕ) (b : ℕ) (ws : List (List ℕ)) → ((u : List ℕ) → is_number largest (w ++ (b ∷ u)) ≡ false) → askedByWords (p ++ glue w (longer b ws)) ≡ Asked.BadLine
+spoilt-word : (p : List (List ℕ)) (w : List ℕ) (b : ℕ) (ws : List (List ℕ)) → ((u : List ℕ) → is_number largest (w ++ (b ∷ u)) ≡ false) → asked_by_words (p ++ glue w (longer b ws)) ≡ Asked.BadLine
 spoilt-word p w b [] h = none_of p (w ++ (b ∷ [])) [] (h [])
 spoilt-word p w b (u ∷ us) h = none_of p (w ++ (b ∷ u)) us (h u)
 
@@ -112,24 +112,24 @@ before (suc (suc zero)) a b c = b ∷ c ∷ []
 before (suc (suc (suc k))) a b c = a ∷ b ∷ c ∷ []
 
 abbrev held : ℕ → List ℕ → List ℕ → List ℕ → List ℕ → Reader
-held k a b c w = record { bad = false; over = false; begun = notEmpty w; blanks = k; first = value a; second = value b; third = value c; last = value w }
+held k a b c w = record { bad = false; over = false; begun = not_empty w; blanks = k; first = value a; second = value b; third = value c; last = value w }
 
 -- a word of digits within 64 bits is a number unless it is empty
-whole : (w : List ℕ) → digitsAlone w ≡ true → leb (value w) largest ≡ true → is_number largest w ≡ notEmpty w
+whole : (w : List ℕ) → digits_alone w ≡ true → leb (value w) largest ≡ true → is_number largest w ≡ not_empty w
 unfolding is_number
-whole w d n = simp (d, n, and-true (notEmpty w))
+whole w d n = simp (d, n, and-true (not_empty w))
 
-numbers-then : (p : List (List ℕ)) (w : List ℕ) → allNumbers p ≡ true → allNumbers (p ++ (w ∷ [])) ≡ is_number largest w
+numbers-then : (p : List (List ℕ)) (w : List ℕ) → all_numbers p ≡ true → all_numbers (p ++ (w ∷ [])) ≡ is_number largest w
 numbers-then [] w e = and-true (is_number largest w)
 numbers-then (x ∷ p) w e = go (is_number largest x) (numbers-then p w) e
   where
-    go : (t : Bool) → (allNumbers p ≡ true → allNumbers (p ++ (w ∷ [])) ≡ is_number largest w) → (t && allNumbers p) ≡ true → (t && allNumbers (p ++ (w ∷ []))) ≡ is_number largest w
+    go : (t : Bool) → (all_numbers p ≡ true → all_numbers (p ++ (w ∷ [])) ≡ is_number largest w) → (t && all_numbers p) ≡ true → (t && all_numbers (p ++ (w ∷ []))) ≡ is_number largest w
     go true h e = h e
     go false h e = absurd (false≢true e)
 
 -- at the end of the line
-line-ends : (k : ℕ) (a b c w : List ℕ) → k ≤ 3 → allNumbers (before k a b c) ≡ true → digitsAlone w ≡ true → leb (value w) largest ≡ true → lineRead (held k a b c w) ≡ askedByWords (before k a b c ++ (w ∷ []))
-unfolding lineRead askedByWords
+line-ends : (k : ℕ) (a b c w : List ℕ) → k ≤ 3 → all_numbers (before k a b c) ≡ true → digits_alone w ≡ true → leb (value w) largest ≡ true → line_read (held k a b c w) ≡ asked_by_words (before k a b c ++ (w ∷ []))
+unfolding line_read asked_by_words
 line-ends zero a b c w h e d n = refl
 line-ends (suc zero) a b c w h e d n = refl
 line-ends (suc (suc zero)) a b c w h e d n = refl
@@ -140,52 +140,52 @@ line-ends (suc (suc (suc (suc k)))) a b c w h e d n = absurd (omega (arith, h))
 
 abbrev Goes : List ℕ → Type 0
 Goes bs =
-    (k : ℕ) (a b c w : List ℕ) → k ≤ 3 → allNumbers (before k a b c) ≡ true → digitsAlone w ≡ true → leb (value w) largest ≡ true →
-    lineRead (read_all (held k a b c w) bs) ≡ askedByWords (before k a b c ++ glue w (words (line bs)))
+    (k : ℕ) (a b c w : List ℕ) → k ≤ 3 → all_numbers (before k a b c) ≡ true → digits_alone w ≡ true → leb (value w) largest ≡ true →
+    line_read (read_all (held k a b c w) bs) ≡ asked_by_words (before k a b c ++ glue w (words (line bs)))
 
 at-end : Goes []
 unfolding read_all up_to words
-at-end k a b c w h e d n = line-ends k a b c w h e d n ∙ ap (λ (x : List ℕ). askedByWords (before k a b c ++ (x ∷ []))) (sym (append-nil w))
+at-end k a b c w h e d n = line-ends k a b c w h e d n ∙ ap (λ (x : List ℕ). asked_by_words (before k a b c ++ (x ∷ []))) (sym (append-nil w))
 
 at-newline : (x : ℕ) (bs : List ℕ) → eqb x 10 ≡ true → Goes (x ∷ bs)
-unfolding read_all readByte lineRead up_to
+unfolding read_all read_byte line_read up_to
 at-newline x bs t k a b c w h e d n = simp (t, ended-stays (ended (held k a b c w)) bs refl refl) (at-end k a b c w h e d n)
 
-at_other : (x : ℕ) (bs : List ℕ) → eqb x 10 ≡ false → eqb x 32 ≡ false → isDigit x ≡ false → Goes (x ∷ bs)
-unfolding read_all readByte nextDigit grown up_to words
+at_other : (x : ℕ) (bs : List ℕ) → eqb x 10 ≡ false → eqb x 32 ≡ false → is_digit x ≡ false → Goes (x ∷ bs)
+unfolding read_all read_byte next_digit grown up_to words
 at_other x bs t u v k a b c w h e d n =
     simp (t, u, v, spoilt-stays (spoilt (held k a b c w)) bs refl) (sym (spoilt-word (before k a b c) w x (words (line bs)) (λ z. no_digit w x z v)))
 
 -- a blank after no digit
 at-second-blank : (x : ℕ) (bs : List ℕ) → eqb x 10 ≡ false → eqb x 32 ≡ true → (k : ℕ) (a b c : List ℕ) →
-    lineRead (read_all (held k a b c []) (x ∷ bs)) ≡ askedByWords (before k a b c ++ glue [] (words (line (x ∷ bs))))
-unfolding read_all readByte nextWord up_to words is_number
+    line_read (read_all (held k a b c []) (x ∷ bs)) ≡ asked_by_words (before k a b c ++ glue [] (words (line (x ∷ bs))))
+unfolding read_all read_byte next_word up_to words is_number
 at-second-blank x bs t u k a b c = simp (t, u, spoilt-stays (spoilt (held k a b c [])) bs refl) (sym (none_of (before k a b c) [] (words (line bs)) refl))
 
 -- five words and more
-too_many : (a b c w : List ℕ) (ws : List (List ℕ)) → glue [] ws ≡ ws → askedByWords (a ∷ b ∷ c ∷ w ∷ ws) ≡ Asked.BadLine
-unfolding askedByWords
+too_many : (a b c w : List ℕ) (ws : List (List ℕ)) → glue [] ws ≡ ws → asked_by_words (a ∷ b ∷ c ∷ w ∷ ws) ≡ Asked.BadLine
+unfolding asked_by_words
 too_many a b c w [] e = absurd (omega (arith, ap length e))
 too_many a b c w (u ∷ us) e = simp (ne_eqb (suc (suc (suc (suc (suc (length us)))))) 4 (λ q. absurd (omega (arith, q))))
 
 -- a blank after a word: one whole word more
 next-whole : (x : ℕ) (bs : List ℕ) → eqb x 10 ≡ false → eqb x 32 ≡ true → Goes bs → (y : ℕ) (ys : List ℕ) (k : ℕ) (a b c : List ℕ) → k ≤ 3 →
-    allNumbers (before k a b c) ≡ true → digitsAlone (y ∷ ys) ≡ true → leb (value (y ∷ ys)) largest ≡ true →
-    lineRead (read_all (held k a b c (y ∷ ys)) (x ∷ bs)) ≡ askedByWords (before k a b c ++ glue (y ∷ ys) (words (line (x ∷ bs))))
-unfolding read_all readByte nextWord up_to words
+    all_numbers (before k a b c) ≡ true → digits_alone (y ∷ ys) ≡ true → leb (value (y ∷ ys)) largest ≡ true →
+    line_read (read_all (held k a b c (y ∷ ys)) (x ∷ bs)) ≡ asked_by_words (before k a b c ++ glue (y ∷ ys) (words (line (x ∷ bs))))
+unfolding read_all read_byte next_word up_to words
 next-whole x bs t u go y ys k a b c h e d n = simp (t, u, append-nil (y ∷ ys)) (by_count k h e)
   where
     w : List ℕ
     w = y ∷ ys
 
-    one_more : (k : ℕ) → allNumbers (before k a b c) ≡ true → allNumbers (before k a b c ++ (w ∷ [])) ≡ true
+    one_more : (k : ℕ) → all_numbers (before k a b c) ≡ true → all_numbers (before k a b c ++ (w ∷ [])) ≡ true
     one_more k e = numbers-then (before k a b c) w e ∙ whole w d n
 
-    then-words : (p : List (List ℕ)) → askedByWords (p ++ glue [] (words (line bs))) ≡ askedByWords (p ++ words (line bs))
-    then-words p = ap (λ (q : List (List ℕ)). askedByWords (p ++ q)) (glue-none (line bs))
+    then-words : (p : List (List ℕ)) → asked_by_words (p ++ glue [] (words (line bs))) ≡ asked_by_words (p ++ words (line bs))
+    then-words p = ap (λ (q : List (List ℕ)). asked_by_words (p ++ q)) (glue-none (line bs))
 
-    by_count : (k : ℕ) → k ≤ 3 → allNumbers (before k a b c) ≡ true →
-        lineRead (read_all (nextWord (held k a b c w)) bs) ≡ askedByWords (before k a b c ++ (w ∷ words (line bs)))
+    by_count : (k : ℕ) → k ≤ 3 → all_numbers (before k a b c) ≡ true →
+        line_read (read_all (next_word (held k a b c w)) bs) ≡ asked_by_words (before k a b c ++ (w ∷ words (line bs)))
     by_count zero h e = go 1 b c w [] (omega arith) (one_more zero e) refl refl ∙ then-words (w ∷ [])
     by_count (suc zero) h e = go 2 b c w [] (omega arith) (one_more 1 e) refl refl ∙ then-words (c ∷ w ∷ [])
     by_count (suc (suc zero)) h e = go 3 b c w [] (omega arith) (one_more 2 e) refl refl ∙ then-words (b ∷ c ∷ w ∷ [])
@@ -196,12 +196,12 @@ at-blank : (x : ℕ) (bs : List ℕ) → eqb x 10 ≡ false → eqb x 32 ≡ tru
 at-blank x bs t u go k a b c [] h e d n = at-second-blank x bs t u k a b c
 at-blank x bs t u go k a b c (y ∷ ys) h e d n = next-whole x bs t u go y ys k a b c h e d n
 
-some : (w : List ℕ) (x : ℕ) → notEmpty (w ++ (x ∷ [])) ≡ true
+some : (w : List ℕ) (x : ℕ) → not_empty (w ++ (x ∷ [])) ≡ true
 some [] x = refl
 some (y ∷ w) x = refl
 
-at-digit : (x : ℕ) (bs : List ℕ) → eqb x 10 ≡ false → eqb x 32 ≡ false → isDigit x ≡ true → Goes bs → Goes (x ∷ bs)
-unfolding read_all readByte nextDigit grown up_to words
+at-digit : (x : ℕ) (bs : List ℕ) → eqb x 10 ≡ false → eqb x 32 ≡ false → is_digit x ≡ true → Goes bs → Goes (x ∷ bs)
+unfolding read_all read_byte next_digit grown up_to words
 at-digit x bs t u v go k a b c w h e d n = simp (t, u, v) (by_size (leb (value w * 10 + (x - 48)) largest) refl)
   where
     more : Reader
@@ -211,18 +211,18 @@ at-digit x bs t u v go k a b c w h e d n = simp (t, u, v) (by_size (leb (value w
     is_held = simp (some w x, value-next 0 w x)
 
     by_size : (z : Bool) → leb (value w * 10 + (x - 48)) largest ≡ z →
-        lineRead (read_all (with_last (held k a b c w) (cond z (Grown.To (value w * 10 + (x - 48))) Grown.Refused)) bs) ≡ askedByWords (before k a b c ++ glue w (longer x (words (line bs))))
+        line_read (read_all (with_last (held k a b c w) (cond z (Grown.To (value w * 10 + (x - 48))) Grown.Refused)) bs) ≡ asked_by_words (before k a b c ++ glue w (longer x (words (line bs))))
     by_size true z =
-        ap (λ (r : Reader). lineRead (read_all r bs)) (sym is_held)
+        ap (λ (r : Reader). line_read (read_all r bs)) (sym is_held)
         ∙ go k a b c (w ++ (x ∷ [])) h e (digits-next w x d v) (ap (λ (m : ℕ). leb m largest) (value-next 0 w x) ∙ z)
-        ∙ ap (λ (q : List (List ℕ)). askedByWords (before k a b c ++ q)) (sym (glue-longer w x (words (line bs))))
+        ∙ ap (λ (q : List (List ℕ)). asked_by_words (before k a b c ++ q)) (sym (glue-longer w x (words (line bs))))
     by_size false z = spoilt-stays (spoilt (held k a b c w)) bs refl ∙ sym (spoilt-word (before k a b c) w x (words (line bs)) (λ r. too_large w x r z))
 
 goes : (bs : List ℕ) → Goes bs
 goes [] = at-end
-goes (x ∷ bs) = by_byte (eqb x 10) (eqb x 32) (isDigit x) refl refl refl (goes bs)
+goes (x ∷ bs) = by_byte (eqb x 10) (eqb x 32) (is_digit x) refl refl refl (goes bs)
   where
-    by_byte : (t u v : Bool) → eqb x 10 ≡ t → eqb x 32 ≡ u → isDigit x ≡ v → Goes bs → Goes (x ∷ bs)
+    by_byte : (t u v : Bool) → eqb x 10 ≡ t → eqb x 32 ≡ u → is_digit x ≡ v → Goes bs → Goes (x ∷ bs)
     by_byte true u v t _ _ go = at-newline x bs t
     by_byte false true v t u _ go = at-blank x bs t u go
     by_byte false false true t u v go = at-digit x bs t u v go
@@ -230,12 +230,12 @@ goes (x ∷ bs) = by_byte (eqb x 10) (eqb x 32) (isDigit x) refl refl refl (goes
 
 -- ---- what the reader answers is what the line of the input asks for
 
-pub reads : (input : List ℕ) → lineRead (read_all fresh input) ≡ askedBy input
+pub reads : (input : List ℕ) → line_read (read_all fresh input) ≡ asked_by input
 reads input =
     goes input 0 [] [] [] [] (omega arith) refl refl refl
-    ∙ ap askedByWords (glue-none (line input))
+    ∙ ap asked_by_words (glue-none (line input))
 
 -- what a settled beginning asks for is what the whole input asks for, whatever follows
-pub settled-asks : (begun rest : List ℕ) → settled (read_all fresh begun) ≡ true → lineRead (read_all fresh begun) ≡ askedBy (begun ++ rest)
+pub settled-asks : (begun rest : List ℕ) → settled (read_all fresh begun) ≡ true → line_read (read_all fresh begun) ≡ asked_by (begun ++ rest)
 settled-asks begun rest e =
-    sym (ap lineRead (sym (parts fresh begun rest) ∙ settled-final (read_all fresh begun) rest e)) ∙ reads (begun ++ rest)
+    sym (ap line_read (sym (parts fresh begun rest) ∙ settled-final (read_all fresh begun) rest e)) ∙ reads (begun ++ rest)

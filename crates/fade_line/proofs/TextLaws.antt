@@ -9,13 +9,13 @@ use borrow.Author.Tests.{leb-true, le-leb}
 use lib.ListN.{length, take, drop, get_or, length-append, length-take, drop_of_length-le}
 use lib.Seq.{take_all, take-length, take-append_seam, length-take-le, get_or-take}
 use Rattle.notices.specs.Notices.{filled, noted}
-use Rattle.text.specs.Digits.{decimalIn, decimal}
+use Rattle.text.specs.Digits.{decimal_in, decimal}
 use Rattle.text.specs.Written.{Wrote, Written}
 use Rattle.text.proofs.DigitLaws.{decimal-short}
 use Rattle.text.proofs.WordLaws.{drop-next}
 use Rattle.text.proofs.WriteLaws.{side, wrote_none, wrote-all}
 use Rattle.fade_line.specs.declared.writer.Line.{Line}
-use Rattle.fade_line.specs.Text.{spaced, spacedAll, numbers, stateText, lineText, refusedText, room_for, fitting}
+use Rattle.fade_line.specs.Text.{spaced, spaced_all, numbers, state_text, line_text, refused_text, room_for, fitting}
 
 -- ---- room
 
@@ -53,10 +53,10 @@ pub spaced-short : (n : ℕ) → length (spaced n) ≤ 21
 unfolding spaced
 spaced-short n = omega (arith, decimal-short n)
 
-pub spacedAll-short : (ns : List ℕ) → length (spacedAll ns) ≤ 21 * length ns
-unfolding spacedAll
-spacedAll-short [] = omega arith
-spacedAll-short (n ∷ ns) = simp length-append (omega (arith, spaced-short n, spacedAll-short ns))
+pub spaced_all-short : (ns : List ℕ) → length (spaced_all ns) ≤ 21 * length ns
+unfolding spaced_all
+spaced_all-short [] = omega arith
+spaced_all-short (n ∷ ns) = simp length-append (omega (arith, spaced-short n, spaced_all-short ns))
 
 -- ---- lines
 
@@ -80,25 +80,25 @@ left-next l n i h within = drop-next (take n l) i (rw (length-take-le n l within
 pub left-none : (l : List ℕ) (n i : ℕ) → n ≤ i → drop i (take n l) ≡ []
 left-none l n i h = drop_of_length-le (take n l) {i = i} (rw length-take (omega arith))
 
-pub state-short : (line : Line) → length (stateText line) ≤ 84
-unfolding stateText
+pub state-short : (line : Line) → length (state_text line) ≤ 84
+unfolding state_text
 state-short line =
     simp length-append
     (omega (arith, decimal-short line.clock, spaced-short line.hue, spaced-short line.tenths, spaced-short line.wait))
 
 -- a line of at most sixteen notices takes at most 512 places
-pub line-short : (line : Line) → length (numbers line.notices) ≤ 16 → length (lineText line) ≤ 512
-unfolding lineText
-line-short line h = simp length-append (omega (arith, state-short line, spacedAll-short (numbers line.notices)))
+pub line-short : (line : Line) → length (numbers line.notices) ≤ 16 → length (line_text line) ≤ 512
+unfolding line_text
+line-short line h = simp length-append (omega (arith, state-short line, spaced_all-short (numbers line.notices)))
 
-pub refused-short : (number : ℕ) → length (refusedText number) ≤ 512
-unfolding refusedText
+pub refused-short : (number : ℕ) → length (refused_text number) ≤ 512
+unfolding refused_text
 refused-short number = simp length-append (omega (arith, spaced-short number))
 
 -- ---- document 01's example
 
 -- `5100 16384 1 100: 13 2 6 7 14 15`
-example-line : lineText (record { clock = 5100; hue = 16384; tenths = 1; wait = 100; notices = noted (13 ∷ 2 ∷ 6 ∷ 7 ∷ 14 ∷ 15 ∷ []) })
+example-line : line_text (record { clock = 5100; hue = 16384; tenths = 1; wait = 100; notices = noted (13 ∷ 2 ∷ 6 ∷ 7 ∷ 14 ∷ 15 ∷ []) })
     ≡ 53 ∷ 49 ∷ 48 ∷ 48 ∷ 32 ∷ 49 ∷ 54 ∷ 51 ∷ 56 ∷ 52 ∷ 32 ∷ 49 ∷ 32 ∷ 49 ∷ 48 ∷ 48 ∷ 58 ∷ 32 ∷ 49 ∷ 51 ∷ 32 ∷ 50 ∷ 32 ∷ 54 ∷ 32 ∷ 55 ∷ 32 ∷ 49 ∷ 52 ∷ 32 ∷ 49 ∷ 53 ∷ 10 ∷ []
-unfolding lineText stateText spacedAll spaced decimal decimalIn filled
+unfolding line_text state_text spaced_all spaced decimal decimal_in filled
 example-line = refl

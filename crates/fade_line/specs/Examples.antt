@@ -3,28 +3,28 @@
 use Rattle.std.specs.Prelude.{ℕ, Bool, true, false, List, [], ◌∷◌, map, ◌≡◌}
 use Rattle.fade_line.specs.Reading.{fresh, settled, read_all}
 
-abbrev pub settledBy : List ℕ → Bool
-settledBy bytes = settled (read_all fresh bytes)
+abbrev pub settled_by : List ℕ → Bool
+settled_by bytes = settled (read_all fresh bytes)
 
 pub record Settled : Type 0 where
   -- a letter: `x`, `1x`, `1 2x`
   pub letter :
-      map settledBy ((120 ∷ []) ∷ (49 ∷ 120 ∷ []) ∷ (49 ∷ 32 ∷ 50 ∷ 120 ∷ []) ∷ []) ≡ true ∷ true ∷ true ∷ []
+      map settled_by ((120 ∷ []) ∷ (49 ∷ 120 ∷ []) ∷ (49 ∷ 32 ∷ 50 ∷ 120 ∷ []) ∷ []) ≡ true ∷ true ∷ true ∷ []
   -- a tab and a carriage return
-  pub other : map settledBy ((49 ∷ 9 ∷ []) ∷ (49 ∷ 13 ∷ []) ∷ []) ≡ true ∷ true ∷ []
+  pub other : map settled_by ((49 ∷ 9 ∷ []) ∷ (49 ∷ 13 ∷ []) ∷ []) ≡ true ∷ true ∷ []
   -- a blank first, and two
-  pub blank : map settledBy ((32 ∷ []) ∷ (49 ∷ 32 ∷ 32 ∷ []) ∷ []) ≡ true ∷ true ∷ []
+  pub blank : map settled_by ((32 ∷ []) ∷ (49 ∷ 32 ∷ 32 ∷ []) ∷ []) ≡ true ∷ true ∷ []
   -- the blank before a fifth word: `1 2 3 4 `
-  pub fifth : settledBy (49 ∷ 32 ∷ 50 ∷ 32 ∷ 51 ∷ 32 ∷ 52 ∷ 32 ∷ []) ≡ true
+  pub fifth : settled_by (49 ∷ 32 ∷ 50 ∷ 32 ∷ 51 ∷ 32 ∷ 52 ∷ 32 ∷ []) ≡ true
   -- 2^64, 18446744073709551616, and not the number below it
   pub large :
-      map settledBy
+      map settled_by
       ((49 ∷ 56 ∷ 52 ∷ 52 ∷ 54 ∷ 55 ∷ 52 ∷ 52 ∷ 48 ∷ 55 ∷ 51 ∷ 55 ∷ 48 ∷ 57 ∷ 53 ∷ 53 ∷ 49 ∷ 54 ∷ 49 ∷ 54 ∷ [])
       ∷ (49 ∷ 56 ∷ 52 ∷ 52 ∷ 54 ∷ 55 ∷ 52 ∷ 52 ∷ 48 ∷ 55 ∷ 51 ∷ 55 ∷ 48 ∷ 57 ∷ 53 ∷ 53 ∷ 49 ∷ 54 ∷ 49 ∷ 53 ∷ []) ∷ [])
       ≡ true ∷ false ∷ []
   -- a newline: alone, and after a line
-  pub newline : map settledBy ((10 ∷ []) ∷ (49 ∷ 32 ∷ 50 ∷ 32 ∷ 51 ∷ 32 ∷ 52 ∷ 10 ∷ []) ∷ []) ≡ true ∷ true ∷ []
+  pub newline : map settled_by ((10 ∷ []) ∷ (49 ∷ 32 ∷ 50 ∷ 32 ∷ 51 ∷ 32 ∷ 52 ∷ 10 ∷ []) ∷ []) ≡ true ∷ true ∷ []
   -- and nothing else: no byte, `12`, `12 `, `1 2 3 4`
   pub open-yet :
-      map settledBy ([] ∷ (49 ∷ 50 ∷ []) ∷ (49 ∷ 50 ∷ 32 ∷ []) ∷ (49 ∷ 32 ∷ 50 ∷ 32 ∷ 51 ∷ 32 ∷ 52 ∷ []) ∷ [])
+      map settled_by ([] ∷ (49 ∷ 50 ∷ []) ∷ (49 ∷ 50 ∷ 32 ∷ []) ∷ (49 ∷ 32 ∷ 50 ∷ 32 ∷ 51 ∷ 32 ∷ 52 ∷ []) ∷ [])
       ≡ false ∷ false ∷ false ∷ false ∷ []

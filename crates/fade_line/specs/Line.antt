@@ -3,7 +3,7 @@
 use Rattle.std.specs.Prelude.{ℕ, Bool, true, cond, ◌&&◌, List, [], ◌∷◌, eqb, leb, length, get_or}
 use Rattle.text.specs.Digits.{value, is_number}
 use Rattle.text.specs.Words.{up_to}
-use Rattle.matter.specs.Numbers.{directionFound}
+use Rattle.matter.specs.Numbers.{direction_found}
 use Rattle.matter.specs.declared.enums.DirectionFound.{DirectionFound}
 use Rattle.fade_line.specs.declared.reader.Asked.{Asked}
 
@@ -26,29 +26,29 @@ abbrev pub largest : ℕ
 largest = 18446744073709551615
 
 -- "decimal numbers of digits alone": a digit at least, zeros in front as they come, and within 64 bits
-abbrev pub allNumbers : List (List ℕ) → Bool
-allNumbers [] = true
-allNumbers (w ∷ ws) = is_number largest w && allNumbers ws
+abbrev pub all_numbers : List (List ℕ) → Bool
+all_numbers [] = true
+all_numbers (w ∷ ws) = is_number largest w && all_numbers ws
 
-abbrev pub withDirection : DirectionFound → ℕ → ℕ → ℕ → Asked
-withDirection (DirectionFound.Known direction) hue tenths clock =
+abbrev pub with_direction : DirectionFound → ℕ → ℕ → ℕ → Asked
+with_direction (DirectionFound.Known direction) hue tenths clock =
     Asked.Fade (record { hue = hue; direction = direction; tenths = tenths; clock = clock })
-withDirection DirectionFound.Reserved hue tenths clock = Asked.BadLine
+with_direction DirectionFound.Reserved hue tenths clock = Asked.BadLine
 
 -- "hue, direction (0 Shortest, 1 Longest, 2 Up, 3 Down), tenths, clock"; "a direction above 3, or a number past its
 -- field (hue 255, tenths 65,535, clock 64 bits)" is a bad line
 unfoldable pub wanted : ℕ → ℕ → ℕ → ℕ → Asked
 wanted hue direction tenths clock =
     cond (leb hue 255 && leb direction 3 && leb tenths 65535)
-    (withDirection (directionFound direction) hue tenths clock) Asked.BadLine
+    (with_direction (direction_found direction) hue tenths clock) Asked.BadLine
 
 -- "four decimal numbers"
-unfoldable pub askedByWords : List (List ℕ) → Asked
-askedByWords ws =
-    cond (eqb (length ws) 4 && allNumbers ws)
+unfoldable pub asked_by_words : List (List ℕ) → Asked
+asked_by_words ws =
+    cond (eqb (length ws) 4 && all_numbers ws)
     (wanted (value (get_or ws 0 [])) (value (get_or ws 1 [])) (value (get_or ws 2 [])) (value (get_or ws 3 [])))
     Asked.BadLine
 
 -- what an input asks for
-abbrev pub askedBy : List ℕ → Asked
-askedBy input = askedByWords (words (line input))
+abbrev pub asked_by : List ℕ → Asked
+asked_by input = asked_by_words (words (line input))

@@ -38,8 +38,8 @@ ended r =
     }
 
 -- a blank: the word before it has a digit, and there are four words at most
-unfoldable pub nextWord : Reader → Reader
-nextWord r =
+unfoldable pub next_word : Reader → Reader
+next_word r =
     cond (r.begun && ltb r.blanks 3)
     (record {
       bad = r.bad;
@@ -69,27 +69,27 @@ with_last r (Grown.To n) =
 with_last r Grown.Refused = spoilt r
 
 -- a digit: the number stays within 64 bits. No other byte has a place in a word
-unfoldable pub nextDigit : Reader → ℕ → Reader
-nextDigit r b = with_last r (grown r.last b largest)
+unfoldable pub next_digit : Reader → ℕ → Reader
+next_digit r b = with_last r (grown r.last b largest)
 
 -- the newline has come, or something spoils the line: no further byte counts
 abbrev pub settled : Reader → Bool
 settled r = r.bad || r.over
 
-unfoldable pub readByte : Reader → ℕ → Reader
-readByte r b =
+unfoldable pub read_byte : Reader → ℕ → Reader
+read_byte r b =
     cond (settled r) r
     (cond (eqb b 10) (ended r)
-    (cond (eqb b 32) (nextWord r)
-    (nextDigit r b)))
+    (cond (eqb b 32) (next_word r)
+    (next_digit r b)))
 
 unfoldable pub read_all : Reader → List ℕ → Reader
 read_all r [] = r
-read_all r (b ∷ bs) = read_all (readByte r b) bs
+read_all r (b ∷ bs) = read_all (read_byte r b) bs
 
 -- what was asked for, once all is read
-unfoldable pub lineRead : Reader → Asked
-lineRead r =
+unfoldable pub line_read : Reader → Asked
+line_read r =
     cond (not r.bad && eqb r.blanks 3 && r.begun)
     (wanted r.first r.second r.third r.last)
     Asked.BadLine

@@ -11,34 +11,34 @@ unfoldable pub spaced : ℕ → List ℕ
 spaced n = 32 ∷ decimal n
 
 -- numbers, each with a blank before it
-unfoldable pub spacedAll : List ℕ → List ℕ
-spacedAll [] = []
-spacedAll (n ∷ ns) = spaced n ++ spacedAll ns
+unfoldable pub spaced_all : List ℕ → List ℕ
+spaced_all [] = []
+spaced_all (n ∷ ns) = spaced n ++ spaced_all ns
 
 -- the numbers that a list of notices holds
 abbrev pub numbers : Notices → List ℕ
 numbers list = take list.len list.places
 
 -- clock, hue, remaining tenths and wait, and a colon: `5000 0 2 100:`
-unfoldable pub stateText : Line → List ℕ
-stateText line =
+unfoldable pub state_text : Line → List ℕ
+state_text line =
     decimal line.clock ++ spaced line.hue ++ spaced line.tenths ++ spaced line.wait ++ (58 ∷ [])
 
 -- `5000 0 2 100: 15`
-unfoldable pub lineText : Line → List ℕ
-lineText line = stateText line ++ spacedAll (numbers line.notices) ++ (10 ∷ [])
+unfoldable pub line_text : Line → List ℕ
+line_text line = state_text line ++ spaced_all (numbers line.notices) ++ (10 ∷ [])
 
 -- `refused`
-abbrev pub refusedWord : List ℕ
-refusedWord = 114 ∷ 101 ∷ 102 ∷ 117 ∷ 115 ∷ 101 ∷ 100 ∷ []
+abbrev pub refused_word : List ℕ
+refused_word = 114 ∷ 101 ∷ 102 ∷ 117 ∷ 115 ∷ 101 ∷ 100 ∷ []
 
 -- `refused 4`
-unfoldable pub refusedText : ℕ → List ℕ
-refusedText number = refusedWord ++ spaced number ++ (10 ∷ [])
+unfoldable pub refused_text : ℕ → List ℕ
+refused_text number = refused_word ++ spaced number ++ (10 ∷ [])
 
 -- `bad line`
-abbrev pub badLineText : List ℕ
-badLineText = 98 ∷ 97 ∷ 100 ∷ 32 ∷ 108 ∷ 105 ∷ 110 ∷ 101 ∷ 10 ∷ []
+abbrev pub bad_line_text : List ℕ
+bad_line_text = 98 ∷ 97 ∷ 100 ∷ 32 ∷ 108 ∷ 105 ∷ 110 ∷ 101 ∷ 10 ∷ []
 
 -- 512 places, more than a line takes, are left at `at`
 unfoldable pub room_for : ℕ → ℕ → Bool

@@ -1,14 +1,14 @@
 // Reading the line of `fade`: four numbers, parted by single blanks. The line may be of any length and may come in parts,
 // so it is read a byte at a time, and what has been read is kept in a few numbers.
 ghost use Rattle.std.specs.Prelude.{◌≡◌};
-ghost use Rattle.fade_line.specs.Line.{wanted, withDirection, askedBy};
-ghost use Rattle.fade_line.specs.Reading.{fresh, spoilt, ended, nextWord, nextDigit, settled, readByte, read_all, lineRead};
+ghost use Rattle.fade_line.specs.Line.{wanted, with_direction, asked_by};
+ghost use Rattle.fade_line.specs.Reading.{fresh, spoilt, ended, next_word, next_digit, settled, read_byte, read_all, line_read};
 
 use matter::{DirectionEnum, DirectionFound};
 use text::digits::{Grown, with_digit};
 
 // The fade that a line asks for.
-#[derive(Drop)]
+#[derive(Clone, Copy)]
 pub struct Wanted {
     pub hue: u8,
     pub direction: DirectionEnum,
@@ -16,7 +16,7 @@ pub struct Wanted {
     pub clock: u64,
 }
 
-#[derive(Drop)]
+#[derive(Clone, Copy)]
 pub enum Asked {
     BadLine,
     Fade(Wanted),
@@ -24,7 +24,7 @@ pub enum Asked {
 
 // What has been read: whether it spoils the line, whether the newline has come, how many blanks, whether the last word
 // has a digit, its number so far, and the numbers of the three words before it.
-#[derive(Drop)]
+#[derive(Clone, Copy)]
 pub struct Reader {
     pub bad: bool,
     pub over: bool,
@@ -37,7 +37,7 @@ pub struct Reader {
 }
 
 fn with_direction(found: DirectionFound, hue: u8, tenths: u16, clock: u64) -> Asked
-    ensures { result ≡ withDirection found hue tenths clock }
+    ensures { result ≡ with_direction found hue tenths clock }
 {
     match found {
         DirectionFound::Known(direction) => Asked::Fade(Wanted {
@@ -102,7 +102,7 @@ impl Reader {
 
     // A blank ends a word that has a digit, and a fifth word spoils the line.
     fn next_word(self) -> Reader
-        ensures { result ≡ nextWord self }
+        ensures { result ≡ next_word self }
     {
         if !self.begun {
             return self.spoil();
@@ -123,7 +123,7 @@ impl Reader {
 
     // One digit more. Any other byte, and a number past 64 bits, spoils the line.
     fn next_digit(self, byte: u8) -> Reader
-        ensures { result ≡ nextDigit self byte }
+        ensures { result ≡ next_digit self byte }
     {
         match with_digit(self.last, byte, u64::MAX) {
             Grown::To(last) => Reader {
@@ -137,7 +137,7 @@ impl Reader {
 
     // One byte more. Nothing after the newline counts.
     fn read_byte(self, byte: u8) -> Reader
-        ensures { result ≡ readByte self byte }
+        ensures { result ≡ read_byte self byte }
     {
         if self.is_settled() {
             return self;
@@ -173,7 +173,7 @@ impl Reader {
 
     // What the line asks for, once the input has come to its end.
     pub fn asked(self) -> Asked
-        ensures { result ≡ lineRead self }
+        ensures { result ≡ line_read self }
     {
         if self.bad {
             return Asked::BadLine;
@@ -190,7 +190,7 @@ impl Reader {
 
 // What a whole input asks for.
 pub fn asked_by(input: &[u8]) -> Asked
-    ensures { result ≡ askedBy input.now }
+    ensures { result ≡ asked_by input.now }
 {
     Reader::new().read(input).asked()
 }

@@ -2,7 +2,7 @@
 // wrote. The public ones write nothing, and give `at`, where the slice has no room for the longest line.
 ghost use Rattle.std.specs.Prelude.{◌≡◌, ◌+◌, min, length};
 ghost use Rattle.text.specs.Written.{pasted, Written};
-ghost use Rattle.fade_line.specs.Text.{spaced, spacedAll, numbers, stateText, lineText, refusedText, badLineText, room_for, fitting};
+ghost use Rattle.fade_line.specs.Text.{spaced, spaced_all, numbers, state_text, line_text, refused_text, bad_line_text, room_for, fitting};
 
 use notices::Notices;
 use text::writer;
@@ -12,7 +12,7 @@ use text::writer::{byte, decimal};
 pub const LONGEST: usize = 512;
 
 // What a line of a fade reports.
-#[derive(Drop)]
+#[derive(Clone, Copy)]
 pub struct Line {
     pub clock: u64,
     pub hue: u16,
@@ -46,7 +46,7 @@ fn count(len: usize) -> usize
 }
 
 fn notices(out: &mut [u8], at: usize, list: Notices) -> usize
-    ensures { Written out.old at (spacedAll (numbers list)) out.new result }
+    ensures { Written out.old at (spaced_all (numbers list)) out.new result }
 {
     let places = list.places;
     let count = count(list.len);
@@ -61,7 +61,7 @@ fn notices(out: &mut [u8], at: usize, list: Notices) -> usize
 
 // Clock, hue, remaining tenths and wait, and a colon.
 fn state(out: &mut [u8], at: usize, line: Line) -> usize
-    ensures { Written out.old at (stateText line) out.new result }
+    ensures { Written out.old at (state_text line) out.new result }
 {
     let hue = decimal(out, at, line.clock);
     let tenths = spaced(out, hue, line.hue as u64);
@@ -71,8 +71,8 @@ fn state(out: &mut [u8], at: usize, line: Line) -> usize
 }
 
 pub fn write_line(out: &mut [u8], at: usize, line: Line) -> usize
-    ensures value { result ≡ at + length (fitting out.old at (lineText line)) }
-    ensures out_after { out.new ≡ pasted out.old at (fitting out.old at (lineText line)) }
+    ensures value { result ≡ at + length (fitting out.old at (line_text line)) }
+    ensures out_after { out.new ≡ pasted out.old at (fitting out.old at (line_text line)) }
 {
     if !has_room(at, out.len()) {
         return at;
@@ -84,8 +84,8 @@ pub fn write_line(out: &mut [u8], at: usize, line: Line) -> usize
 }
 
 pub fn write_refused(out: &mut [u8], at: usize, number: u8) -> usize
-    ensures value { result ≡ at + length (fitting out.old at (refusedText number)) }
-    ensures out_after { out.new ≡ pasted out.old at (fitting out.old at (refusedText number)) }
+    ensures value { result ≡ at + length (fitting out.old at (refused_text number)) }
+    ensures out_after { out.new ≡ pasted out.old at (fitting out.old at (refused_text number)) }
 {
     if !has_room(at, out.len()) {
         return at;
@@ -96,8 +96,8 @@ pub fn write_refused(out: &mut [u8], at: usize, number: u8) -> usize
 }
 
 pub fn write_bad_line(out: &mut [u8], at: usize) -> usize
-    ensures value { result ≡ at + length (fitting out.old at badLineText) }
-    ensures out_after { out.new ≡ pasted out.old at (fitting out.old at badLineText) }
+    ensures value { result ≡ at + length (fitting out.old at bad_line_text) }
+    ensures out_after { out.new ≡ pasted out.old at (fitting out.old at bad_line_text) }
 {
     if !has_room(at, out.len()) {
         return at;

@@ -1,44 +1,44 @@
 -- `fade` on document 01's line, and on lines at the edges, by computation. Bytes are written as their numbers.
 use mathlib.Core.List.{[], ◌∷◌, ◌++◌}
 use mathlib.Core.Path.{◌≡◌, refl}
-use Rattle.matter.specs.All.{allTrue}
-use Rattle.matter.specs.Flags.{hasFlag}
-use Rattle.matter.specs.Rules.{defaultColorMode}
+use Rattle.matter.specs.All.{all_true}
+use Rattle.matter.specs.Flags.{has_flag}
+use Rattle.matter.specs.Rules.{default_color_mode}
 use Rattle.notices.specs.Notices.{filled}
-use Rattle.hue.specs.Hue.{distance, pathDelta, isTie, movedHue}
-use Rattle.progress.specs.Progress.{permilleOf, clamp}
+use Rattle.hue.specs.Hue.{distance, path_delta, is_tie, moved_hue}
+use Rattle.progress.specs.Progress.{permille_of, clamp}
 use Rattle.remaining_time.specs.RemainingTime.{reported}
-use Rattle.color.specs.Setters.{hueSet}
-use Rattle.color.specs.Valid.{colorValid}
-use Rattle.tasks.specs.Valid.{moveToValid, taskValid, runningValid}
-use Rattle.lamp.specs.Answers.{firstCause}
-use Rattle.lamp.specs.Valid.{lampValid}
+use Rattle.color.specs.Setters.{hue_set}
+use Rattle.color.specs.Valid.{color_valid}
+use Rattle.tasks.specs.Valid.{move_to_valid, task_valid, running_valid}
+use Rattle.lamp.specs.Answers.{first_cause}
+use Rattle.lamp.specs.Valid.{lamp_valid}
 use Rattle.lamp.specs.Making.{making}
-use Rattle.lamp.specs.Passes.{hueSaturationMoved, timed}
-use Rattle.lamp.specs.Calls.{hueSaturationStart, started, stepped, startAnswer, stepAnswer}
-use Rattle.commands.specs.Commands.{commandEffect}
-use Rattle.commands.specs.Answers.{commandCause, commandAnswer}
-use Rattle.text.specs.Digits.{is_number, decimalIn, decimal}
+use Rattle.lamp.specs.Passes.{hue_saturation_moved, timed}
+use Rattle.lamp.specs.Calls.{hue_saturation_start, started, stepped, start_answer, step_answer}
+use Rattle.commands.specs.Commands.{command_effect}
+use Rattle.commands.specs.Answers.{command_cause, command_answer}
+use Rattle.text.specs.Digits.{is_number, decimal_in, decimal}
 use Rattle.text.specs.Words.{up_to}
-use Rattle.fade_line.specs.Line.{words, wanted, askedByWords}
-use Rattle.fade_line.specs.Text.{spaced, spacedAll, stateText, lineText, refusedText}
-use Rattle.fade_run.specs.Run.{line_of, further, fadeOf, fadeText}
+use Rattle.fade_line.specs.Line.{words, wanted, asked_by_words}
+use Rattle.fade_line.specs.Text.{spaced, spaced_all, state_text, line_text, refused_text}
+use Rattle.fade_run.specs.Run.{line_of, further, fade_of, fade_text}
 
 -- `128 0 2 5000`
 three-lines :
-    fadeText (49 ∷ 50 ∷ 56 ∷ 32 ∷ 48 ∷ 32 ∷ 50 ∷ 32 ∷ 53 ∷ 48 ∷ 48 ∷ 48 ∷ 10 ∷ []) ≡
+    fade_text (49 ∷ 50 ∷ 56 ∷ 32 ∷ 48 ∷ 32 ∷ 50 ∷ 32 ∷ 53 ∷ 48 ∷ 48 ∷ 48 ∷ 10 ∷ []) ≡
     (53 ∷ 48 ∷ 48 ∷ 48 ∷ 32 ∷ 48 ∷ 32 ∷ 50 ∷ 32 ∷ 49 ∷ 48 ∷ 48 ∷ 58 ∷ 32 ∷ 49 ∷ 53 ∷ 10 ∷ [])
     ++ (53 ∷ 49 ∷ 48 ∷ 48 ∷ 32 ∷ 49 ∷ 54 ∷ 51 ∷ 56 ∷ 52 ∷ 32 ∷ 49 ∷ 32 ∷ 49 ∷ 48 ∷ 48 ∷ 58 ∷ 32 ∷ 49 ∷ 51 ∷ 32 ∷ 50 ∷ 32 ∷ 54 ∷ 32 ∷ 55 ∷ 32 ∷ 49 ∷ 52 ∷ 32 ∷ 49 ∷ 53 ∷ 10 ∷ [])
     ++ (53 ∷ 50 ∷ 48 ∷ 48 ∷ 32 ∷ 51 ∷ 50 ∷ 55 ∷ 54 ∷ 56 ∷ 32 ∷ 48 ∷ 32 ∷ 48 ∷ 58 ∷ 32 ∷ 49 ∷ 51 ∷ 32 ∷ 50 ∷ 32 ∷ 54 ∷ 32 ∷ 55 ∷ 32 ∷ 49 ∷ 52 ∷ 32 ∷ 49 ∷ 53 ∷ 32 ∷ 49 ∷ 10 ∷ [])
-unfolding hasFlag defaultColorMode allTrue colorValid moveToValid taskValid runningValid lampValid firstCause clamp distance pathDelta isTie movedHue permilleOf reported filled hueSet making commandEffect commandCause commandAnswer hueSaturationMoved timed hueSaturationStart started stepped startAnswer stepAnswer up_to words is_number wanted askedByWords decimal decimalIn spaced spacedAll stateText lineText refusedText line_of further fadeOf
+unfolding has_flag default_color_mode all_true color_valid move_to_valid task_valid running_valid lamp_valid first_cause clamp distance path_delta is_tie moved_hue permille_of reported filled hue_set making command_effect command_cause command_answer hue_saturation_moved timed hue_saturation_start started stepped start_answer step_answer up_to words is_number wanted asked_by_words decimal decimal_in spaced spaced_all state_text line_text refused_text line_of further fade_of
 three-lines = refl
 
 -- hue 255: `refused 1`
-hue-255 : fadeText (50 ∷ 53 ∷ 53 ∷ 32 ∷ 48 ∷ 32 ∷ 49 ∷ 32 ∷ 53 ∷ 10 ∷ []) ≡ 114 ∷ 101 ∷ 102 ∷ 117 ∷ 115 ∷ 101 ∷ 100 ∷ 32 ∷ 49 ∷ 10 ∷ []
-unfolding hasFlag defaultColorMode allTrue colorValid runningValid lampValid firstCause clamp making commandEffect commandCause commandAnswer up_to words is_number wanted askedByWords decimal decimalIn spaced refusedText fadeOf
+hue-255 : fade_text (50 ∷ 53 ∷ 53 ∷ 32 ∷ 48 ∷ 32 ∷ 49 ∷ 32 ∷ 53 ∷ 10 ∷ []) ≡ 114 ∷ 101 ∷ 102 ∷ 117 ∷ 115 ∷ 101 ∷ 100 ∷ 32 ∷ 49 ∷ 10 ∷ []
+unfolding has_flag default_color_mode all_true color_valid running_valid lamp_valid first_cause clamp making command_effect command_cause command_answer up_to words is_number wanted asked_by_words decimal decimal_in spaced refused_text fade_of
 hue-255 = refl
 
 -- two blanks: `bad line`
-two-blanks : fadeText (49 ∷ 50 ∷ 56 ∷ 32 ∷ 32 ∷ 48 ∷ 32 ∷ 49 ∷ 32 ∷ 53 ∷ 10 ∷ []) ≡ 98 ∷ 97 ∷ 100 ∷ 32 ∷ 108 ∷ 105 ∷ 110 ∷ 101 ∷ 10 ∷ []
-unfolding up_to words is_number wanted askedByWords fadeOf
+two-blanks : fade_text (49 ∷ 50 ∷ 56 ∷ 32 ∷ 32 ∷ 48 ∷ 32 ∷ 49 ∷ 32 ∷ 53 ∷ 10 ∷ []) ≡ 98 ∷ 97 ∷ 100 ∷ 32 ∷ 108 ∷ 105 ∷ 110 ∷ 101 ∷ 10 ∷ []
+unfolding up_to words is_number wanted asked_by_words fade_of
 two-blanks = refl

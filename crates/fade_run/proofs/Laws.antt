@@ -10,31 +10,31 @@ use lib.ListN.{length, take, length-append, length-take}
 use borrow.Author.Tests.{lt-ltb, le-ltb, ltb-true}
 use Rattle.matter.specs.Causes.{accepted}
 use Rattle.matter.proofs.Laws.{cond_both}
-use Rattle.matter.specs.Limits.{saturationLimit}
-use Rattle.progress.specs.Progress.{clampedSum, deltaAtRate}
+use Rattle.matter.specs.Limits.{saturation_limit}
+use Rattle.progress.specs.Progress.{clamped_sum, delta_at_rate}
 use Rattle.tasks.specs.declared.Task.{Task}
 use Rattle.tasks.specs.declared.Running.{Running}
 use Rattle.tasks.specs.declared.SaturationRun.{SaturationRun}
 use Rattle.tasks.specs.declared.ColorTemperatureRun.{ColorTemperatureRun}
 use Rattle.tasks.specs.declared.ColorLoopRun.{ColorLoopRun}
-use Rattle.tasks.specs.Runs.{loopRun}
+use Rattle.tasks.specs.Runs.{loop_run}
 use Rattle.lamp.specs.declared.Lamp.{Lamp}
 use Rattle.lamp.specs.declared.Answer.{Answer}
-use Rattle.lamp.specs.Answers.{atClock, refusal}
+use Rattle.lamp.specs.Answers.{at_clock, refusal}
 use Rattle.matter.specs.Rules.{signed}
 use Rattle.lamp.specs.declared.passes.Found.{Found}
 use Rattle.lamp.specs.declared.passes.Moved.{Moved}
-use Rattle.lamp.specs.Passes.{Effect, waiting, atEnd, saturationDone, miredsDone, timed, huePassed, saturationPassed, temperaturePassed, loopPassed}
+use Rattle.lamp.specs.Passes.{Effect, waiting, at_end, saturation_done, mireds_done, timed, hue_passed, saturation_passed, temperature_passed, loop_passed}
 use Rattle.matter.specs.Bounds.{lower, upper}
-use Rattle.lamp.specs.Calls.{done, started, stepped, startCause, stepCause, startAnswer, stepAnswer, hueSaturationStart, temperatureToStart, temperatureStart}
+use Rattle.lamp.specs.Calls.{done, started, stepped, start_cause, step_cause, start_answer, step_answer, hue_saturation_start, temperature_to_start, temperature_start}
 use Rattle.lamp.proofs.Kept.{valid-clock, start-ready, step-ready, choose-both, started-few, stepped-few}
 use Rattle.fade_run.specs.declared.Fade.{Fade}
 use Rattle.fade_line.specs.declared.writer.Line.{Line}
-use Rattle.fade_line.specs.Text.{numbers, lineText, refusedText, room_for, fitting}
+use Rattle.fade_line.specs.Text.{numbers, line_text, refused_text, room_for, fitting}
 use Rattle.text.specs.Written.{pasted, Wrote}
 use Rattle.text.proofs.WriteLaws.{wrote_none, length-pasted, take-pasted}
 use Rattle.fade_line.proofs.TextLaws.{numbers-noted, line-short, refused-short, fitting-all}
-use Rattle.fade_run.specs.Run.{line_of, is_over, moved, oneText, goesOn, stepAfter, further, text, nextText, step_of, rest}
+use Rattle.fade_run.specs.Run.{line_of, is_over, moved, one_text, goes_on, step_after, further, text, next_text, step_of, rest}
 
 -- ---- the text is the next line and the text of the rest
 
@@ -43,23 +43,23 @@ one_less n = omega arith
 
 further-is : (left : ℕ) (a : Answer) (clock : ℕ) → further left a clock ≡ text (step_of a clock left)
 unfolding further step_of
-further-is zero a clock = none (goesOn a)
+further-is zero a clock = none (goes_on a)
   where
     none : (t : Bool) → [] ≡ text (cond (t && false) (Fade.Step (record { lamp = a.lamp; clock = clock + a.wait; left = 0 - 1 })) Fade.Over)
     none true = refl
     none false = refl
-further-is (suc left) a clock = simp (lt-ltb 0 (suc left) (omega arith)) (some (goesOn a))
+further-is (suc left) a clock = simp (lt-ltb 0 (suc left) (omega arith)) (some (goes_on a))
   where
-    some : (t : Bool) → cond t (oneText (stepAfter a clock) (clock + a.wait) ++ further left (stepAfter a clock) (clock + a.wait)) []
+    some : (t : Bool) → cond t (one_text (step_after a clock) (clock + a.wait) ++ further left (step_after a clock) (clock + a.wait)) []
         ≡ text (cond (t && true) (Fade.Step (record { lamp = a.lamp; clock = clock + a.wait; left = suc left - 1 })) Fade.Over)
-    some true = ap (λ (n : ℕ). oneText (stepAfter a clock) (clock + a.wait) ++ further n (stepAfter a clock) (clock + a.wait)) (one_less left)
+    some true = ap (λ (n : ℕ). one_text (step_after a clock) (clock + a.wait) ++ further n (step_after a clock) (clock + a.wait)) (one_less left)
     some false = refl
 
-pub text-next : (f : Fade) → text f ≡ nextText f ++ text (rest f)
+pub text-next : (f : Fade) → text f ≡ next_text f ++ text (rest f)
 text-next Fade.BadLine = refl
 text-next (Fade.Refused number) = sym (append-nil _)
-text-next (Fade.Start s) = ap (λ (t : List ℕ). nextText (Fade.Start s) ++ t) (further-is s.left _ s.clock)
-text-next (Fade.Step s) = ap (λ (t : List ℕ). nextText (Fade.Step s) ++ t) (further-is s.left _ s.clock)
+text-next (Fade.Start s) = ap (λ (t : List ℕ). next_text (Fade.Start s) ++ t) (further-is s.left _ s.clock)
+text-next (Fade.Step s) = ap (λ (t : List ℕ). next_text (Fade.Step s) ++ t) (further-is s.left _ s.clock)
 text-next Fade.Over = refl
 
 -- ---- waits: 100 at most
@@ -75,37 +75,37 @@ waits-least false n = omega arith
 module _ (f : Found) where
   timed-wait : (moved : Moved) (start ms permille : ℕ) → (timed f moved start ms permille).wait ≤ 100
   unfolding timed
-  timed-wait moved start ms permille = waits-least (atEnd permille) (ms - (f.clock - start))
+  timed-wait moved start ms permille = waits-least (at_end permille) (ms - (f.clock - start))
 
-  saturation-wait : (run : SaturationRun) → (saturationPassed f run).wait ≤ 100
-  unfolding saturationPassed
+  saturation-wait : (run : SaturationRun) → (saturation_passed f run).wait ≤ 100
+  unfolding saturation_passed
   saturation-wait run =
       waits-tick
-      (saturationDone run.task.direction
-      (clampedSum 0 saturationLimit run.saturation (deltaAtRate (signed run.task.direction run.task.rate) (f.clock - run.start))))
+      (saturation_done run.task.direction
+      (clamped_sum 0 saturation_limit run.saturation (delta_at_rate (signed run.task.direction run.task.rate) (f.clock - run.start))))
 
-  temperature-wait : (run : ColorTemperatureRun) → (temperaturePassed f run).wait ≤ 100
-  unfolding temperaturePassed
+  temperature-wait : (run : ColorTemperatureRun) → (temperature_passed f run).wait ≤ 100
+  unfolding temperature_passed
   temperature-wait run =
       waits-tick
-      (miredsDone run.rate run.lo run.hi (clampedSum run.lo run.hi run.mireds (deltaAtRate run.rate (f.clock - run.start))))
+      (mireds_done run.rate run.lo run.hi (clamped_sum run.lo run.hi run.mireds (delta_at_rate run.rate (f.clock - run.start))))
 
-  loop-wait : (run : ColorLoopRun) → (loopPassed f run).wait ≤ 100
-  unfolding loopPassed
+  loop-wait : (run : ColorLoopRun) → (loop_passed f run).wait ≤ 100
+  unfolding loop_passed
   loop-wait run = omega arith
 
 stepped-wait : (l : Lamp) (r : Running) → (stepped l r).wait ≤ 100
-unfolding stepped huePassed
+unfolding stepped hue_passed
 stepped-wait l Running.Idle = omega arith
 stepped-wait l (Running.HueSaturationMoveTo run) = timed-wait _ _ _ _ _
 stepped-wait l (Running.HueMove run) = omega arith
 stepped-wait l (Running.SaturationMove run) = saturation-wait _ run
 stepped-wait l (Running.ColorTemperatureMoveTo run) = timed-wait _ _ _ _ _
 stepped-wait l (Running.ColorTemperatureMove run) = temperature-wait _ run
-stepped-wait l (Running.ColorLoop direction hue seconds start) = loop-wait _ (loopRun direction hue seconds start)
+stepped-wait l (Running.ColorLoop direction hue seconds start) = loop-wait _ (loop_run direction hue seconds start)
 
 started-wait : (l : Lamp) (task : Task) → (started l task).wait ≤ 100
-unfolding started hueSaturationStart temperatureToStart temperatureStart huePassed
+unfolding started hue_saturation_start temperature_to_start temperature_start hue_passed
 started-wait l (Task.HueSaturationMoveTo task) = timed-wait _ _ _ _ _
 started-wait l (Task.HueMove task) = omega arith
 started-wait l (Task.SaturationMove task) = saturation-wait _ _
@@ -117,42 +117,42 @@ started-wait l Task.Stop = omega arith
 
 -- so the next step's clock fits in 64 bits
 module _ (l : Lamp) (clock : ℕ) (fits : clock < 2 ^ 64) where
-  pub start-clock : (task : Task) → clock + (startAnswer l task clock).wait < 2 ^ 64
-  unfolding startAnswer
+  pub start-clock : (task : Task) → clock + (start_answer l task clock).wait < 2 ^ 64
+  unfolding start_answer
   start-clock task =
-      choose-both (λ a. clock + a.wait < 2 ^ 64) (startCause l task clock) l _
-      (λ e. omega (arith, valid-clock (atClock l clock) (start-ready l clock task e).0, started-wait (atClock l clock) task))
+      choose-both (λ a. clock + a.wait < 2 ^ 64) (start_cause l task clock) l _
+      (λ e. omega (arith, valid-clock (at_clock l clock) (start-ready l clock task e).0, started-wait (at_clock l clock) task))
       (λ e. omega (arith, fits))
 
-  pub step-clock : clock + (stepAnswer l clock).wait < 2 ^ 64
-  unfolding stepAnswer
+  pub step-clock : clock + (step_answer l clock).wait < 2 ^ 64
+  unfolding step_answer
   step-clock =
-      choose-both (λ a. clock + a.wait < 2 ^ 64) (stepCause l clock) l _
-      (λ e. omega (arith, valid-clock (atClock l clock) (step-ready l clock e), stepped-wait (atClock l clock) l.running))
+      choose-both (λ a. clock + a.wait < 2 ^ 64) (step_cause l clock) l _
+      (λ e. omega (arith, valid-clock (at_clock l clock) (step-ready l clock e), stepped-wait (at_clock l clock) l.running))
       (λ e. omega (arith, fits))
 
 -- ---- a line: never empty, and no longer than the room that is asked for
 
-line-some : (line : Line) → 0 < length (lineText line)
-unfolding lineText
+line-some : (line : Line) → 0 < length (line_text line)
+unfolding line_text
 line-some line = simp length-append (omega arith)
 
-refused-some : (number : ℕ) → 0 < length (refusedText number)
-unfolding refusedText
+refused-some : (number : ℕ) → 0 < length (refused_text number)
+unfolding refused_text
 refused-some number = simp length-append (omega arith)
 
-one-some : (a : Answer) (clock : ℕ) → 0 < length (oneText a clock)
+one-some : (a : Answer) (clock : ℕ) → 0 < length (one_text a clock)
 one-some a clock =
     cond_both (λ (t : List ℕ). 0 < length t) (eqb a.number accepted) _ _ (λ e. line-some (line_of a clock)) (λ e. refused-some a.number)
 
-pub next-some : (f : Fade) → is_over f ≡ false → 0 < length (nextText f)
+pub next-some : (f : Fade) → is_over f ≡ false → 0 < length (next_text f)
 next-some Fade.BadLine e = omega arith
 next-some (Fade.Refused number) e = refused-some number
-next-some (Fade.Start s) e = one-some (startAnswer s.lamp s.task s.clock) s.clock
-next-some (Fade.Step s) e = one-some (stepAnswer s.lamp s.clock) s.clock
+next-some (Fade.Start s) e = one-some (start_answer s.lamp s.task s.clock) s.clock
+next-some (Fade.Step s) e = one-some (step_answer s.lamp s.clock) s.clock
 next-some Fade.Over e = absurd (true≢false e)
 
-one-short : (a : Answer) (clock : ℕ) → length (numbers a.notices) ≤ 16 → length (oneText a clock) ≤ 512
+one-short : (a : Answer) (clock : ℕ) → length (numbers a.notices) ≤ 16 → length (one_text a clock) ≤ 512
 unfolding line_of
 one-short a clock h =
     cond_both (λ (t : List ℕ). length t ≤ 512) (eqb a.number accepted) _ _ (λ e. line-short (line_of a clock) h) (λ e. refused-short a.number)
@@ -164,20 +164,20 @@ effect-few e h = simp (numbers-noted e.reported) (omega (arith, h))
 refusal-few : (l : Lamp) (number : ℕ) → length (numbers (refusal l number).notices) ≤ 16
 refusal-few l number = omega arith
 
-pub next-short : (f : Fade) → length (nextText f) ≤ 512
-unfolding startAnswer stepAnswer
+pub next-short : (f : Fade) → length (next_text f) ≤ 512
+unfolding start_answer step_answer
 next-short Fade.BadLine = omega arith
 next-short (Fade.Refused number) = refused-short number
 next-short (Fade.Start s) =
-    one-short (startAnswer s.lamp s.task s.clock) s.clock
-    (choose-both (λ (a : Answer). length (numbers a.notices) ≤ 16) (startCause s.lamp s.task s.clock) s.lamp _
-    (λ e. effect-few (started (atClock s.lamp s.clock) s.task) (started-few (atClock s.lamp s.clock) s.task))
-    (λ e. refusal-few s.lamp (startCause s.lamp s.task s.clock)))
+    one-short (start_answer s.lamp s.task s.clock) s.clock
+    (choose-both (λ (a : Answer). length (numbers a.notices) ≤ 16) (start_cause s.lamp s.task s.clock) s.lamp _
+    (λ e. effect-few (started (at_clock s.lamp s.clock) s.task) (started-few (at_clock s.lamp s.clock) s.task))
+    (λ e. refusal-few s.lamp (start_cause s.lamp s.task s.clock)))
 next-short (Fade.Step s) =
-    one-short (stepAnswer s.lamp s.clock) s.clock
-    (choose-both (λ (a : Answer). length (numbers a.notices) ≤ 16) (stepCause s.lamp s.clock) s.lamp _
-    (λ e. effect-few (stepped (atClock s.lamp s.clock) s.lamp.running) (stepped-few (atClock s.lamp s.clock) s.lamp.running))
-    (λ e. refusal-few s.lamp (stepCause s.lamp s.clock)))
+    one-short (step_answer s.lamp s.clock) s.clock
+    (choose-both (λ (a : Answer). length (numbers a.notices) ≤ 16) (step_cause s.lamp s.clock) s.lamp _
+    (λ e. effect-few (stepped (at_clock s.lamp s.clock) s.lamp.running) (stepped-few (at_clock s.lamp s.clock) s.lamp.running))
+    (λ e. refusal-few s.lamp (step_cause s.lamp s.clock)))
 next-short Fade.Over = omega arith
 
 -- ---- nothing to write
@@ -194,20 +194,20 @@ pub record OneMore (then : Fade) (old new : List ℕ) (at next : ℕ) (whole : L
   pub further-on : at < next
   pub written : take next new ++ text then ≡ whole
 
-pub one_more : (f then : Fade) (old new : List ℕ) (at next : ℕ) (whole : List ℕ) → is_over f ≡ false → at + 512 ≤ length old → then ≡ rest f → Wrote old at (fitting old at (nextText f)) new next → take at old ++ text f ≡ whole → OneMore then old new at next whole
+pub one_more : (f then : Fade) (old new : List ℕ) (at next : ℕ) (whole : List ℕ) → is_over f ≡ false → at + 512 ≤ length old → then ≡ rest f → Wrote old at (fitting old at (next_text f)) new next → take at old ++ text f ≡ whole → OneMore then old new at next whole
 one_more f then old new at next whole going room is-rest (at_next, is-pasted) before =
-    let fits : fitting old at (nextText f) ≡ nextText f = fitting-all old at (nextText f) room in
-    let end : next ≡ at + length (nextText f) = at_next ∙ ap (λ (t : List ℕ). at + length t) fits in
-    let made : new ≡ pasted old at (nextText f) = is-pasted ∙ ap (pasted old at) fits in
-    let inside : at + length (nextText f) ≤ length old = omega (arith, next-short f) in
+    let fits : fitting old at (next_text f) ≡ next_text f = fitting-all old at (next_text f) room in
+    let end : next ≡ at + length (next_text f) = at_next ∙ ap (λ (t : List ℕ). at + length t) fits in
+    let made : new ≡ pasted old at (next_text f) = is-pasted ∙ ap (pasted old at) fits in
+    let inside : at + length (next_text f) ≤ length old = omega (arith, next-short f) in
     record {
-      length-kept = ap length made ∙ length-pasted old at (nextText f) inside;
+      length-kept = ap length made ∙ length-pasted old at (next_text f) inside;
       inside = omega (arith, end, inside);
       further-on = omega (arith, end, next-some f going);
       written =
           ap (λ (g : Fade). take next new ++ text g) is-rest
-          ∙ ap (λ (t : List ℕ). t ++ text (rest f)) (ap (λ (n : ℕ). take n new) end ∙ ap (take (at + length (nextText f))) made ∙ take-pasted old at (nextText f) (omega arith))
-          ∙ append_assoc (take at old) (nextText f) (text (rest f))
+          ∙ ap (λ (t : List ℕ). t ++ text (rest f)) (ap (λ (n : ℕ). take n new) end ∙ ap (take (at + length (next_text f))) made ∙ take-pasted old at (next_text f) (omega arith))
+          ∙ append_assoc (take at old) (next_text f) (text (rest f))
           ∙ ap (λ (t : List ℕ). take at old ++ t) (sym (text-next f))
           ∙ before;
     }

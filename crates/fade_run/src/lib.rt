@@ -2,7 +2,7 @@
 ghost use Rattle.std.specs.Prelude.{◌≡◌, ◌+◌, ◌<◌, ◌≤◌, ◌^◌, ◌++◌, length, take, true};
 ghost use Rattle.text.specs.Written.{Wrote};
 ghost use Rattle.fade_line.specs.Text.{fitting};
-ghost use Rattle.fade_run.specs.Run.{line_of, oneText, nextText, rest, start_of, afterCommand, commanded, afterMaking, fadeWithin, fadeOf, step_of, is_over, text, moved};
+ghost use Rattle.fade_run.specs.Run.{line_of, one_text, next_text, rest, start_of, after_command, commanded, after_making, fade_within, fade_of, step_of, is_over, text, moved};
 
 use commands::invoke;
 use fade_line::reader::{Asked, Wanted};
@@ -13,7 +13,7 @@ use matter::{ACCEPTED, Bounds, Command, CommandOptions, OnOff, Request};
 use tasks::{GivenTask, Task};
 
 // A start, and a step, that is to come, with how many more steps there may be.
-#[derive(Drop)]
+#[derive(Clone, Copy)]
 pub struct Starting {
     pub lamp: Lamp,
     pub task: Task,
@@ -21,7 +21,7 @@ pub struct Starting {
     pub left: u16,
 }
 
-#[derive(Drop)]
+#[derive(Clone, Copy)]
 pub struct Stepping {
     pub lamp: Lamp,
     pub clock: u64,
@@ -29,7 +29,7 @@ pub struct Stepping {
 }
 
 // Where a run stands: what is to be written next.
-#[derive(Drop)]
+#[derive(Clone, Copy)]
 pub enum Fade {
     BadLine,
     Refused(u8),
@@ -53,7 +53,7 @@ fn start_of(lamp: Lamp, given: GivenTask, clock: u64, left: u16) -> Fade
 }
 
 fn after_command(answer: Answer, clock: u64, left: u16) -> Fade
-    ensures { result ≡ afterCommand left clock answer }
+    ensures { result ≡ after_command left clock answer }
 {
     if answer.number != ACCEPTED {
         return Fade::Refused(answer.number);
@@ -84,7 +84,7 @@ fn command(lamp: Lamp, wanted: Wanted) -> Fade
 }
 
 fn begin(wanted: Wanted) -> Fade
-    ensures { result ≡ fadeWithin wanted.tenths wanted }
+    ensures { result ≡ fade_within wanted.tenths wanted }
 {
     match Lamp::new(Bounds { min: 153, max: 500 }, 31, 0, wanted.clock) {
         Made::Refused(number) => Fade::Refused(number),
@@ -93,7 +93,7 @@ fn begin(wanted: Wanted) -> Fade
 }
 
 // What is left of a run once some of it is written, and the place after that.
-#[derive(Drop)]
+#[derive(Clone, Copy)]
 pub struct Written {
     pub fade: Fade,
     pub len: usize,
@@ -139,7 +139,7 @@ fn step_of(answer: Answer, clock: u64, left: u16) -> Fade
 }
 
 fn write_answer(answer: Answer, clock: u64, out: &mut [u8], at: usize) -> usize
-    ensures { Wrote out.old at (fitting out.old at (oneText answer clock)) out.new result }
+    ensures { Wrote out.old at (fitting out.old at (one_text answer clock)) out.new result }
 {
     if answer.number != ACCEPTED {
         return writer::write_refused(out, at, answer.number);
@@ -150,7 +150,7 @@ fn write_answer(answer: Answer, clock: u64, out: &mut [u8], at: usize) -> usize
 // An answer to a call at this clock is written.
 fn reported(answer: Answer, clock: u64, left: u16, out: &mut [u8], at: usize) -> Written
     requires { clock + answer.wait < 2 ^ 64 }
-    ensures { (result.fade ≡ step_of answer clock left) × Wrote out.old at (fitting out.old at (oneText answer clock)) out.new result.len }
+    ensures { (result.fade ≡ step_of answer clock left) × Wrote out.old at (fitting out.old at (one_text answer clock)) out.new result.len }
 {
     let fade = step_of(answer, clock, left);
     let end = write_answer(answer, clock, out, at);
@@ -170,7 +170,7 @@ fn last(end: usize) -> Written
 }
 
 fn start(starting: Starting, out: &mut [u8], at: usize) -> Written
-    ensures { (result.fade ≡ rest (Fade.Start starting)) × Wrote out.old at (fitting out.old at (nextText (Fade.Start starting))) out.new result.len }
+    ensures { (result.fade ≡ rest (Fade.Start starting)) × Wrote out.old at (fitting out.old at (next_text (Fade.Start starting))) out.new result.len }
 {
     let lamp = starting.lamp;
     let task = starting.task;
@@ -184,7 +184,7 @@ fn start(starting: Starting, out: &mut [u8], at: usize) -> Written
 }
 
 fn step(stepping: Stepping, out: &mut [u8], at: usize) -> Written
-    ensures { (result.fade ≡ rest (Fade.Step stepping)) × Wrote out.old at (fitting out.old at (nextText (Fade.Step stepping))) out.new result.len }
+    ensures { (result.fade ≡ rest (Fade.Step stepping)) × Wrote out.old at (fitting out.old at (next_text (Fade.Step stepping))) out.new result.len }
 {
     let lamp = stepping.lamp;
     reported(
@@ -199,7 +199,7 @@ fn step(stepping: Stepping, out: &mut [u8], at: usize) -> Written
 impl Fade {
     // The run that a line asks for.
     pub fn new(asked: Asked) -> Fade
-        ensures { result ≡ fadeOf asked }
+        ensures { result ≡ fade_of asked }
     {
         match asked {
             Asked::BadLine => Fade::BadLine,
@@ -221,7 +221,7 @@ impl Fade {
 
     // The next line is written from `at` on.
     fn write_next(self, out: &mut [u8], at: usize) -> Written
-        ensures { (result.fade ≡ rest self) × Wrote out.old at (fitting out.old at (nextText self)) out.new result.len }
+        ensures { (result.fade ≡ rest self) × Wrote out.old at (fitting out.old at (next_text self)) out.new result.len }
     {
         match self {
             Fade::BadLine => last(writer::write_bad_line(out, at)),

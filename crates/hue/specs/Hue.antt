@@ -2,7 +2,7 @@
 -- A hue is a number below 65,536; sums of hues and ways are over the integers, modulo 65,536.
 use Rattle.std.specs.Prelude.{ℕ, ◌-◌, ◌/◌, ◌%◌, min, Bool, false, cond, ◌&&◌, ℤ, pos, negsuc, ◌+ℤ◌, ◌-ℤ◌, neg_ℤ, ◌==◌, nat_le, nat_lt}
 use Rattle.matter.specs.declared.enums.DirectionEnum.{DirectionEnum}
-use Rattle.matter.specs.Limits.{hueLimit}
+use Rattle.matter.specs.Limits.{hue_limit}
 use Rattle.hue.specs.declared.HuePath.{HuePath}
 
 -- an integer modulo 65,536: the one of 0 to 65,535 that differs from it by whole turns
@@ -23,33 +23,33 @@ chosen DirectionEnum.Shortest up down = cond (nat_le up down) (pos up) (neg_ℤ 
 chosen DirectionEnum.Longest up down = cond (nat_lt down up) (pos up) (neg_ℤ (pos down))
 
 -- the delta from current to target
-unfoldable pub pathDelta : ℕ → ℕ → DirectionEnum → ℤ
-pathDelta current target direction = chosen direction (distance current target) (distance target current)
+unfoldable pub path_delta : ℕ → ℕ → DirectionEnum → ℤ
+path_delta current target direction = chosen direction (distance current target) (distance target current)
 
 -- document 02, A.6: "The distance answer gains a mark, set exactly when Shortest or Longest was asked and both
 -- distances are 32,768"
-abbrev pub bothHalf : ℕ → ℕ → Bool
-bothHalf up down = up == 32768 && down == 32768
+abbrev pub both_half : ℕ → ℕ → Bool
+both_half up down = up == 32768 && down == 32768
 
 abbrev pub tied : DirectionEnum → ℕ → ℕ → Bool
 tied DirectionEnum.Up up down = false
 tied DirectionEnum.Down up down = false
-tied DirectionEnum.Shortest up down = bothHalf up down
-tied DirectionEnum.Longest up down = bothHalf up down
+tied DirectionEnum.Shortest up down = both_half up down
+tied DirectionEnum.Longest up down = both_half up down
 
-unfoldable pub isTie : ℕ → ℕ → DirectionEnum → Bool
-isTie current target direction = tied direction (distance current target) (distance target current)
+unfoldable pub is_tie : ℕ → ℕ → DirectionEnum → Bool
+is_tie current target direction = tied direction (distance current target) (distance target current)
 
 -- leaf 1's answer
-abbrev pub huePath : ℕ → ℕ → DirectionEnum → HuePath
-huePath current target direction =
-    record { delta = pathDelta current target direction; is_tie = isTie current target direction }
+abbrev pub hue_path : ℕ → ℕ → DirectionEnum → HuePath
+hue_path current target direction =
+    record { delta = path_delta current target direction; is_tie = is_tie current target direction }
 
 -- "The hue is the start plus the part, and wraps past 65,535 to 0 on purpose"
-unfoldable pub movedHue : ℕ → ℤ → ℕ
-movedHue start part = modulo (pos start +ℤ part)
+unfoldable pub moved_hue : ℕ → ℤ → ℕ
+moved_hue start part = modulo (pos start +ℤ part)
 
 -- "the one-byte shown hue, the stored one divided by 256, rounded down"; CurrentHue ends at 254, so document 02, A.4:
 -- "a stored hue of 65,280 or above is shown as 254"
-abbrev pub currentHue : ℕ → ℕ
-currentHue hue = min hueLimit (hue / 256)
+abbrev pub current_hue : ℕ → ℕ
+current_hue hue = min hue_limit (hue / 256)

@@ -2,7 +2,7 @@
 // Document 01, leaf 1.
 // Carried over from project-chip/rs-matter, commit 43f61585a4 (Apache-2.0, see NOTICE), and changed.
 ghost use Rattle.std.specs.Prelude.{◌≡◌, pos, ◌+ℤ◌, neg_ℤ};
-ghost use Rattle.hue.specs.Hue.{distance, chosen, tied, huePath, movedHue, currentHue};
+ghost use Rattle.hue.specs.Hue.{distance, chosen, tied, hue_path, moved_hue, current_hue};
 
 use matter::DirectionEnum;
 
@@ -26,7 +26,7 @@ fn minus(n: u16) -> i32
 }
 
 // The signed delta from one hue to another. A tie: Shortest or Longest was asked, and both distances are 32,768.
-#[derive(Drop)]
+#[derive(Clone, Copy)]
 pub struct HuePath {
     pub delta: i32,
     pub is_tie: bool,
@@ -59,7 +59,7 @@ fn is_tie(up: u16, down: u16, direction: DirectionEnum) -> bool
 
 // The delta from `current` to `target`, in the direction asked for.
 pub fn hue_path_delta(current: u16, target: u16, direction: DirectionEnum) -> HuePath
-    ensures { result ≡ huePath current target direction }
+    ensures { result ≡ hue_path current target direction }
 {
     let up_distance = distance_up(current, target);
     let down_distance = distance_up(target, current);
@@ -71,7 +71,7 @@ pub fn hue_path_delta(current: u16, target: u16, direction: DirectionEnum) -> Hu
 
 // The hue a signed part away from `start`. It wraps past 65,535 to 0, and below 0 to 65,535, on purpose.
 pub fn moved_hue(start: u16, part: i64) -> u16
-    ensures { result ≡ movedHue start part }
+    ensures { result ≡ moved_hue start part }
 {
     let turn = part % 65536;
     if turn >= 0 {
@@ -86,7 +86,7 @@ pub const LAST_CURRENT_HUE: u8 = 254;
 
 // CurrentHue: the upper byte of the stored hue, at most 254.
 pub fn current_hue(hue: u16) -> u8
-    ensures { result ≡ currentHue hue }
+    ensures { result ≡ current_hue hue }
 {
     let upper = hue / 256;
     if upper < LAST_CURRENT_HUE as u16 {

@@ -56,12 +56,12 @@ pub is-negated : (z : ℤ) → le_z (pos 0) z ≡ false → z ≡ neg_ℤ (pos (
 is-negated (pos n) e = absurd (subst T (sym (le-leb 0 n zero-le) ∙ e) tt)
 is-negated (negsuc n) e = refl
 
-pub is-nonNeg : (z : ℤ) → le_z (pos 0) z ≡ true → T (non_neg z)
-is-nonNeg z e = subst (λ (y : ℤ). T (non_neg y)) (sym (is-size z e)) tt
+pub is-non_neg : (z : ℤ) → le_z (pos 0) z ≡ true → T (non_neg z)
+is-non_neg z e = subst (λ (y : ℤ). T (non_neg y)) (sym (is-size z e)) tt
 
-pub neg-nonNeg : (z : ℤ) → le_z (pos 0) z ≡ false → T (non_neg (neg_ℤ z))
-neg-nonNeg (pos n) e = absurd (subst T (sym (le-leb 0 n zero-le) ∙ e) tt)
-neg-nonNeg (negsuc n) e = tt
+pub neg-non_neg : (z : ℤ) → le_z (pos 0) z ≡ false → T (non_neg (neg_ℤ z))
+neg-non_neg (pos n) e = absurd (subst T (sym (le-leb 0 n zero-le) ∙ e) tt)
+neg-non_neg (negsuc n) e = tt
 
 -- ---- a summand, taken across a test
 

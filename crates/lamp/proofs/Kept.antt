@@ -11,16 +11,16 @@ use lib.ListN.{length, length-append}
 use borrow.Author.Tests.{leb-true, leb-false, le-leb, lt-ltb, ltb-true, ltb-false, eqb-true, eqb-false, not-false}
 use Rattle.matter.specs.declared.limits.Bounds.{Bounds}
 use Rattle.matter.proofs.Laws.{and_left, and_right, cond_both, leb-later, each, all_of}
-use Rattle.matter.specs.Limits.{clockLimit, saturationLimit}
+use Rattle.matter.specs.Limits.{clock_limit, saturation_limit}
 use Rattle.notices.proofs.Laws.{only_one}
 use Rattle.notices.proofs.Numerals.{Below, none, below-append, below-only}
 use Rattle.notices.specs.Notices.{only}
 use Rattle.notices.specs.Names.{RemainingTime, EnhancedCurrentHue}
 use Rattle.remaining_time.specs.declared.RemainingTime.{RemainingTime as Remaining}
 use Rattle.progress.proofs.Laws.{clamp-within}
-use Rattle.progress.specs.Progress.{permilleOf, deltaAtRate, clamp, clampedSum}
+use Rattle.progress.specs.Progress.{permille_of, delta_at_rate, clamp, clamped_sum}
 use Rattle.color.specs.declared.Color.{Color}
-use Rattle.color.specs.Valid.{colorValid}
+use Rattle.color.specs.Valid.{color_valid}
 use Rattle.color.proofs.Kept.{color-later, valid-saturation, valid-above, valid-below, hue-kept, saturation-kept, mireds-kept}
 use Rattle.tasks.specs.declared.HueDelta.{HueDelta}
 use Rattle.tasks.specs.declared.TargetSaturation.{TargetSaturation}
@@ -35,48 +35,48 @@ use Rattle.tasks.specs.declared.ColorTemperatureRun.{ColorTemperatureRun}
 use Rattle.tasks.specs.declared.ColorLoopRun.{ColorLoopRun}
 use Rattle.tasks.specs.declared.Running.{Running}
 use Rattle.tasks.specs.declared.Task.{Task}
-use Rattle.tasks.specs.Runs.{runs, loopRun, loopRunning}
-use Rattle.tasks.specs.Valid.{timeValid, rateValid, saturationValid, moveToValid, withinBounds, taskValid, runningValid}
+use Rattle.tasks.specs.Runs.{runs, loop_run, loop_running}
+use Rattle.tasks.specs.Valid.{time_valid, rate_valid, saturation_valid, move_to_valid, within_bounds, task_valid, running_valid}
 use Rattle.lamp.specs.declared.Lamp.{Lamp}
 use Rattle.lamp.specs.declared.Answer.{Answer}
-use Rattle.lamp.specs.Answers.{atClock, badClock, firstCause, refusal}
+use Rattle.lamp.specs.Answers.{at_clock, bad_clock, first_cause, refusal}
 use Rattle.matter.specs.Bounds.{lower, upper}
-use Rattle.lamp.specs.Calls.{fullWritten, startPermille, hueSaturationStart, temperatureToStart, temperatureStart, started, stepped, choose, startCause, stepCause, startAnswer, stepAnswer, haltAnswer}
-use Rattle.lamp.specs.Valid.{lampValid}
+use Rattle.lamp.specs.Calls.{full_written, start_permille, hue_saturation_start, temperature_to_start, temperature_start, started, stepped, choose, start_cause, step_cause, start_answer, step_answer, halt_answer}
+use Rattle.lamp.specs.Valid.{lamp_valid}
 use Rattle.matter.specs.Rules.{signed}
 use Rattle.lamp.specs.declared.passes.Found.{Found}
 use Rattle.lamp.specs.declared.passes.Passed.{Passed}
 use Rattle.lamp.proofs.Passed.{pass-few, pass_below}
-use Rattle.lamp.specs.Passes.{Effect, unless, foundWith, foundIn, leftBy, leftEffect, idled, passReported, hueSaturationPassed, temperatureToPassed, atEnd, saturationDone, miredsDone, hueMoved, saturationMoved, miredsNow, huePass, saturationPass, temperaturePass, loopPass, huePassed, hueSaturationMoved, loopPassed, saturationPassed, temperaturePassed, temperatureToMoved, timed}
+use Rattle.lamp.specs.Passes.{Effect, unless, found_with, found_in, left_by, left_effect, idled, pass_reported, hue_saturation_passed, temperature_to_passed, at_end, saturation_done, mireds_done, hue_moved, saturation_moved, mireds_now, hue_pass, saturation_pass, temperature_pass, loop_pass, hue_passed, hue_saturation_moved, loop_passed, saturation_passed, temperature_passed, temperature_to_moved, timed}
 
 -- ---- the parts of validity
 
-module _ (l : Lamp) (validity : lampValid l ≡ true) where
+module _ (l : Lamp) (validity : lamp_valid l ≡ true) where
   -- the clock is at most the limit
-  pub valid-clock : l.clock ≤ clockLimit
-  unfolding lampValid
+  pub valid-clock : l.clock ≤ clock_limit
+  unfolding lamp_valid
   valid-clock = leb-true _ _ (each _ validity).0
 
   -- the colour is valid
-  pub valid-color : colorValid l.color l.bounds l.clock ≡ true
-  unfolding lampValid
+  pub valid-color : color_valid l.color l.bounds l.clock ≡ true
+  unfolding lamp_valid
   valid-color = (each _ validity).1.0
 
   -- the running record is valid
-  pub valid-running : runningValid l.running l.bounds l.clock ≡ true
-  unfolding lampValid
+  pub valid-running : running_valid l.running l.bounds l.clock ≡ true
+  unfolding lamp_valid
   valid-running = (each _ validity).1.1.0
 
 -- a lamp with all three is valid
-pub valid-of : (l : Lamp) → l.clock ≤ clockLimit → colorValid l.color l.bounds l.clock ≡ true → runningValid l.running l.bounds l.clock ≡ true → lampValid l ≡ true
-unfolding lampValid
+pub valid-of : (l : Lamp) → l.clock ≤ clock_limit → color_valid l.color l.bounds l.clock ≡ true → running_valid l.running l.bounds l.clock ≡ true → lamp_valid l ≡ true
+unfolding lamp_valid
 valid-of l h c r = all_of _ (le-leb _ _ h, (c, (r, tt)))
 
 -- ---- validity lasts
 
 -- a valid running record is valid at a later clock
-pub running-later : (r : Running) (b : Bounds) (c d : ℕ) → runningValid r b c ≡ true → c ≤ d → runningValid r b d ≡ true
-unfolding runningValid
+pub running-later : (r : Running) (b : Bounds) (c d : ℕ) → running_valid r b c ≡ true → c ≤ d → running_valid r b d ≡ true
+unfolding running_valid
 running-later Running.Idle b c d e h = refl
 running-later (Running.HueSaturationMoveTo run) b c d e h =
     let (t, (m, (s, (z, tt)))) = each _ e in
@@ -94,123 +94,123 @@ running-later (Running.ColorTemperatureMove run) b c d e h =
 running-later (Running.ColorLoop direction hue seconds start) b c d e h = leb-later _ c d e h
 
 -- a valid lamp is valid at a later clock, up to the limit
-pub later-valid : (l : Lamp) (clock : ℕ) → lampValid l ≡ true → l.clock ≤ clock → clock ≤ clockLimit → lampValid (atClock l clock) ≡ true
+pub later-valid : (l : Lamp) (clock : ℕ) → lamp_valid l ≡ true → l.clock ≤ clock → clock ≤ clock_limit → lamp_valid (at_clock l clock) ≡ true
 later-valid l clock e h k =
-    valid-of (atClock l clock) k (color-later l.color l.bounds l.clock clock (valid-color l e) h)
+    valid-of (at_clock l clock) k (color-later l.color l.bounds l.clock clock (valid-color l e) h)
     (running-later l.running l.bounds l.clock clock (valid-running l e) h)
 
 -- ---- a pass keeps validity
 
 -- both tests of a number within the bounds
-within : (b : Bounds) (n : ℕ) → withinBounds b n ≡ true → (b.min ≤ n) × (n ≤ b.max)
+within : (b : Bounds) (n : ℕ) → within_bounds b n ≡ true → (b.min ≤ n) × (n ≤ b.max)
 within b n e = (leb-true _ _ (and_left (leb b.min n) _ e), leb-true _ _ (and_right (leb b.min n) _ e))
 
 -- and back
-is_within : (b : Bounds) (n : ℕ) → b.min ≤ n → n ≤ b.max → withinBounds b n ≡ true
+is_within : (b : Bounds) (n : ℕ) → b.min ≤ n → n ≤ b.max → within_bounds b n ≡ true
 is_within b n h k = rw (le-leb _ _ h, le-leb _ _ k)
 
-module _ (l : Lamp) (timely : l.clock ≤ clockLimit) (validity : colorValid l.color l.bounds l.clock ≡ true) where
+module _ (l : Lamp) (timely : l.clock ≤ clock_limit) (validity : color_valid l.color l.bounds l.clock ≡ true) where
   -- what runs on, or nothing at an end
-  unless-valid : (end : Bool) (r : Running) → (end ≡ false → runningValid r l.bounds l.clock ≡ true) → runningValid (unless end r) l.bounds l.clock ≡ true
-  unfolding runningValid
-  unless-valid end r h = cond_both (λ s. runningValid s l.bounds l.clock ≡ true) end _ r (λ e. refl) h
+  unless-valid : (end : Bool) (r : Running) → (end ≡ false → running_valid r l.bounds l.clock ≡ true) → running_valid (unless end r) l.bounds l.clock ≡ true
+  unfolding running_valid
+  unless-valid end r h = cond_both (λ s. running_valid s l.bounds l.clock ≡ true) end _ r (λ e. refl) h
 
   -- the hue's part of a move-to
-  hue-part : (d : HueDelta) (start permille : ℕ) (enhanced : Bool) → colorValid (hueMoved l.color d start permille enhanced l.clock).color l.bounds l.clock ≡ true
+  hue-part : (d : HueDelta) (start permille : ℕ) (enhanced : Bool) → color_valid (hue_moved l.color d start permille enhanced l.clock).color l.bounds l.clock ≡ true
   hue-part HueDelta.Keep start permille enhanced = validity
-  hue-part (HueDelta.By way) start permille enhanced = hue-kept l.color l.bounds l.clock validity _ (atEnd permille) enhanced
+  hue-part (HueDelta.By way) start permille enhanced = hue-kept l.color l.bounds l.clock validity _ (at_end permille) enhanced
 
   -- the saturation's, on a valid colour
-  saturation-part : (c : Color) (t : TargetSaturation) (start permille : ℕ) → colorValid c l.bounds l.clock ≡ true → saturationValid t ≡ true → colorValid (saturationMoved c t start permille l.clock).color l.bounds l.clock ≡ true
+  saturation-part : (c : Color) (t : TargetSaturation) (start permille : ℕ) → color_valid c l.bounds l.clock ≡ true → saturation_valid t ≡ true → color_valid (saturation_moved c t start permille l.clock).color l.bounds l.clock ≡ true
   saturation-part c TargetSaturation.Keep start permille e h = e
   saturation-part c (TargetSaturation.To target) start permille e h =
-      saturation-kept c l.bounds l.clock e _ (atEnd permille)
-      (cond_both (λ n. n ≤ saturationLimit) (atEnd permille) target _ (λ t. leb-true _ _ h) (λ t. (clamp-within 0 saturationLimit _ (omega arith)).1))
+      saturation-kept c l.bounds l.clock e _ (at_end permille)
+      (cond_both (λ n. n ≤ saturation_limit) (at_end permille) target _ (λ t. leb-true _ _ h) (λ t. (clamp-within 0 saturation_limit _ (omega arith)).1))
 
   -- a pass of a move-to, whose record is valid unless it ends
-  hue-saturation-pass : (t : Remaining) (run : HueSaturationRun) (permille : ℕ) → saturationValid run.task.saturation ≡ true → (atEnd permille ≡ false → runningValid (Running.HueSaturationMoveTo run) l.bounds l.clock ≡ true) → lampValid (leftEffect l (leftBy false (hueSaturationPassed (foundWith l t) run permille) (Running.HueSaturationMoveTo run))).lamp ≡ true
-  unfolding hueSaturationMoved timed
+  hue-saturation-pass : (t : Remaining) (run : HueSaturationRun) (permille : ℕ) → saturation_valid run.task.saturation ≡ true → (at_end permille ≡ false → running_valid (Running.HueSaturationMoveTo run) l.bounds l.clock ≡ true) → lamp_valid (left_effect l (left_by false (hue_saturation_passed (found_with l t) run permille) (Running.HueSaturationMoveTo run))).lamp ≡ true
+  unfolding hue_saturation_moved timed
   hue-saturation-pass t run permille h r =
       valid-of _ timely (saturation-part _ run.task.saturation run.saturation permille (hue-part run.task.delta run.hue permille run.task.enhanced) h)
-      (unless-valid (atEnd permille) _ r)
+      (unless-valid (at_end permille) _ r)
 
   -- a pass of a move-to in mireds, likewise
-  temperature-to-pass : (t : Remaining) (run : ColorTemperatureToRun) (permille : ℕ) → withinBounds l.bounds run.task.target ≡ true → (atEnd permille ≡ false → runningValid (Running.ColorTemperatureMoveTo run) l.bounds l.clock ≡ true) → lampValid (leftEffect l (leftBy false (temperatureToPassed (foundWith l t) run permille) (Running.ColorTemperatureMoveTo run))).lamp ≡ true
-  unfolding temperatureToMoved timed
+  temperature-to-pass : (t : Remaining) (run : ColorTemperatureToRun) (permille : ℕ) → within_bounds l.bounds run.task.target ≡ true → (at_end permille ≡ false → running_valid (Running.ColorTemperatureMoveTo run) l.bounds l.clock ≡ true) → lamp_valid (left_effect l (left_by false (temperature_to_passed (found_with l t) run permille) (Running.ColorTemperatureMoveTo run))).lamp ≡ true
+  unfolding temperature_to_moved timed
   temperature-to-pass t run permille h r =
       let target : (l.bounds.min ≤ run.task.target) × (run.task.target ≤ l.bounds.max) = within l.bounds run.task.target h in
-      let now : (l.bounds.min ≤ miredsNow l.bounds run.mireds run.task.target permille) × (miredsNow l.bounds run.mireds run.task.target permille ≤ l.bounds.max) =
-      cond_both (λ n. (l.bounds.min ≤ n) × (n ≤ l.bounds.max)) (atEnd permille) _ _ (λ t. target) (λ t. clamp-within _ _ _ (omega arith))
+      let now : (l.bounds.min ≤ mireds_now l.bounds run.mireds run.task.target permille) × (mireds_now l.bounds run.mireds run.task.target permille ≤ l.bounds.max) =
+      cond_both (λ n. (l.bounds.min ≤ n) × (n ≤ l.bounds.max)) (at_end permille) _ _ (λ t. target) (λ t. clamp-within _ _ _ (omega arith))
       in
-      valid-of _ timely (mireds-kept _ _ _ validity _ (atEnd permille) now.0 now.1) (unless-valid (atEnd permille) _ r)
+      valid-of _ timely (mireds-kept _ _ _ validity _ (at_end permille) now.0 now.1) (unless-valid (at_end permille) _ r)
 
   -- a pass of a hue move
-  pub hue-pass : (run : HueRun) → runningValid (Running.HueMove run) l.bounds l.clock ≡ true → lampValid (huePass l run).lamp ≡ true
-  unfolding huePassed
+  pub hue-pass : (run : HueRun) → running_valid (Running.HueMove run) l.bounds l.clock ≡ true → lamp_valid (hue_pass l run).lamp ≡ true
+  unfolding hue_passed
   hue-pass run r = valid-of _ timely (hue-kept _ _ _ validity _ false run.task.enhanced) r
 
   -- a pass of a saturation move
-  pub saturation-pass : (run : SaturationRun) → runningValid (Running.SaturationMove run) l.bounds l.clock ≡ true → lampValid (saturationPass l run).lamp ≡ true
-  unfolding saturationPassed
+  pub saturation-pass : (run : SaturationRun) → running_valid (Running.SaturationMove run) l.bounds l.clock ≡ true → lamp_valid (saturation_pass l run).lamp ≡ true
+  unfolding saturation_passed
   saturation-pass run r =
-      let now : ℕ = clampedSum 0 saturationLimit run.saturation (deltaAtRate (signed run.task.direction run.task.rate) (l.clock - run.start)) in
-      let end : Bool = saturationDone run.task.direction now in
-      valid-of _ timely (saturation-kept _ _ _ validity now end (clamp-within 0 saturationLimit _ (omega arith)).1) (unless-valid end _ (λ e. r))
+      let now : ℕ = clamped_sum 0 saturation_limit run.saturation (delta_at_rate (signed run.task.direction run.task.rate) (l.clock - run.start)) in
+      let end : Bool = saturation_done run.task.direction now in
+      valid-of _ timely (saturation-kept _ _ _ validity now end (clamp-within 0 saturation_limit _ (omega arith)).1) (unless-valid end _ (λ e. r))
 
   -- a pass of a temperature move
-  pub temperature-pass : (run : ColorTemperatureRun) → runningValid (Running.ColorTemperatureMove run) l.bounds l.clock ≡ true → lampValid (temperaturePass l run).lamp ≡ true
-  unfolding temperaturePassed runningValid
+  pub temperature-pass : (run : ColorTemperatureRun) → running_valid (Running.ColorTemperatureMove run) l.bounds l.clock ≡ true → lamp_valid (temperature_pass l run).lamp ≡ true
+  unfolding temperature_passed running_valid
   temperature-pass run r =
       let (t, (m, (o, (p, (q, (z, tt)))))) = each _ r in
-      let now : ℕ = clampedSum run.lo run.hi run.mireds (deltaAtRate run.rate (l.clock - run.start)) in
-      let end : Bool = miredsDone run.rate run.lo run.hi now in
+      let now : ℕ = clamped_sum run.lo run.hi run.mireds (delta_at_rate run.rate (l.clock - run.start)) in
+      let end : Bool = mireds_done run.rate run.lo run.hi now in
       let between : (run.lo ≤ now) × (now ≤ run.hi) = clamp-within run.lo run.hi _ (omega (arith, ltb-true run.lo run.hi o)) in
       valid-of _ timely (mireds-kept _ _ _ validity now end (omega (arith, within l.bounds run.lo p)) (omega (arith, within l.bounds run.hi q))) (unless-valid end _ (λ e. r))
 
   -- a pass of the colour loop
-  pub loop-pass : (run : ColorLoopRun) → runningValid (loopRunning run) l.bounds l.clock ≡ true → lampValid (loopPass l run).lamp ≡ true
-  unfolding loopPassed
+  pub loop-pass : (run : ColorLoopRun) → running_valid (loop_running run) l.bounds l.clock ≡ true → lamp_valid (loop_pass l run).lamp ≡ true
+  unfolding loop_passed
   loop-pass run r = valid-of _ timely (hue-kept _ _ _ validity _ false true) r
 
 -- made idle, a lamp stays valid
-idled-valid : (l : Lamp) → lampValid l ≡ true → lampValid (idled l).lamp ≡ true
-unfolding runningValid
+idled-valid : (l : Lamp) → lamp_valid l ≡ true → lamp_valid (idled l).lamp ≡ true
+unfolding running_valid
 idled-valid l h = valid-of _ (valid-clock l h) (valid-color l h) refl
 
 -- ---- a start keeps validity
 
 -- a move-to that does not end at once takes time
-takes-time : (ms : ℕ) (noDelta : Bool) → atEnd (startPermille ms noDelta) ≡ false → ltb 0 ms ≡ true
-takes-time zero noDelta e = sym e
-takes-time (suc n) noDelta e = lt-ltb 0 (suc n) (omega arith)
+takes-time : (ms : ℕ) (no_delta : Bool) → at_end (start_permille ms no_delta) ≡ false → ltb 0 ms ≡ true
+takes-time zero no_delta e = sym e
+takes-time (suc n) no_delta e = lt-ltb 0 (suc n) (omega arith)
 
-module _ (l : Lamp) (validity : lampValid l ≡ true) where
+module _ (l : Lamp) (validity : lamp_valid l ≡ true) where
   -- a start of a move-to
-  move-to-start : (task : HueSaturationMoveTo) → moveToValid task ≡ true → lampValid (leftEffect l (hueSaturationStart l task)).lamp ≡ true
-  unfolding hueSaturationStart moveToValid runningValid
+  move-to-start : (task : HueSaturationMoveTo) → move_to_valid task ≡ true → lamp_valid (left_effect l (hue_saturation_start l task)).lamp ≡ true
+  unfolding hue_saturation_start move_to_valid running_valid
   move-to-start task e =
       hue-saturation-pass l (valid-clock l validity) (valid-color l validity) _ _ _ (each _ e).1.1.0
       (λ t. all_of _ (e, (takes-time task.ms _ t, (le-leb _ _ (valid-saturation _ _ _ (valid-color l validity)), (le-leb l.clock _ (omega arith), tt)))))
 
   -- of one in mireds
-  temperature-to-start : (task : ColorTemperatureMoveTo) → timeValid task.ms ≡ true → lampValid (leftEffect l (temperatureToStart l task)).lamp ≡ true
-  unfolding temperatureToStart runningValid
+  temperature-to-start : (task : ColorTemperatureMoveTo) → time_valid task.ms ≡ true → lamp_valid (left_effect l (temperature_to_start l task)).lamp ≡ true
+  unfolding temperature_to_start running_valid
   temperature-to-start task e =
-      let c : colorValid l.color l.bounds l.clock ≡ true = valid-color l validity in
+      let c : color_valid l.color l.bounds l.clock ≡ true = valid-color l validity in
       let found : (l.bounds.min ≤ l.color.mireds) × (l.color.mireds ≤ l.bounds.max) = (valid-above _ _ _ c, valid-below _ _ _ c) in
       let target : _ = clamp-within l.bounds.min l.bounds.max (pos task.target) (omega arith) in
-      let to : withinBounds l.bounds (clamp l.bounds.min l.bounds.max (pos task.target)) ≡ true = is_within _ _ target.0 target.1 in
+      let to : within_bounds l.bounds (clamp l.bounds.min l.bounds.max (pos task.target)) ≡ true = is_within _ _ target.0 target.1 in
       temperature-to-pass l (valid-clock l validity) c _ _ _ to
       (λ t. all_of _ (e, (takes-time task.ms _ t, (is_within _ _ found.0 found.1, (to, (le-leb l.clock _ (omega arith), tt))))))
 
   -- of a temperature move
-  temperature-start : (task : ColorTemperatureMove) → rateValid task.rate ≡ true → lampValid (temperatureStart l task).lamp ≡ true
-  unfolding temperatureStart runningValid
+  temperature-start : (task : ColorTemperatureMove) → rate_valid task.rate ≡ true → lamp_valid (temperature_start l task).lamp ≡ true
+  unfolding temperature_start running_valid
   temperature-start task e =
-      let c : colorValid l.color l.bounds l.clock ≡ true = valid-color l validity in
+      let c : color_valid l.color l.bounds l.clock ≡ true = valid-color l validity in
       let low : ℕ = lower l.bounds task.min in
       let high : ℕ = upper l.bounds task.max in
-      cond_both (λ (f : Effect). lampValid f.lamp ≡ true) (leb high low) _ _
+      cond_both (λ (f : Effect). lamp_valid f.lamp ≡ true) (leb high low) _ _
       (λ t. idled-valid l validity)
       (λ t.
       let apart : low < high = leb-false high low t in
@@ -219,8 +219,8 @@ module _ (l : Lamp) (validity : lampValid l ≡ true) where
       (e, (is_within _ _ (valid-above _ _ _ c) (valid-below _ _ _ c), (lt-ltb _ _ apart, (is_within _ low (omega arith) (omega arith), (is_within _ high (omega arith) (omega arith), (le-leb l.clock _ (omega arith), tt))))))))
 
   -- a start of a valid task
-  pub started-valid : (task : Task) → taskValid task ≡ true → lampValid (started l task).lamp ≡ true
-  unfolding started taskValid runningValid
+  pub started-valid : (task : Task) → task_valid task ≡ true → lamp_valid (started l task).lamp ≡ true
+  unfolding started task_valid running_valid
   started-valid (Task.HueSaturationMoveTo task) e = move-to-start task e
   started-valid (Task.HueMove task) e =
       hue-pass l (valid-clock l validity) (valid-color l validity) _ (all_of _ (e, (le-leb l.clock _ (omega arith), tt)))
@@ -235,8 +235,8 @@ module _ (l : Lamp) (validity : lampValid l ≡ true) where
 -- ---- a step keeps validity
 
 -- whatever record it is given, if that is valid
-step_of : (l : Lamp) (r : Running) → lampValid l ≡ true → runningValid r l.bounds l.clock ≡ true → lampValid (stepped l r).lamp ≡ true
-unfolding stepped runningValid moveToValid
+step_of : (l : Lamp) (r : Running) → lamp_valid l ≡ true → running_valid r l.bounds l.clock ≡ true → lamp_valid (stepped l r).lamp ≡ true
+unfolding stepped running_valid move_to_valid
 step_of l Running.Idle h e = idled-valid l h
 step_of l (Running.HueSaturationMoveTo run) h e =
     hue-saturation-pass l (valid-clock l h) (valid-color l h) _ run _ (each _ (each _ e).0).1.1.0 (λ t. e)
@@ -246,10 +246,10 @@ step_of l (Running.ColorTemperatureMoveTo run) h e =
     temperature-to-pass l (valid-clock l h) (valid-color l h) _ run _ (each _ e).1.1.1.0 (λ t. e)
 step_of l (Running.ColorTemperatureMove run) h e = temperature-pass l (valid-clock l h) (valid-color l h) run e
 step_of l (Running.ColorLoop direction hue seconds start) h e =
-    loop-pass l (valid-clock l h) (valid-color l h) (loopRun direction hue seconds start) e
+    loop-pass l (valid-clock l h) (valid-color l h) (loop_run direction hue seconds start) e
 
 -- a step of what runs
-pub stepped-valid : (l : Lamp) → lampValid l ≡ true → lampValid (stepped l l.running).lamp ≡ true
+pub stepped-valid : (l : Lamp) → lamp_valid l ≡ true → lamp_valid (stepped l l.running).lamp ≡ true
 stepped-valid l h = step_of l l.running h (valid-running l h)
 
 -- ---- what an accepted call says
@@ -271,33 +271,33 @@ no-cause first second e =
 
 module _ (l : Lamp) (clock : ℕ) where
   -- a clock that is not refused is no earlier than the lamp's, and at most the limit
-  good-clock : badClock l clock ≡ false → (l.clock ≤ clock) × (clock ≤ clockLimit)
-  good-clock e = both (ltb clock l.clock) (ltb clockLimit clock) refl refl e
+  good-clock : bad_clock l clock ≡ false → (l.clock ≤ clock) × (clock ≤ clock_limit)
+  good-clock e = both (ltb clock l.clock) (ltb clock_limit clock) refl refl e
     where
-      both : (a b : Bool) → ltb clock l.clock ≡ a → ltb clockLimit clock ≡ b → (a || b) ≡ false → (l.clock ≤ clock) × (clock ≤ clockLimit)
+      both : (a b : Bool) → ltb clock l.clock ≡ a → ltb clock_limit clock ≡ b → (a || b) ≡ false → (l.clock ≤ clock) × (clock ≤ clock_limit)
       both false false p q h = (ltb-false _ _ p, ltb-false _ _ q)
       both true b p q h = absurd (true≢false h)
       both false true p q h = absurd (true≢false h)
 
   -- neither 8 nor 4: the lamp at the call's clock is valid
-  pub ready : firstCause l clock ≡ 0 → lampValid (atClock l clock) ≡ true
-  unfolding firstCause
+  pub ready : first_cause l clock ≡ 0 → lamp_valid (at_clock l clock) ≡ true
+  unfolding first_cause
   ready e =
-      let (f, c) = no-first (not (lampValid l)) 7 _ e in
-      let (h, k) = good-clock (no-first (badClock l clock) 3 0 c).0 in
+      let (f, c) = no-first (not (lamp_valid l)) 7 _ e in
+      let (h, k) = good-clock (no-first (bad_clock l clock) 3 0 c).0 in
       later-valid l clock (not-false _ f) h k
 
   -- an accepted start: ready, and its task is valid
-  pub start-ready : (task : Task) → startCause l task clock ≡ 0 → (lampValid (atClock l clock) ≡ true) × (taskValid task ≡ true)
+  pub start-ready : (task : Task) → start_cause l task clock ≡ 0 → (lamp_valid (at_clock l clock) ≡ true) × (task_valid task ≡ true)
   start-ready task e =
-      let (f, t) = no-cause (firstCause l clock) _ e in
-      (ready f, no_second (taskValid task) 5 t)
+      let (f, t) = no-cause (first_cause l clock) _ e in
+      (ready f, no_second (task_valid task) 5 t)
 
   -- an accepted step: ready
-  pub step-ready : stepCause l clock ≡ 0 → lampValid (atClock l clock) ≡ true
+  pub step-ready : step_cause l clock ≡ 0 → lamp_valid (at_clock l clock) ≡ true
   step-ready e =
-      let (f, r) = no-first (not (lampValid l)) 7 _ e in
-      let (h, k) = good-clock (no-first (badClock l clock) 3 0 (no-first (not (runs l.running)) 6 _ r).1).0 in
+      let (f, r) = no-first (not (lamp_valid l)) 7 _ e in
+      let (h, k) = good-clock (no-first (bad_clock l clock) 3 0 (no-first (not (runs l.running)) 6 _ r).1).0 in
       later-valid l clock (not-false _ f) h k
 
 -- ---- answers keep validity
@@ -306,27 +306,27 @@ module _ (l : Lamp) (clock : ℕ) where
 pub choose-both : (P : Answer → Type 0) (cause : ℕ) (l : Lamp) (a : Answer) → (cause ≡ 0 → P a) → ((cause ≡ 0 → ⊥) → P (refusal l cause)) → P (choose cause l a)
 choose-both P cause l a h k = cond_both P (eqb cause 0) a (refusal l cause) (λ e. h (eqb-true cause 0 e)) (λ e. k (eqb-false cause 0 e))
 
-module _ (l : Lamp) (clock : ℕ) (validity : lampValid l ≡ true) where
+module _ (l : Lamp) (clock : ℕ) (validity : lamp_valid l ≡ true) where
   -- a start's answer
-  pub start-valid : (task : Task) → lampValid (startAnswer l task clock).lamp ≡ true
-  unfolding startAnswer
+  pub start-valid : (task : Task) → lamp_valid (start_answer l task clock).lamp ≡ true
+  unfolding start_answer
   start-valid task =
-      choose-both (λ a. lampValid a.lamp ≡ true) (startCause l task clock) l _
-      (λ e. let (h, t) = start-ready l clock task e in started-valid (atClock l clock) h task t)
+      choose-both (λ a. lamp_valid a.lamp ≡ true) (start_cause l task clock) l _
+      (λ e. let (h, t) = start-ready l clock task e in started-valid (at_clock l clock) h task t)
       (λ e. validity)
 
   -- a step's
-  pub step-valid : lampValid (stepAnswer l clock).lamp ≡ true
-  unfolding stepAnswer
+  pub step-valid : lamp_valid (step_answer l clock).lamp ≡ true
+  unfolding step_answer
   step-valid =
-      choose-both (λ a. lampValid a.lamp ≡ true) (stepCause l clock) l _ (λ e. stepped-valid (atClock l clock) (step-ready l clock e)) (λ e. validity)
+      choose-both (λ a. lamp_valid a.lamp ≡ true) (step_cause l clock) l _ (λ e. stepped-valid (at_clock l clock) (step-ready l clock e)) (λ e. validity)
 
   -- a halt's
-  pub halt-valid : lampValid (haltAnswer l clock).lamp ≡ true
-  unfolding haltAnswer
+  pub halt-valid : lamp_valid (halt_answer l clock).lamp ≡ true
+  unfolding halt_answer
   halt-valid =
-      choose-both (λ a. lampValid a.lamp ≡ true) (firstCause l clock) l _
-      (λ e. idled-valid (atClock l clock) (ready l clock e))
+      choose-both (λ a. lamp_valid a.lamp ≡ true) (first_cause l clock) l _
+      (λ e. idled-valid (at_clock l clock) (ready l clock e))
       (λ e. validity)
 
 -- ---- what a start or step reports: few notices, none of them a command's
@@ -339,20 +339,20 @@ record Plain (p : Passed) : Type 0 where
   device : p.device < 17
 
 -- the hue's part of a move-to, and the saturation's
-hue-low : (c : Color) (d : HueDelta) (start permille : ℕ) (enhanced : Bool) (clock : ℕ) → (hueMoved c d start permille enhanced clock).change.attribute < 17
+hue-low : (c : Color) (d : HueDelta) (start permille : ℕ) (enhanced : Bool) (clock : ℕ) → (hue_moved c d start permille enhanced clock).change.attribute < 17
 hue-low c HueDelta.Keep start permille enhanced clock = omega arith
 hue-low c (HueDelta.By way) start permille enhanced clock = omega arith
 
-saturation-low : (c : Color) (t : TargetSaturation) (start permille clock : ℕ) → (saturationMoved c t start permille clock).change.attribute < 17
+saturation-low : (c : Color) (t : TargetSaturation) (start permille clock : ℕ) → (saturation_moved c t start permille clock).change.attribute < 17
 saturation-low c TargetSaturation.Keep start permille clock = omega arith
 saturation-low c (TargetSaturation.To target) start permille clock = omega arith
 
-saturation-plain : (c : Color) (t : TargetSaturation) (start permille clock : ℕ) → (saturationMoved c t start permille clock).change.enhanced ≡ false
+saturation-plain : (c : Color) (t : TargetSaturation) (start permille clock : ℕ) → (saturation_moved c t start permille clock).change.enhanced ≡ false
 saturation-plain c TargetSaturation.Keep start permille clock = refl
 saturation-plain c (TargetSaturation.To target) start permille clock = refl
 
-both-plain : (f : Found) (run : HueSaturationRun) (permille : ℕ) → Plain (hueSaturationPassed f run permille)
-unfolding hueSaturationMoved timed
+both-plain : (f : Found) (run : HueSaturationRun) (permille : ℕ) → Plain (hue_saturation_passed f run permille)
+unfolding hue_saturation_moved timed
 both-plain f run permille =
     record {
       unenhanced = saturation-plain _ run.task.saturation _ _ _;
@@ -362,50 +362,50 @@ both-plain f run permille =
     }
 
 -- what holds of no notices and of every such pass's, the full time in front or not, holds of what a start or step reports
-module _ (l : Lamp) (P : List ℕ → Type 0) (nothing : P []) (some : (full : Bool) (p : Passed) → Plain p → P (only full RemainingTime ++ passReported p l.looping.active)) where
+module _ (l : Lamp) (P : List ℕ → Type 0) (nothing : P []) (some : (full : Bool) (p : Passed) → Plain p → P (only full RemainingTime ++ pass_reported p l.looping.active)) where
   -- a pass of one change
   one : (full : Bool) (p : Passed) → p.second.enhanced ≡ false → p.first.attribute < 17 → p.second.attribute < 17 → p.device < 17
-      → P (only full RemainingTime ++ passReported p l.looping.active)
+      → P (only full RemainingTime ++ pass_reported p l.looping.active)
   one full p e f s d = some full p (record { unenhanced = e; first = f; second = s; device = d })
 
   started-by : (task : Task) → P (started l task).reported
-  unfolding started hueSaturationStart timed temperatureToStart temperatureToMoved temperatureStart temperaturePassed huePassed saturationPassed loopPassed
-  started-by (Task.HueSaturationMoveTo task) = some (fullWritten l task.ms).reported (hueSaturationStart l task).passed (both-plain _ _ _)
+  unfolding started hue_saturation_start timed temperature_to_start temperature_to_moved temperature_start temperature_passed hue_passed saturation_passed loop_passed
+  started-by (Task.HueSaturationMoveTo task) = some (full_written l task.ms).reported (hue_saturation_start l task).passed (both-plain _ _ _)
   started-by (Task.HueMove task) =
-      one false (huePassed (foundIn l) (record { start = l.clock; hue = l.color.hue; task = task })) refl (omega arith) (omega arith) (omega arith)
+      one false (hue_passed (found_in l) (record { start = l.clock; hue = l.color.hue; task = task })) refl (omega arith) (omega arith) (omega arith)
   started-by (Task.SaturationMove task) =
-      one false (saturationPassed (foundIn l) (record { start = l.clock; saturation = l.color.saturation; task = task })) refl (omega arith) (omega arith) (omega arith)
+      one false (saturation_passed (found_in l) (record { start = l.clock; saturation = l.color.saturation; task = task })) refl (omega arith) (omega arith) (omega arith)
   started-by (Task.ColorTemperatureMoveTo task) =
-      one (fullWritten l task.ms).reported (temperatureToStart l task).passed refl (omega arith) (omega arith) (omega arith)
+      one (full_written l task.ms).reported (temperature_to_start l task).passed refl (omega arith) (omega arith) (omega arith)
   started-by (Task.ColorTemperatureMove task) =
       let lo : ℕ = lower l.bounds task.min in
       let hi : ℕ = upper l.bounds task.max in
       cond_both (λ (e : Effect). P e.reported) (leb hi lo) _ _ (λ t. nothing)
-      (λ t. one false (temperaturePassed (foundIn l) (record { start = l.clock; mireds = l.color.mireds; rate = task.rate; lo = lo; hi = hi })) refl (omega arith) (omega arith) (omega arith))
+      (λ t. one false (temperature_passed (found_in l) (record { start = l.clock; mireds = l.color.mireds; rate = task.rate; lo = lo; hi = hi })) refl (omega arith) (omega arith) (omega arith))
   started-by (Task.ColorLoop task) =
-      one false (loopPassed (foundIn l) (record { start = l.clock; hue = l.color.hue; task = task })) refl (omega arith) (omega arith) (omega arith)
+      one false (loop_passed (found_in l) (record { start = l.clock; hue = l.color.hue; task = task })) refl (omega arith) (omega arith) (omega arith)
   started-by Task.Stop = nothing
 
   stepped_by : (r : Running) → P (stepped l r).reported
-  unfolding stepped timed temperatureToMoved temperaturePassed huePassed saturationPassed loopPassed
+  unfolding stepped timed temperature_to_moved temperature_passed hue_passed saturation_passed loop_passed
   stepped_by Running.Idle = nothing
-  stepped_by (Running.HueSaturationMoveTo run) = some false (hueSaturationPassed (foundIn l) run _) (both-plain _ _ _)
-  stepped_by (Running.HueMove run) = one false (huePassed (foundIn l) run) refl (omega arith) (omega arith) (omega arith)
-  stepped_by (Running.SaturationMove run) = one false (saturationPassed (foundIn l) run) refl (omega arith) (omega arith) (omega arith)
+  stepped_by (Running.HueSaturationMoveTo run) = some false (hue_saturation_passed (found_in l) run _) (both-plain _ _ _)
+  stepped_by (Running.HueMove run) = one false (hue_passed (found_in l) run) refl (omega arith) (omega arith) (omega arith)
+  stepped_by (Running.SaturationMove run) = one false (saturation_passed (found_in l) run) refl (omega arith) (omega arith) (omega arith)
   stepped_by (Running.ColorTemperatureMoveTo run) =
-      one false (temperatureToPassed (foundIn l) run (permilleOf (l.clock - run.start) run.task.ms)) refl (omega arith) (omega arith) (omega arith)
-  stepped_by (Running.ColorTemperatureMove run) = one false (temperaturePassed (foundIn l) run) refl (omega arith) (omega arith) (omega arith)
+      one false (temperature_to_passed (found_in l) run (permille_of (l.clock - run.start) run.task.ms)) refl (omega arith) (omega arith) (omega arith)
+  stepped_by (Running.ColorTemperatureMove run) = one false (temperature_passed (found_in l) run) refl (omega arith) (omega arith) (omega arith)
   stepped_by (Running.ColorLoop direction hue seconds start) =
-      one false (loopPassed (foundIn l) (loopRun direction hue seconds start)) refl (omega arith) (omega arith) (omega arith)
+      one false (loop_passed (found_in l) (loop_run direction hue seconds start)) refl (omega arith) (omega arith) (omega arith)
 
 module _ (l : Lamp) where
   -- with the full time in front, 14
-  few : (full : Bool) (p : Passed) → Plain p → length (only full RemainingTime ++ passReported p l.looping.active) ≤ 14
+  few : (full : Bool) (p : Passed) → Plain p → length (only full RemainingTime ++ pass_reported p l.looping.active) ≤ 14
   few full p plain =
       rw length-append
       (omega (arith, only_one full RemainingTime, pass-few p l.looping.active, ap (λ b. length (only b EnhancedCurrentHue)) plain.unenhanced))
 
-  low : (full : Bool) (p : Passed) → Plain p → Below 17 (only full RemainingTime ++ passReported p l.looping.active)
+  low : (full : Bool) (p : Passed) → Plain p → Below 17 (only full RemainingTime ++ pass_reported p l.looping.active)
   low full p plain =
       below-append (below-only full RemainingTime (omega arith))
       (pass_below 17 (omega arith) p l.looping.active plain.first plain.second plain.device)

@@ -10,85 +10,85 @@ use borrow.Author.Tests.{eqb-true, lt-ltb, le-ltb, le-leb}
 use Rattle.matter.specs.declared.limits.Bounds.{Bounds}
 use Rattle.matter.specs.declared.enums.EnhancedColorModeEnum.{EnhancedColorModeEnum}
 use Rattle.matter.proofs.Laws.{all_of}
-use Rattle.matter.specs.Limits.{clockLimit}
-use Rattle.matter.specs.Rules.{colorModeOf, defaultColorMode}
+use Rattle.matter.specs.Limits.{clock_limit}
+use Rattle.matter.specs.Rules.{color_mode_of, default_color_mode}
 use Rattle.progress.specs.Progress.{clamp}
 use Rattle.progress.proofs.Laws.{clamp-within}
-use Rattle.color.specs.Valid.{modesAgree, colorValid}
-use Rattle.color.specs.Making.{newColor}
-use Rattle.tasks.specs.Valid.{runningValid}
+use Rattle.color.specs.Valid.{modes_agree, color_valid}
+use Rattle.color.specs.Making.{new_color}
+use Rattle.tasks.specs.Valid.{running_valid}
 use Rattle.lamp.specs.declared.Lamp.{Lamp}
 use Rattle.lamp.specs.declared.Made.{Made}
-use Rattle.lamp.specs.Answers.{badClock, firstCause}
-use Rattle.lamp.specs.Valid.{lampValid}
-use Rattle.lamp.specs.Making.{freshLamp, makingCause, making, madeValues, makingValues}
+use Rattle.lamp.specs.Answers.{bad_clock, first_cause}
+use Rattle.lamp.specs.Valid.{lamp_valid}
+use Rattle.lamp.specs.Making.{fresh_lamp, making_cause, making, made_values, making_values}
 
 -- ---- making: 4 exactly above the limit, whatever the bounds; 5 exactly at a good clock with crossed bounds
 
 module _ (bounds : Bounds) (clock : ℕ) where
-  pub making-clock : clockLimit < clock → makingCause bounds clock ≡ 4
+  pub making-clock : clock_limit < clock → making_cause bounds clock ≡ 4
   making-clock h = simp (lt-ltb _ _ h)
 
-  pub making-crossed : clock ≤ clockLimit → bounds.max < bounds.min → makingCause bounds clock ≡ 5
+  pub making-crossed : clock ≤ clock_limit → bounds.max < bounds.min → making_cause bounds clock ≡ 5
   making-crossed h k = simp (le-ltb _ _ h, lt-ltb _ _ k)
 
-  pub making-accepted : clock ≤ clockLimit → bounds.min ≤ bounds.max → makingCause bounds clock ≡ 0
+  pub making-accepted : clock ≤ clock_limit → bounds.min ≤ bounds.max → making_cause bounds clock ≡ 0
   making-accepted h k = simp (le-ltb _ _ h, le-ltb _ _ k)
 
 -- the answer's number is the cause, and its lamp the fresh one exactly where there is none
 values-by : (n : ℕ) (l : Lamp) (t : Bool) → eqb n 0 ≡ t →
-    madeValues (cond t (Made.Lamp l) (Made.Refused n)) ≡ record { number = n; lamp = cond t (some l) none }
+    made_values (cond t (Made.Lamp l) (Made.Refused n)) ≡ record { number = n; lamp = cond t (some l) none }
 values-by n l true e = ap (λ m. record { number = m; lamp = some l }) (sym (eqb-true n 0 e))
 values-by n l false e = refl
 
 pub made-values : (bounds : Bounds) (features options clock : ℕ) →
-    madeValues (making bounds features options clock) ≡ makingValues bounds features options clock
-unfolding making makingValues
+    made_values (making bounds features options clock) ≡ making_values bounds features options clock
+unfolding making making_values
 made-values bounds features options clock =
-    values-by (makingCause bounds clock) (freshLamp bounds features options clock) (eqb (makingCause bounds clock) 0) refl
+    values-by (making_cause bounds clock) (fresh_lamp bounds features options clock) (eqb (making_cause bounds clock) 0) refl
 
 -- ---- a lamp that is made is valid
 
-own-mode : (e : EnhancedColorModeEnum) → modesAgree (colorModeOf e) e ≡ true
+own-mode : (e : EnhancedColorModeEnum) → modes_agree (color_mode_of e) e ≡ true
 own-mode EnhancedColorModeEnum.CurrentHueAndCurrentSaturation = refl
 own-mode EnhancedColorModeEnum.CurrentXAndCurrentY = refl
 own-mode EnhancedColorModeEnum.ColorTemperatureMireds = refl
 own-mode EnhancedColorModeEnum.EnhancedCurrentHueAndCurrentSaturation = refl
 
-module _ (bounds : Bounds) (features options clock : ℕ) (ordered : bounds.min ≤ bounds.max) (timely : clock ≤ clockLimit) where
-  new-color-valid : colorValid (newColor features bounds) bounds clock ≡ true
-  unfolding colorValid
+module _ (bounds : Bounds) (features options clock : ℕ) (ordered : bounds.min ≤ bounds.max) (timely : clock ≤ clock_limit) where
+  new-color-valid : color_valid (new_color features bounds) bounds clock ≡ true
+  unfolding color_valid
   new-color-valid =
       let within : (bounds.min ≤ clamp bounds.min bounds.max (pos 250)) × (clamp bounds.min bounds.max (pos 250) ≤ bounds.max) = clamp-within bounds.min bounds.max (pos 250) ordered in
       all_of _
-      (refl, (le-leb _ _ within.0, (le-leb _ _ within.1, (le-leb _ _ ordered, (own-mode (defaultColorMode features), (le-leb 0 clock (omega arith), (le-leb 0 clock (omega arith), (le-leb 0 clock (omega arith), tt))))))))
+      (refl, (le-leb _ _ within.0, (le-leb _ _ within.1, (le-leb _ _ ordered, (own-mode (default_color_mode features), (le-leb 0 clock (omega arith), (le-leb 0 clock (omega arith), (le-leb 0 clock (omega arith), tt))))))))
 
-  pub fresh-valid : lampValid (freshLamp bounds features options clock) ≡ true
-  unfolding lampValid runningValid
-  fresh-valid = all_of _ (le-leb clock clockLimit timely, (new-color-valid, (refl, tt)))
+  pub fresh-valid : lamp_valid (fresh_lamp bounds features options clock) ≡ true
+  unfolding lamp_valid running_valid
+  fresh-valid = all_of _ (le-leb clock clock_limit timely, (new-color-valid, (refl, tt)))
 
 -- ---- "clock earlier than the lamp's, or above 1,099,511,627,776": the limit itself is good, the number above it is not
 
-pub clock-limit : (l : Lamp) → l.clock ≤ 1099511627776 → (badClock l 1099511627776 ≡ false) × (badClock l 1099511627777 ≡ true)
+pub clock-limit : (l : Lamp) → l.clock ≤ 1099511627776 → (bad_clock l 1099511627776 ≡ false) × (bad_clock l 1099511627777 ≡ true)
 clock-limit l h = (simp (le-ltb _ _ h), simp (le-ltb 1099511627777 l.clock (omega arith)))
 
 -- the lamp's own clock is good, the number below it is not
 pub clock-own : (l : Lamp) (before : ℕ) → l.clock ≤ 1099511627776 → before < l.clock →
-    (badClock l l.clock ≡ false) × (badClock l before ≡ true)
+    (bad_clock l l.clock ≡ false) × (bad_clock l before ≡ true)
 clock-own l before h k =
     (simp (le-ltb l.clock l.clock (omega arith), le-ltb 1099511627776 l.clock h), simp (lt-ltb before l.clock k))
 
 -- ---- 8 exactly invalid, whatever the clock; 4 exactly valid at a bad clock
 
 module _ (l : Lamp) (clock : ℕ) where
-  pub valid-first : lampValid l ≡ false → firstCause l clock ≡ 8
-  unfolding firstCause
+  pub valid-first : lamp_valid l ≡ false → first_cause l clock ≡ 8
+  unfolding first_cause
   valid-first h = simp h
 
-  pub clock-second : lampValid l ≡ true → badClock l clock ≡ true → firstCause l clock ≡ 4
-  unfolding firstCause
+  pub clock-second : lamp_valid l ≡ true → bad_clock l clock ≡ true → first_cause l clock ≡ 4
+  unfolding first_cause
   clock-second h k = simp (h, k)
 
-  pub neither : lampValid l ≡ true → badClock l clock ≡ false → firstCause l clock ≡ 0
-  unfolding firstCause
+  pub neither : lamp_valid l ≡ true → bad_clock l clock ≡ false → first_cause l clock ≡ 0
+  unfolding first_cause
   neither h k = simp (h, k)

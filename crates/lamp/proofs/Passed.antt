@@ -10,27 +10,27 @@ use lib.ListN.{length, length-append}
 use Rattle.notices.specs.Names.{RemainingTime, EnhancedCurrentHue}
 use Rattle.notices.specs.Notices.{only, noted}
 use Rattle.notices.proofs.Laws.{only_one}
-use Rattle.notices.specs.Numerals.{empty, inFront, placed}
+use Rattle.notices.specs.Numerals.{empty, in_front, placed}
 use Rattle.notices.proofs.Numerals.{Below, Bytes, below-append, below-only, in-front-append, placed-noted}
-use Rattle.color.specs.Setters.{changeReported}
+use Rattle.color.specs.Setters.{change_reported}
 use Rattle.color.proofs.Kept.{change-few}
 use Rattle.color.proofs.Laws.{change-below}
 use Rattle.lamp.specs.declared.passes.Passed.{Passed}
 use Rattle.lamp.specs.declared.Lamp.{Lamp}
-use Rattle.lamp.specs.Calls.{fullWritten}
-use Rattle.lamp.specs.Passes.{changed, reportedBehind, passReported}
+use Rattle.lamp.specs.Calls.{full_written}
+use Rattle.lamp.specs.Passes.{changed, reported_behind, pass_reported}
 
 -- the lamp as the first pass of a move-to finds it: with the full time written
-abbrev pub withFullTime : Lamp → ℕ → Lamp
-withFullTime l ms = changed l l.color l.running (fullWritten l ms).remaining
+abbrev pub with_full_time : Lamp → ℕ → Lamp
+with_full_time l ms = changed l l.color l.running (full_written l ms).remaining
 
 -- its parts, one in front of the other
 pub behind-in-front : (second device time : List ℕ) →
-    inFront second (inFront device (inFront time empty)) ≡ inFront (second ++ device ++ time) empty
+    in_front second (in_front device (in_front time empty)) ≡ in_front (second ++ device ++ time) empty
 behind-in-front second device time = rw (in-front-append second device, in-front-append (second ++ device) time)
 
 -- a pass reports at most 13 notices, and one more where its second change is of an enhanced hue
-pub pass-few : (p : Passed) (active : Bool) → length (passReported p active) ≤ 13 + length (only p.second.enhanced EnhancedCurrentHue)
+pub pass-few : (p : Passed) (active : Bool) → length (pass_reported p active) ≤ 13 + length (only p.second.enhanced EnhancedCurrentHue)
 pass-few p active =
     simp length-append
     (omega
@@ -38,7 +38,7 @@ pass-few p active =
 
 -- which are below every bound that is above 14, its attributes and its device
 pub pass_below : (bound : ℕ) → 14 < bound → (p : Passed) (active : Bool) → p.first.attribute < bound → p.second.attribute < bound
-    → p.device < bound → Below bound (passReported p active)
+    → p.device < bound → Below bound (pass_reported p active)
 pass_below bound high p active h k d =
     below-append (change-below bound high p.first active h)
     (below-append
@@ -46,13 +46,13 @@ pass_below bound high p active h k d =
     (below-only p.time RemainingTime (omega arith)))
 
 -- the list of a start or a step, with the full time in front where it is reported
-pub left-placed : (p : Passed) (active : Bool) → Bytes (passReported p active) → (full : Bool) →
-    placed (inFront (only full RemainingTime) (inFront (changeReported p.first active) (inFront (reportedBehind p active) empty)))
-    ≡ noted (only full RemainingTime ++ passReported p active)
+pub left-placed : (p : Passed) (active : Bool) → Bytes (pass_reported p active) → (full : Bool) →
+    placed (in_front (only full RemainingTime) (in_front (change_reported p.first active) (in_front (reported_behind p active) empty)))
+    ≡ noted (only full RemainingTime ++ pass_reported p active)
 left-placed p active b full =
-    ap (λ m. placed (inFront (only full RemainingTime) m)) (in-front-append (changeReported p.first active) (reportedBehind p active) empty)
-    ∙ ap placed (in-front-append (only full RemainingTime) (passReported p active) empty)
-    ∙ placed-noted (only full RemainingTime ++ passReported p active)
+    ap (λ m. placed (in_front (only full RemainingTime) m)) (in-front-append (change_reported p.first active) (reported_behind p active) empty)
+    ∙ ap placed (in-front-append (only full RemainingTime) (pass_reported p active) empty)
+    ∙ placed-noted (only full RemainingTime ++ pass_reported p active)
     (below-append (below-only full RemainingTime (omega arith)) b)
     (rw length-append
     (omega (arith, only_one full RemainingTime, pass-few p active, only_one p.second.enhanced EnhancedCurrentHue)))

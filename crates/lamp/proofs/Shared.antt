@@ -12,7 +12,7 @@ use Rattle.matter.specs.declared.enums.MoveModeEnum.{MoveModeEnum}
 use Rattle.matter.proofs.Laws.{and_left, and_right}
 use Rattle.progress.specs.Progress.{limited}
 use Rattle.progress.proofs.Laws.{limited-same}
-use Rattle.tasks.specs.Valid.{small, rateValid}
+use Rattle.tasks.specs.Valid.{small, rate_valid}
 use Rattle.matter.specs.Rules.{signed}
 
 -- ---- integers within ±65,535
@@ -28,7 +28,7 @@ small_same z h =
     let high : le_z z (pos 65535) ≡ true = and_right (le_z (neg_ℤ (pos 65535)) z) (le_z z (pos 65535)) h in
     limited-same z (small_size z low high)
 
-pub rate-same : (z : ℤ) → rateValid z ≡ true → limited z ≡ z
+pub rate-same : (z : ℤ) → rate_valid z ≡ true → limited z ≡ z
 rate-same z h = small_same z (and_right (not (eqb (nat_abs z) 0)) (small z) h)
 
 signed-size : (mode : MoveModeEnum) (rate : ℕ) → nat_abs (signed mode rate) ≤ rate

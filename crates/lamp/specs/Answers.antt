@@ -1,16 +1,16 @@
 -- What the answers of all calls share: document 01, "Why a call is turned away".
 use Rattle.std.specs.Prelude.{ℕ, Bool, not, cond, ◌||◌, [], ltb}
-use Rattle.matter.specs.Causes.{accepted, clockRefused, invalidLamp}
-use Rattle.matter.specs.Limits.{clockLimit}
+use Rattle.matter.specs.Causes.{accepted, clock_refused, invalid_lamp}
+use Rattle.matter.specs.Limits.{clock_limit}
 use Rattle.notices.specs.Notices.{noted}
 use Rattle.tasks.specs.declared.GivenTask.{GivenTask}
 use Rattle.lamp.specs.declared.Lamp.{Lamp}
 use Rattle.lamp.specs.declared.Answer.{Answer}
-use Rattle.lamp.specs.Valid.{lampValid}
+use Rattle.lamp.specs.Valid.{lamp_valid}
 
 -- the lamp at another clock
-abbrev pub atClock : Lamp → ℕ → Lamp
-atClock l clock =
+abbrev pub at_clock : Lamp → ℕ → Lamp
+at_clock l clock =
     record {
       clock = clock;
       bounds = l.bounds;
@@ -22,12 +22,12 @@ atClock l clock =
     }
 
 -- "clock earlier than the lamp's, or above 1,099,511,627,776"
-abbrev pub badClock : Lamp → ℕ → Bool
-badClock l clock = ltb clock l.clock || ltb clockLimit clock
+abbrev pub bad_clock : Lamp → ℕ → Bool
+bad_clock l clock = ltb clock l.clock || ltb clock_limit clock
 
 -- 8, then 4: what a halt checks, and a command and a start before all else
-unfoldable pub firstCause : Lamp → ℕ → ℕ
-firstCause l clock = cond (not (lampValid l)) invalidLamp (cond (badClock l clock) clockRefused accepted)
+unfoldable pub first_cause : Lamp → ℕ → ℕ
+first_cause l clock = cond (not (lamp_valid l)) invalid_lamp (cond (bad_clock l clock) clock_refused accepted)
 
 -- "the number", the lamp as it was, "list empty"; "A refusal has no task and wait 0"
 abbrev pub refusal : Lamp → ℕ → Answer

@@ -1,11 +1,11 @@
 -- Starts, steps and halts: document 01, leaf 6, halt of "Added by design", and their rows of the table of causes.
 use Rattle.std.specs.Prelude.{ℕ, ◌-◌, Bool, true, not, cond, ◌&&◌, ◌||◌, leb, eqb, pos, nat_abs}
-use Rattle.matter.specs.Causes.{accepted, clockRefused, invalidTask, stepWhileIdle, invalidLamp}
+use Rattle.matter.specs.Causes.{accepted, clock_refused, invalid_task, step_while_idle, invalid_lamp}
 use Rattle.matter.specs.Bounds.{lower, upper}
 use Rattle.notices.specs.Notices.{noted}
-use Rattle.progress.specs.Progress.{permilleOf, clamp}
+use Rattle.progress.specs.Progress.{permille_of, clamp}
 use Rattle.remaining_time.specs.declared.Written.{Written}
-use Rattle.remaining_time.specs.RemainingTime.{writtenQuietly}
+use Rattle.remaining_time.specs.RemainingTime.{written_quietly}
 use Rattle.tasks.specs.declared.GivenTask.{GivenTask}
 use Rattle.tasks.specs.declared.HueDelta.{HueDelta}
 use Rattle.tasks.specs.declared.TargetSaturation.{TargetSaturation}
@@ -16,76 +16,76 @@ use Rattle.tasks.specs.declared.HueSaturationRun.{HueSaturationRun}
 use Rattle.tasks.specs.declared.ColorTemperatureToRun.{ColorTemperatureToRun}
 use Rattle.tasks.specs.declared.Task.{Task}
 use Rattle.tasks.specs.declared.Running.{Running}
-use Rattle.tasks.specs.Valid.{taskValid}
-use Rattle.tasks.specs.Runs.{runs, loopRun}
+use Rattle.tasks.specs.Valid.{task_valid}
+use Rattle.tasks.specs.Runs.{runs, loop_run}
 use Rattle.lamp.specs.declared.Lamp.{Lamp}
 use Rattle.lamp.specs.declared.Answer.{Answer}
 use Rattle.lamp.specs.declared.passes.Left.{Left}
-use Rattle.lamp.specs.Answers.{atClock, badClock, firstCause, refusal}
-use Rattle.lamp.specs.Valid.{lampValid}
-use Rattle.lamp.specs.Passes.{Effect, foundWith, leftBy, leftEffect, idled, hueSaturationPassed}
-use Rattle.lamp.specs.Passes.{hueSaturationPass, temperatureToPassed, temperatureToPass, huePass, saturationPass}
-use Rattle.lamp.specs.Passes.{temperaturePass, loopPass}
+use Rattle.lamp.specs.Answers.{at_clock, bad_clock, first_cause, refusal}
+use Rattle.lamp.specs.Valid.{lamp_valid}
+use Rattle.lamp.specs.Passes.{Effect, found_with, left_by, left_effect, idled, hue_saturation_passed}
+use Rattle.lamp.specs.Passes.{hue_saturation_pass, temperature_to_passed, temperature_to_pass, hue_pass, saturation_pass}
+use Rattle.lamp.specs.Passes.{temperature_pass, loop_pass}
 
 -- ---- starts: the lamp is at the call's clock already
 
 -- "The full time is written to the remaining time first", which is a transition's start
-abbrev pub fullWritten : Lamp → ℕ → Written
-fullWritten l ms = writtenQuietly l.remaining ms true
+abbrev pub full_written : Lamp → ℕ → Written
+full_written l ms = written_quietly l.remaining ms true
 
 -- no way at all: that of the hue is 0 or none is moved, and the saturation is there or none is moved
-abbrev pub noHueDelta : HueDelta → Bool
-noHueDelta HueDelta.Keep = true
-noHueDelta (HueDelta.By way) = eqb (nat_abs way) 0
+abbrev pub no_hue_delta : HueDelta → Bool
+no_hue_delta HueDelta.Keep = true
+no_hue_delta (HueDelta.By way) = eqb (nat_abs way) 0
 
-abbrev pub noSaturationDelta : TargetSaturation → ℕ → Bool
-noSaturationDelta TargetSaturation.Keep start = true
-noSaturationDelta (TargetSaturation.To target) start = eqb target start
+abbrev pub no_saturation_delta : TargetSaturation → ℕ → Bool
+no_saturation_delta TargetSaturation.Keep start = true
+no_saturation_delta (TargetSaturation.To target) start = eqb target start
 
 -- "Time 0, no way in hue and saturation together, or no way in mireds: the end at once", which is permille 1000
-abbrev pub startPermille : ℕ → Bool → ℕ
-startPermille ms noDelta = cond (eqb ms 0 || noDelta) 1000 0
+abbrev pub start_permille : ℕ → Bool → ℕ
+start_permille ms no_delta = cond (eqb ms 0 || no_delta) 1000 0
 
 -- what a start of a move-to leaves: the full time is written, then comes the first pass of the record that it saves
-unfoldable pub hueSaturationStart : Lamp → HueSaturationMoveTo → Left
-hueSaturationStart l task =
-    let w : Written = fullWritten l task.ms in
+unfoldable pub hue_saturation_start : Lamp → HueSaturationMoveTo → Left
+hue_saturation_start l task =
+    let w : Written = full_written l task.ms in
     let run : HueSaturationRun =
     record { start = l.clock; hue = l.color.hue; saturation = l.color.saturation; task = task }
     in
-    let noDelta : Bool = noHueDelta task.delta && noSaturationDelta task.saturation l.color.saturation in
-    leftBy w.reported (hueSaturationPassed (foundWith l w.remaining) run (startPermille task.ms noDelta))
+    let no_delta : Bool = no_hue_delta task.delta && no_saturation_delta task.saturation l.color.saturation in
+    left_by w.reported (hue_saturation_passed (found_with l w.remaining) run (start_permille task.ms no_delta))
     (Running.HueSaturationMoveTo run)
 
 -- the target is clamped to the bounds
-unfoldable pub temperatureToStart : Lamp → ColorTemperatureMoveTo → Left
-temperatureToStart l task =
-    let w : Written = fullWritten l task.ms in
+unfoldable pub temperature_to_start : Lamp → ColorTemperatureMoveTo → Left
+temperature_to_start l task =
+    let w : Written = full_written l task.ms in
     let target : ℕ = clamp l.bounds.min l.bounds.max (pos task.target) in
     let run : ColorTemperatureToRun =
     record { start = l.clock; mireds = l.color.mireds; task = record { target = target; ms = task.ms } }
     in
-    leftBy w.reported
-    (temperatureToPassed (foundWith l w.remaining) run (startPermille task.ms (eqb target l.color.mireds)))
+    left_by w.reported
+    (temperature_to_passed (found_with l w.remaining) run (start_permille task.ms (eqb target l.color.mireds)))
     (Running.ColorTemperatureMoveTo run)
 
 -- "A temperature move with lo ≥ hi is done at once: the lamp is idle, and nothing else but the clock changes"
-unfoldable pub temperatureStart : Lamp → ColorTemperatureMove → Effect
-temperatureStart l task =
+unfoldable pub temperature_start : Lamp → ColorTemperatureMove → Effect
+temperature_start l task =
     let lo : ℕ = lower l.bounds task.min in
     let hi : ℕ = upper l.bounds task.max in
     cond (leb hi lo) (idled l)
-    (temperaturePass l (record { start = l.clock; mireds = l.color.mireds; rate = task.rate; lo = lo; hi = hi }))
+    (temperature_pass l (record { start = l.clock; mireds = l.color.mireds; rate = task.rate; lo = lo; hi = hi }))
 
 -- "A start includes its first pass, at elapsed 0". The Stop task is refused below, and so is a step of an idle lamp.
 unfoldable pub started : Lamp → Task → Effect
-started l (Task.HueSaturationMoveTo task) = leftEffect l (hueSaturationStart l task)
-started l (Task.HueMove task) = huePass l (record { start = l.clock; hue = l.color.hue; task = task })
+started l (Task.HueSaturationMoveTo task) = left_effect l (hue_saturation_start l task)
+started l (Task.HueMove task) = hue_pass l (record { start = l.clock; hue = l.color.hue; task = task })
 started l (Task.SaturationMove task) =
-    saturationPass l (record { start = l.clock; saturation = l.color.saturation; task = task })
-started l (Task.ColorTemperatureMoveTo task) = leftEffect l (temperatureToStart l task)
-started l (Task.ColorTemperatureMove task) = temperatureStart l task
-started l (Task.ColorLoop task) = loopPass l (record { start = l.clock; hue = l.color.hue; task = task })
+    saturation_pass l (record { start = l.clock; saturation = l.color.saturation; task = task })
+started l (Task.ColorTemperatureMoveTo task) = left_effect l (temperature_to_start l task)
+started l (Task.ColorTemperatureMove task) = temperature_start l task
+started l (Task.ColorLoop task) = loop_pass l (record { start = l.clock; hue = l.color.hue; task = task })
 started l Task.Stop = idled l
 
 -- ---- steps: a pass of what runs
@@ -93,13 +93,13 @@ started l Task.Stop = idled l
 unfoldable pub stepped : Lamp → Running → Effect
 stepped l Running.Idle = idled l
 stepped l (Running.HueSaturationMoveTo run) =
-    hueSaturationPass l run (permilleOf (l.clock - run.start) run.task.ms)
-stepped l (Running.HueMove run) = huePass l run
-stepped l (Running.SaturationMove run) = saturationPass l run
+    hue_saturation_pass l run (permille_of (l.clock - run.start) run.task.ms)
+stepped l (Running.HueMove run) = hue_pass l run
+stepped l (Running.SaturationMove run) = saturation_pass l run
 stepped l (Running.ColorTemperatureMoveTo run) =
-    temperatureToPass l run (permilleOf (l.clock - run.start) run.task.ms)
-stepped l (Running.ColorTemperatureMove run) = temperaturePass l run
-stepped l (Running.ColorLoop direction hue seconds start) = loopPass l (loopRun direction hue seconds start)
+    temperature_to_pass l run (permille_of (l.clock - run.start) run.task.ms)
+stepped l (Running.ColorTemperatureMove run) = temperature_pass l run
+stepped l (Running.ColorLoop direction hue seconds start) = loop_pass l (loop_run direction hue seconds start)
 
 -- ---- the causes, in the table's order, and the answers
 
@@ -119,23 +119,23 @@ abbrev pub choose : ℕ → Lamp → Answer → Answer
 choose cause l answer = cond (eqb cause accepted) answer (refusal l cause)
 
 -- "starts 8, 4, 6"
-abbrev pub startCause : Lamp → Task → ℕ → ℕ
-startCause l task clock =
-    cond (eqb (firstCause l clock) accepted) (cond (taskValid task) accepted invalidTask) (firstCause l clock)
+abbrev pub start_cause : Lamp → Task → ℕ → ℕ
+start_cause l task clock =
+    cond (eqb (first_cause l clock) accepted) (cond (task_valid task) accepted invalid_task) (first_cause l clock)
 
-unfoldable pub startAnswer : Lamp → Task → ℕ → Answer
-startAnswer l task clock = choose (startCause l task clock) l (done (started (atClock l clock) task))
+unfoldable pub start_answer : Lamp → Task → ℕ → Answer
+start_answer l task clock = choose (start_cause l task clock) l (done (started (at_clock l clock) task))
 
 -- "steps 8, 7, 4"
-abbrev pub stepCause : Lamp → ℕ → ℕ
-stepCause l clock =
-    cond (not (lampValid l)) invalidLamp
-    (cond (not (runs l.running)) stepWhileIdle
-    (cond (badClock l clock) clockRefused accepted))
+abbrev pub step_cause : Lamp → ℕ → ℕ
+step_cause l clock =
+    cond (not (lamp_valid l)) invalid_lamp
+    (cond (not (runs l.running)) step_while_idle
+    (cond (bad_clock l clock) clock_refused accepted))
 
-unfoldable pub stepAnswer : Lamp → ℕ → Answer
-stepAnswer l clock = choose (stepCause l clock) l (done (stepped (atClock l clock) l.running))
+unfoldable pub step_answer : Lamp → ℕ → Answer
+step_answer l clock = choose (step_cause l clock) l (done (stepped (at_clock l clock) l.running))
 
 -- "halt, which only makes the lamp idle"; "halt 8, 4"
-unfoldable pub haltAnswer : Lamp → ℕ → Answer
-haltAnswer l clock = choose (firstCause l clock) l (done (idled (atClock l clock)))
+unfoldable pub halt_answer : Lamp → ℕ → Answer
+halt_answer l clock = choose (first_cause l clock) l (done (idled (at_clock l clock)))

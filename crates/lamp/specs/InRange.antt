@@ -11,18 +11,18 @@ pub record InRangeLamp (l : Lamp) : Type 0 where
   pub hue : Short l.color.hue
   pub saturation : Byte l.color.saturation
   pub mireds : Short l.color.mireds
-  pub hueStamp : Clock l.color.stamps.hue
-  pub saturationStamp : Clock l.color.stamps.saturation
-  pub miredsStamp : Clock l.color.stamps.mireds
-  pub loopTime : Short l.looping.time
-  pub loopStart : Short l.looping.start
-  pub loopStored : Short l.looping.stored
+  pub hue_stamp : Clock l.color.stamps.hue
+  pub saturation_stamp : Clock l.color.stamps.saturation
+  pub mireds_stamp : Clock l.color.stamps.mireds
+  pub loop_time : Short l.looping.time
+  pub loop_start : Short l.looping.start
+  pub loop_stored : Short l.looping.stored
   pub remaining : Short l.remaining.tenths
   pub options : Byte l.options
   pub running : InRangeRunning l.running
 
 abbrev pub InRangeCall : Call → Type 0
-InRangeCall (Call.Command r onOff clock) = InRangeRequest r × Clock clock
+InRangeCall (Call.Command r on_off clock) = InRangeRequest r × Clock clock
 InRangeCall (Call.Start task clock) = InRangeTask task × Clock clock
 InRangeCall (Call.Step clock) = Clock clock
 InRangeCall (Call.Halt clock) = Clock clock

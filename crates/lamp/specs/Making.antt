@@ -3,21 +3,21 @@ use Rattle.std.specs.Prelude.{ℕ, false, cond, ltb, eqb}
 use Rattle.std.proofs.Math.Option.{Option, some, none}
 use Rattle.matter.specs.declared.limits.Bounds.{Bounds}
 use Rattle.matter.specs.declared.enums.ColorLoopDirectionEnum.{ColorLoopDirectionEnum}
-use Rattle.matter.specs.Causes.{accepted, clockRefused, crossedBounds}
-use Rattle.matter.specs.Limits.{clockLimit}
-use Rattle.color.specs.Making.{newColor}
+use Rattle.matter.specs.Causes.{accepted, clock_refused, crossed_bounds}
+use Rattle.matter.specs.Limits.{clock_limit}
+use Rattle.color.specs.Making.{new_color}
 use Rattle.tasks.specs.declared.Running.{Running}
 use Rattle.lamp.specs.declared.Lamp.{Lamp}
 use Rattle.lamp.specs.declared.Made.{Made}
 
 -- "loop time 25, start hue 8,960. The loop is inactive and upward, the stored loop hue, the remaining time [..] are 0,
 -- and the lamp is idle"
-abbrev pub freshLamp : Bounds → ℕ → ℕ → ℕ → Lamp
-freshLamp bounds features options clock =
+abbrev pub fresh_lamp : Bounds → ℕ → ℕ → ℕ → Lamp
+fresh_lamp bounds features options clock =
     record {
       clock = clock;
       bounds = bounds;
-      color = newColor features bounds;
+      color = new_color features bounds;
       looping =
           record { active = false; direction = ColorLoopDirectionEnum.Increment; time = 25; start = 8960; stored = 0 };
       remaining = record { tenths = 0 };
@@ -26,14 +26,14 @@ freshLamp bounds features options clock =
     }
 
 -- why a making is refused: "making 4, 5, both with no lamp"
-abbrev pub makingCause : Bounds → ℕ → ℕ
-makingCause bounds clock =
-    cond (ltb clockLimit clock) clockRefused (cond (ltb bounds.max bounds.min) crossedBounds accepted)
+abbrev pub making_cause : Bounds → ℕ → ℕ
+making_cause bounds clock =
+    cond (ltb clock_limit clock) clock_refused (cond (ltb bounds.max bounds.min) crossed_bounds accepted)
 
 unfoldable pub making : Bounds → ℕ → ℕ → ℕ → Made
 making bounds features options clock =
-    cond (eqb (makingCause bounds clock) accepted) (Made.Lamp (freshLamp bounds features options clock))
-    (Made.Refused (makingCause bounds clock))
+    cond (eqb (making_cause bounds clock) accepted) (Made.Lamp (fresh_lamp bounds features options clock))
+    (Made.Refused (making_cause bounds clock))
 
 -- document 01's number and lamp for each case of the answer: the number 0 and the lamp, or the refusal's number and no
 -- lamp
@@ -41,12 +41,12 @@ pub record MadeValues : Type 0 where
   pub number : ℕ
   pub lamp : Option Lamp
 
-abbrev pub madeValues : Made → MadeValues
-madeValues (Made.Lamp l) = record { number = accepted; lamp = some l }
-madeValues (Made.Refused number) = record { number = number; lamp = none }
+abbrev pub made_values : Made → MadeValues
+made_values (Made.Lamp l) = record { number = accepted; lamp = some l }
+made_values (Made.Refused number) = record { number = number; lamp = none }
 
 -- and those that a making must have
-unfoldable pub makingValues : Bounds → ℕ → ℕ → ℕ → MadeValues
-makingValues bounds features options clock =
-    let cause : ℕ = makingCause bounds clock in
-    record { number = cause; lamp = cond (eqb cause accepted) (some (freshLamp bounds features options clock)) none }
+unfoldable pub making_values : Bounds → ℕ → ℕ → ℕ → MadeValues
+making_values bounds features options clock =
+    let cause : ℕ = making_cause bounds clock in
+    record { number = cause; lamp = cond (eqb cause accepted) (some (fresh_lamp bounds features options clock)) none }

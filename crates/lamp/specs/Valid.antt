@@ -1,18 +1,18 @@
 -- When a lamp is valid: document 01, "Lamp out of form".
 use Rattle.std.specs.Prelude.{Bool, [], ◌∷◌, leb}
-use Rattle.matter.specs.All.{allTrue}
-use Rattle.matter.specs.Limits.{clockLimit}
-use Rattle.color.specs.Valid.{colorValid}
-use Rattle.tasks.specs.Valid.{runningValid}
+use Rattle.matter.specs.All.{all_true}
+use Rattle.matter.specs.Limits.{clock_limit}
+use Rattle.color.specs.Valid.{color_valid}
+use Rattle.tasks.specs.Valid.{running_valid}
 use Rattle.lamp.specs.declared.Lamp.{Lamp}
 
-unfoldable pub lampValid : Lamp → Bool
-lampValid l =
-    allTrue
+unfoldable pub lamp_valid : Lamp → Bool
+lamp_valid l =
+    all_true
     ( -- "clock above the limit"
-    leb l.clock clockLimit
+    leb l.clock clock_limit
     -- saturation, mireds, bounds, modes, notice stamps
-    ∷ colorValid l.color l.bounds l.clock
+    ∷ color_valid l.color l.bounds l.clock
     -- the running record
-    ∷ runningValid l.running l.bounds l.clock
+    ∷ running_valid l.running l.bounds l.clock
     ∷ [])

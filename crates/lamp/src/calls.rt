@@ -1,15 +1,15 @@
 // Starts, steps and halts: document 01, leaf 6, and halt. Each takes the lamp and hands it back inside its answer.
 // Carried over from project-chip/rs-matter, commit 43f61585a4 (Apache-2.0, see NOTICE), and changed.
 ghost use Rattle.std.specs.Prelude.{◌≡◌, true};
-ghost use Rattle.notices.specs.Numerals.{empty, inFront};
+ghost use Rattle.notices.specs.Numerals.{empty, in_front};
 ghost use Rattle.notices.proofs.Numerals.{Bytes};
-ghost use Rattle.color.specs.Setters.{changeReported};
-ghost use Rattle.tasks.specs.Valid.{moveToValid, rateValid, taskValid, runningValid};
+ghost use Rattle.color.specs.Setters.{change_reported};
+ghost use Rattle.tasks.specs.Valid.{move_to_valid, rate_valid, task_valid, running_valid};
 ghost use Rattle.matter.specs.Bounds.{lower, upper};
-ghost use Rattle.lamp.specs.Calls.{noHueDelta, noSaturationDelta, startPermille, hueSaturationStart, temperatureToStart, temperatureStart, started, stepped, done, startAnswer, stepAnswer, haltAnswer};
-ghost use Rattle.tasks.specs.Runs.{loopRunning};
-ghost use Rattle.lamp.specs.Answers.{atClock};
-ghost use Rattle.lamp.specs.Passes.{foundWith, reportedBehind, passReported, leftEffect};
+ghost use Rattle.lamp.specs.Calls.{no_hue_delta, no_saturation_delta, start_permille, hue_saturation_start, temperature_to_start, temperature_start, started, stepped, done, start_answer, step_answer, halt_answer};
+ghost use Rattle.tasks.specs.Runs.{loop_running};
+ghost use Rattle.lamp.specs.Answers.{at_clock};
+ghost use Rattle.lamp.specs.Passes.{found_with, reported_behind, pass_reported, left_effect};
 
 use crate::passes::{Found, Left, Passed, left_by};
 use crate::{Answer, Lamp};
@@ -26,7 +26,7 @@ use tasks::{
 };
 
 fn no_hue_delta(delta: HueDelta) -> bool
-    ensures { result ≡ noHueDelta delta }
+    ensures { result ≡ no_hue_delta delta }
 {
     match delta {
         HueDelta::Keep => true,
@@ -35,7 +35,7 @@ fn no_hue_delta(delta: HueDelta) -> bool
 }
 
 fn no_saturation_delta(target: TargetSaturation, start: u8) -> bool
-    ensures { result ≡ noSaturationDelta target start }
+    ensures { result ≡ no_saturation_delta target start }
 {
     match target {
         TargetSaturation::Keep => true,
@@ -45,14 +45,14 @@ fn no_saturation_delta(target: TargetSaturation, start: u8) -> bool
 
 // Permille at a start: the end at once where there is no time or no way.
 fn start_permille(ms: u32, no_delta: bool) -> u16
-    ensures { result ≡ startPermille ms no_delta }
+    ensures { result ≡ start_permille ms no_delta }
 {
     if (ms == 0) | no_delta { 1000 } else { 0 }
 }
 
 // The colour loop's record as what runs.
 fn loop_running(run: ColorLoopRun) -> Running
-    ensures { result ≡ loopRunning run }
+    ensures { result ≡ loop_running run }
 {
     let task = run.task;
     let direction = task.direction;
@@ -67,7 +67,7 @@ fn loop_running(run: ColorLoopRun) -> Running
 impl Lamp {
     // What a pass at this clock is given of the lamp, with this remaining time.
     fn found(self, remaining: RemainingTime, clock: u64) -> Found
-        ensures { result ≡ foundWith (atClock self clock) remaining }
+        ensures { result ≡ found_with (at_clock self clock) remaining }
     {
         let bounds = self.bounds;
         let color = self.color;
@@ -81,8 +81,8 @@ impl Lamp {
 
     // The two move-to starts write the full time first; then comes the first pass.
     fn start_hue_saturation(self, task: HueSaturationMoveTo, clock: u64) -> Left
-        requires { moveToValid task ≡ true }
-        ensures { result ≡ hueSaturationStart (atClock self clock) task }
+        requires { move_to_valid task ≡ true }
+        ensures { result ≡ hue_saturation_start (at_clock self clock) task }
     {
         let remaining = self.remaining;
         let w = remaining.write_remaining_time_quietly(task.ms as u64, true);
@@ -104,7 +104,7 @@ impl Lamp {
     }
 
     fn start_color_temperature_to(self, task: ColorTemperatureMoveTo, clock: u64) -> Left
-        ensures { result ≡ temperatureToStart (atClock self clock) task }
+        ensures { result ≡ temperature_to_start (at_clock self clock) task }
     {
         let remaining = self.remaining;
         let w = remaining.write_remaining_time_quietly(task.ms as u64, true);
@@ -126,8 +126,8 @@ impl Lamp {
     }
 
     fn start_color_temperature(self, task: ColorTemperatureMove, clock: u64) -> Left
-        requires { rateValid task.rate ≡ true }
-        ensures { leftEffect (atClock self clock) result ≡ temperatureStart (atClock self clock) task }
+        requires { rate_valid task.rate ≡ true }
+        ensures { left_effect (at_clock self clock) result ≡ temperature_start (at_clock self clock) task }
     {
         let bounds = self.bounds;
         let remaining = self.remaining;
@@ -150,8 +150,8 @@ impl Lamp {
 
     // A start of a valid task: its record, and the first pass.
     fn begin(self, task: Task, clock: u64) -> Left
-        requires { taskValid task ≡ true }
-        ensures { leftEffect (atClock self clock) result ≡ started (atClock self clock) task }
+        requires { task_valid task ≡ true }
+        ensures { left_effect (at_clock self clock) result ≡ started (at_clock self clock) task }
     {
         let remaining = self.remaining;
         let found = self.found(remaining, clock);
@@ -190,8 +190,8 @@ impl Lamp {
 
     // A pass of what runs.
     fn pass(self, running: Running, clock: u64) -> Left
-        requires { runningValid running self.bounds clock ≡ true }
-        ensures { leftEffect (atClock self clock) result ≡ stepped (atClock self clock) running }
+        requires { running_valid running self.bounds clock ≡ true }
+        ensures { left_effect (at_clock self clock) result ≡ stepped (at_clock self clock) running }
     {
         let remaining = self.remaining;
         let found = self.found(remaining, clock);
@@ -243,9 +243,9 @@ impl Lamp {
 
     // The answer of an accepted start or step: the lamp as it is left, and what is reported.
     fn accepted(self, left: Left, list: Numeral, clock: u64) -> Answer
-        requires list_value { list ≡ inFront (changeReported left.passed.first self.looping.active) (inFront (reportedBehind left.passed self.looping.active) empty) }
-        requires bytes { Bytes (passReported left.passed self.looping.active) }
-        ensures { result ≡ done (leftEffect (atClock self clock) left) }
+        requires list_value { list ≡ in_front (change_reported left.passed.first self.looping.active) (in_front (reported_behind left.passed self.looping.active) empty) }
+        requires bytes { Bytes (pass_reported left.passed self.looping.active) }
+        ensures { result ≡ done (left_effect (at_clock self clock) left) }
     {
         let passed = left.passed;
         let running = left.running;
@@ -268,7 +268,7 @@ impl Lamp {
 
     // Starts a task, in place of what runs.
     pub fn start(self, task: Task, clock: u64) -> Answer
-        ensures { result ≡ startAnswer self task clock }
+        ensures { result ≡ start_answer self task clock }
     {
         let cause = self.first_cause(clock);
         if cause != ACCEPTED {
@@ -287,7 +287,7 @@ impl Lamp {
 
     // One step of what runs.
     pub fn step(self, clock: u64) -> Answer
-        ensures { result ≡ stepAnswer self clock }
+        ensures { result ≡ step_answer self clock }
     {
         if !self.is_valid() {
             return self.refused(INVALID_LAMP);
@@ -309,7 +309,7 @@ impl Lamp {
 
     // Makes the lamp idle, and nothing else.
     pub fn halt(self, clock: u64) -> Answer
-        ensures { result ≡ haltAnswer self clock }
+        ensures { result ≡ halt_answer self clock }
     {
         let number = self.first_cause(clock);
         if number != ACCEPTED {

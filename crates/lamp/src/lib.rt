@@ -5,9 +5,9 @@ mod calls;
 mod passes;
 
 ghost use Rattle.std.specs.Prelude.{◌≡◌};
-ghost use Rattle.lamp.specs.Valid.{lampValid};
-ghost use Rattle.lamp.specs.Making.{freshLamp, making, madeValues, makingValues};
-ghost use Rattle.lamp.specs.Answers.{atClock, firstCause, refusal};
+ghost use Rattle.lamp.specs.Valid.{lamp_valid};
+ghost use Rattle.lamp.specs.Making.{fresh_lamp, making, made_values, making_values};
+ghost use Rattle.lamp.specs.Answers.{at_clock, first_cause, refusal};
 
 use color::Color;
 use matter::{
@@ -19,7 +19,7 @@ use remaining_time::RemainingTime;
 use tasks::{GivenTask, Running, Task};
 
 // ColorLoopActive, ColorLoopDirection, ColorLoopTime, ColorLoopStartEnhancedHue, ColorLoopStoredEnhancedHue.
-#[derive(Drop)]
+#[derive(Clone, Copy)]
 pub struct LoopSettings {
     pub active: bool,
     pub direction: ColorLoopDirectionEnum,
@@ -29,7 +29,7 @@ pub struct LoopSettings {
 }
 
 // The clock is the last accepted call's; `options` is the lamp's own option byte. The order of the fields leaves no gap.
-#[derive(Drop)]
+#[derive(Clone, Copy)]
 pub struct Lamp {
     pub clock: u64,
     pub bounds: Bounds,
@@ -42,7 +42,7 @@ pub struct Lamp {
 
 // What a call gives: 0 or the number of its refusal, the lamp after it, what it reports, the task it gives, and how long to
 // wait for the next step, in milliseconds.
-#[derive(Drop)]
+#[derive(Clone, Copy)]
 pub struct Answer {
     pub number: u8,
     pub lamp: Lamp,
@@ -52,7 +52,7 @@ pub struct Answer {
 }
 
 // A call of a lamp, with its clock. A command comes with what the on/off cluster says.
-#[derive(Drop)]
+#[derive(Clone, Copy)]
 pub enum Call {
     Command {
         request: Request,
@@ -72,7 +72,7 @@ pub enum Call {
 }
 
 // A lamp, or the number of the refusal and no lamp.
-#[derive(Drop)]
+#[derive(Clone, Copy)]
 pub enum Made {
     Lamp(Lamp),
     Refused(u8),
@@ -80,7 +80,7 @@ pub enum Made {
 
 // A lamp as it is made, with these bounds, features, options and clock.
 fn fresh(bounds: Bounds, feature_map: u32, options: u8, clock: u64) -> Lamp
-    ensures { result ≡ freshLamp bounds feature_map options clock }
+    ensures { result ≡ fresh_lamp bounds feature_map options clock }
 {
     Lamp {
         clock: clock,
@@ -103,7 +103,7 @@ impl Lamp {
     // A fresh lamp, unless the clock is above the limit or the bounds are crossed.
     pub fn new(bounds: Bounds, feature_map: u32, options: u8, clock: u64) -> Made
         ensures value { result ≡ making bounds feature_map options clock }
-        ensures result_value { madeValues result ≡ makingValues bounds feature_map options clock }
+        ensures result_value { made_values result ≡ making_values bounds feature_map options clock }
     {
         if CLOCK_LIMIT < clock {
             return Made::Refused(CLOCK_REFUSED);
@@ -115,7 +115,7 @@ impl Lamp {
     }
 
     pub fn is_valid(self) -> bool
-        ensures { result ≡ lampValid self }
+        ensures { result ≡ lamp_valid self }
     {
         let color = self.color;
         let running = self.running;
@@ -127,7 +127,7 @@ impl Lamp {
 
     // The same lamp at another clock.
     pub fn at_clock(self, now: u64) -> Lamp
-        ensures { result ≡ atClock self now }
+        ensures { result ≡ at_clock self now }
     {
         Lamp { clock: now, ..self }
     }
@@ -135,7 +135,7 @@ impl Lamp {
     // The two causes that every call but a step checks first: an invalid lamp, and the clock. 0 where there is
     // neither.
     pub fn first_cause(self, clock: u64) -> u8
-        ensures { result ≡ firstCause self clock }
+        ensures { result ≡ first_cause self clock }
     {
         if !self.is_valid() {
             return INVALID_LAMP;

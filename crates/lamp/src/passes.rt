@@ -2,10 +2,10 @@
 // notices are put together once, from the last to the first.
 // Carried over from project-chip/rs-matter, commit 43f61585a4 (Apache-2.0, see NOTICE), and changed.
 ghost use Rattle.std.specs.Prelude.{◌≡◌, true, cond, ◌-◌, pos, ◌-ℤ◌};
-ghost use Rattle.notices.specs.Numerals.{empty, inFront};
+ghost use Rattle.notices.specs.Numerals.{empty, in_front};
 ghost use Rattle.notices.proofs.Numerals.{Bytes};
-ghost use Rattle.tasks.specs.Valid.{deltaValid, moveToValid, hueMoveValid, saturationMoveValid, rateValid};
-ghost use Rattle.lamp.specs.Passes.{hueMoved, saturationNow, saturationMoved, miredsNow, saturationDone, miredsDone, unless, waiting, hueSaturationMoved, temperatureToMoved, timed, huePassed, saturationPassed, temperaturePassed, loopPassed, passed, nothingPassed, leftBy, reportedBehind, passReported};
+ghost use Rattle.tasks.specs.Valid.{delta_valid, move_to_valid, hue_move_valid, saturation_move_valid, rate_valid};
+ghost use Rattle.lamp.specs.Passes.{hue_moved, saturation_now, saturation_moved, mireds_now, saturation_done, mireds_done, unless, waiting, hue_saturation_moved, temperature_to_moved, timed, hue_passed, saturation_passed, temperature_passed, loop_passed, passed, nothing_passed, left_by, reported_behind, pass_reported};
 
 use color::{Change, Color, ColorSet};
 use hue::moved_hue;
@@ -22,7 +22,7 @@ use tasks::{
 };
 
 // What a pass is given of the lamp.
-#[derive(Drop)]
+#[derive(Clone, Copy)]
 pub struct Found {
     pub clock: u64,
     pub bounds: Bounds,
@@ -31,7 +31,7 @@ pub struct Found {
 }
 
 // What a move-to moves: the colour, its changes in their order, and the notice of the device that is written.
-#[derive(Drop)]
+#[derive(Clone, Copy)]
 pub struct Moved {
     pub color: Color,
     pub first: Change,
@@ -41,7 +41,7 @@ pub struct Moved {
 
 // What a pass leaves: what moves, whether the remaining time is reported, the wait, the remaining time, and whether the
 // transition ends.
-#[derive(Drop)]
+#[derive(Clone, Copy)]
 pub struct Passed {
     pub color: Color,
     pub first: Change,
@@ -54,7 +54,7 @@ pub struct Passed {
 }
 
 // A start or a step: whether the full time is reported first, the pass, and the record that stays.
-#[derive(Drop)]
+#[derive(Clone, Copy)]
 pub struct Left {
     pub full: bool,
     pub passed: Passed,
@@ -89,7 +89,7 @@ fn left_unless(is_end: bool, passed: u64, ms: u32) -> u64
 }
 
 pub(crate) fn left_by(full: bool, passed: Passed, running: Running) -> Left
-    ensures { result ≡ leftBy full passed running }
+    ensures { result ≡ left_by full passed running }
 {
     let stays = running_unless(passed.ends, running);
     Left {
@@ -108,8 +108,8 @@ fn move_hue(
     is_enhanced: bool,
     clock: u64,
 ) -> ColorSet
-    requires { deltaValid delta ≡ true }
-    ensures { result ≡ hueMoved color delta start permille is_enhanced clock }
+    requires { delta_valid delta ≡ true }
+    ensures { result ≡ hue_moved color delta start permille is_enhanced clock }
 {
     match delta {
         HueDelta::Keep => ColorSet {
@@ -124,7 +124,7 @@ fn move_hue(
 }
 
 fn saturation_now(start: u8, target: u8, permille: u16) -> u8
-    ensures { result ≡ saturationNow start target permille }
+    ensures { result ≡ saturation_now start target permille }
 {
     if 1000 <= permille {
         return target;
@@ -143,7 +143,7 @@ fn move_saturation(
     permille: u16,
     clock: u64,
 ) -> ColorSet
-    ensures { result ≡ saturationMoved color target start permille clock }
+    ensures { result ≡ saturation_moved color target start permille clock }
 {
     match target {
         TargetSaturation::Keep => ColorSet {
@@ -158,7 +158,7 @@ fn move_saturation(
 }
 
 fn mireds_now(bounds: Bounds, start: u16, target: u16, permille: u16) -> u16
-    ensures { result ≡ miredsNow bounds start target permille }
+    ensures { result ≡ mireds_now bounds start target permille }
 {
     if 1000 <= permille {
         return target;
@@ -172,7 +172,7 @@ fn mireds_now(bounds: Bounds, start: u16, target: u16, permille: u16) -> u16
 }
 
 fn saturation_done(direction: MoveModeEnum, now: u8) -> bool
-    ensures { result ≡ saturationDone direction now }
+    ensures { result ≡ saturation_done direction now }
 {
     match direction {
         MoveModeEnum::Stop => false,
@@ -182,7 +182,7 @@ fn saturation_done(direction: MoveModeEnum, now: u8) -> bool
 }
 
 fn mireds_done(rate: i64, lo: u16, hi: u16, now: u16) -> bool
-    ensures { result ≡ miredsDone rate lo hi now }
+    ensures { result ≡ mireds_done rate lo hi now }
 {
     ((0 < rate) & (now == hi)) | ((rate < 0) & (now == lo))
 }
@@ -190,7 +190,7 @@ fn mireds_done(rate: i64, lo: u16, hi: u16, now: u16) -> bool
 impl Passed {
     // What the pass reports behind its first change. Apart from that, so that both are inlined (docs/SPEED.md).
     pub(crate) fn behind(self, loop_active: bool) -> Numeral
-        ensures { (result ≡ inFront (reportedBehind self loop_active) empty) × Bytes (passReported self loop_active) }
+        ensures { (result ≡ in_front (reported_behind self loop_active) empty) × Bytes (pass_reported self loop_active) }
     {
         let second = self.second;
         let list = Numeral::new()
@@ -206,8 +206,8 @@ impl Found {
         run: HueSaturationRun,
         permille: u16,
     ) -> Moved
-        requires { moveToValid run.task ≡ true }
-        ensures { result ≡ hueSaturationMoved self run permille }
+        requires { move_to_valid run.task ≡ true }
+        ensures { result ≡ hue_saturation_moved self run permille }
     {
         let task = run.task;
         let delta = task.delta;
@@ -232,7 +232,7 @@ impl Found {
         run: ColorTemperatureToRun,
         permille: u16,
     ) -> Moved
-        ensures { result ≡ temperatureToMoved self run permille }
+        ensures { result ≡ temperature_to_moved self run permille }
     {
         let task = run.task;
         let bounds = self.bounds;
@@ -293,8 +293,8 @@ impl Found {
     }
 
     pub(crate) fn hue_move_transition(self, run: HueRun) -> Passed
-        requires { hueMoveValid run.task ≡ true }
-        ensures { result ≡ huePassed self run }
+        requires { hue_move_valid run.task ≡ true }
+        ensures { result ≡ hue_passed self run }
     {
         let task = run.task;
         let direction = task.direction;
@@ -306,8 +306,8 @@ impl Found {
     }
 
     pub(crate) fn saturation_move_transition(self, run: SaturationRun) -> Passed
-        requires { saturationMoveValid run.task ≡ true }
-        ensures { result ≡ saturationPassed self run }
+        requires { saturation_move_valid run.task ≡ true }
+        ensures { result ≡ saturation_passed self run }
     {
         let task = run.task;
         let direction = task.direction;
@@ -323,8 +323,8 @@ impl Found {
     }
 
     pub(crate) fn color_temperature_move_transition(self, run: ColorTemperatureRun) -> Passed
-        requires { rateValid run.rate ≡ true }
-        ensures { result ≡ temperaturePassed self run }
+        requires { rate_valid run.rate ≡ true }
+        ensures { result ≡ temperature_passed self run }
     {
         let way = delta_at_rate(run.rate, elapsed(run.start, self.clock));
         let now = clamped_sum(run.lo, run.hi, run.mireds, way);
@@ -335,7 +335,7 @@ impl Found {
     }
 
     pub(crate) fn color_loop_transition(self, run: ColorLoopRun) -> Passed
-        ensures { result ≡ loopPassed self run }
+        ensures { result ≡ loop_passed self run }
     {
         let task = run.task;
         let direction = task.direction;
@@ -349,7 +349,7 @@ impl Found {
 
     // Where nothing runs, nothing changes, and no device is written.
     pub(crate) fn no_transition(self) -> Passed
-        ensures { result ≡ nothingPassed self }
+        ensures { result ≡ nothing_passed self }
     {
         let color = self.color;
         let set = ColorSet {

@@ -1,7 +1,7 @@
 -- The texts of answers.
 use Rattle.std.specs.Prelude.{ℕ, Bool, true, false, cond, List, [], ◌∷◌, ◌++◌, eqb, ℤ, take}
 use Rattle.matter.specs.Causes.{accepted}
-use Rattle.matter.specs.Numbers.{moveModeNumber, loopDirectionNumber, colorModeNumber, enhancedColorModeNumber}
+use Rattle.matter.specs.Numbers.{move_mode_number, loop_direction_number, color_mode_number, enhanced_color_mode_number}
 use Rattle.notices.specs.declared.Notices.{Notices}
 use Rattle.tasks.specs.declared.GivenTask.{GivenTask}
 use Rattle.tasks.specs.declared.HueDelta.{HueDelta}
@@ -12,78 +12,78 @@ use Rattle.tasks.specs.Runs.{runs}
 use Rattle.lamp.specs.declared.Answer.{Answer}
 use Rattle.lamp.specs.declared.Lamp.{Lamp}
 use Rattle.text.specs.Ascii.{ascii}
-use Rattle.text.specs.Digits.{decimal, signedDecimal}
+use Rattle.text.specs.Digits.{decimal, signed_decimal}
 
 -- a number behind a blank
-unfoldable pub numberText : ℕ → List ℕ
-numberText n = ascii " " ++ decimal n
+unfoldable pub number_text : ℕ → List ℕ
+number_text n = ascii " " ++ decimal n
 
-unfoldable pub signedText : ℤ → List ℕ
-signedText n = ascii " " ++ signedDecimal n
+unfoldable pub signed_text : ℤ → List ℕ
+signed_text n = ascii " " ++ signed_decimal n
 
-unfoldable pub numbersText : List ℕ → List ℕ
-numbersText [] = []
-numbersText (n ∷ ns) = numberText n ++ numbersText ns
+unfoldable pub numbers_text : List ℕ → List ℕ
+numbers_text [] = []
+numbers_text (n ∷ ns) = number_text n ++ numbers_text ns
 
 abbrev pub bit : Bool → ℕ
 bit b = cond b 1 0
 
 -- a lamp's fields, in the protocol's order
-abbrev pub lampNumbers : Lamp → List ℕ
-lampNumbers l =
+abbrev pub lamp_numbers : Lamp → List ℕ
+lamp_numbers l =
     l.bounds.min ∷ l.bounds.max ∷ l.clock ∷ l.options ∷ l.remaining.tenths
     ∷ l.color.stamps.hue ∷ l.color.stamps.saturation ∷ l.color.stamps.mireds
     ∷ l.color.hue ∷ l.color.saturation ∷ l.color.mireds
-    ∷ colorModeNumber l.color.mode ∷ enhancedColorModeNumber l.color.emode
-    ∷ bit l.looping.active ∷ loopDirectionNumber l.looping.direction
+    ∷ color_mode_number l.color.mode ∷ enhanced_color_mode_number l.color.emode
+    ∷ bit l.looping.active ∷ loop_direction_number l.looping.direction
     ∷ l.looping.time ∷ l.looping.start ∷ l.looping.stored ∷ []
 
 -- ---- notices, tasks
 
 -- in their order; `-` where there is none
-unfoldable pub noticesText : Notices → List ℕ
-noticesText n = cond (eqb n.len 0) (ascii " -") (numbersText (take n.len n.places))
+unfoldable pub notices_text : Notices → List ℕ
+notices_text n = cond (eqb n.len 0) (ascii " -") (numbers_text (take n.len n.places))
 
-abbrev pub deltaText : HueDelta → List ℕ
-deltaText HueDelta.Keep = ascii " -"
-deltaText (HueDelta.By delta) = signedText delta
+abbrev pub delta_text : HueDelta → List ℕ
+delta_text HueDelta.Keep = ascii " -"
+delta_text (HueDelta.By delta) = signed_text delta
 
-abbrev pub targetText : TargetSaturation → List ℕ
-targetText TargetSaturation.Keep = ascii " -"
-targetText (TargetSaturation.To saturation) = numberText saturation
+abbrev pub target_text : TargetSaturation → List ℕ
+target_text TargetSaturation.Keep = ascii " -"
+target_text (TargetSaturation.To saturation) = number_text saturation
 
-abbrev pub taskText : Task → List ℕ
-taskText (Task.HueSaturationMoveTo t) =
-    ascii " move_to" ++ deltaText t.delta ++ targetText t.saturation
-    ++ numbersText (t.ms ∷ bit t.enhanced ∷ [])
-taskText (Task.HueMove t) =
-    ascii " hue_move" ++ numbersText (moveModeNumber t.direction ∷ t.rate ∷ bit t.enhanced ∷ [])
-taskText (Task.SaturationMove t) = ascii " sat_move" ++ numbersText (moveModeNumber t.direction ∷ t.rate ∷ [])
-taskText (Task.ColorTemperatureMoveTo t) = ascii " ct_to" ++ numbersText (t.target ∷ t.ms ∷ [])
-taskText (Task.ColorTemperatureMove t) =
-    ascii " ct_move" ++ signedText t.rate ++ numbersText (t.min ∷ t.max ∷ [])
-taskText (Task.ColorLoop t) = ascii " loop" ++ numbersText (loopDirectionNumber t.direction ∷ t.seconds ∷ [])
-taskText Task.Stop = ascii " stop"
+abbrev pub task_text : Task → List ℕ
+task_text (Task.HueSaturationMoveTo t) =
+    ascii " move_to" ++ delta_text t.delta ++ target_text t.saturation
+    ++ numbers_text (t.ms ∷ bit t.enhanced ∷ [])
+task_text (Task.HueMove t) =
+    ascii " hue_move" ++ numbers_text (move_mode_number t.direction ∷ t.rate ∷ bit t.enhanced ∷ [])
+task_text (Task.SaturationMove t) = ascii " sat_move" ++ numbers_text (move_mode_number t.direction ∷ t.rate ∷ [])
+task_text (Task.ColorTemperatureMoveTo t) = ascii " ct_to" ++ numbers_text (t.target ∷ t.ms ∷ [])
+task_text (Task.ColorTemperatureMove t) =
+    ascii " ct_move" ++ signed_text t.rate ++ numbers_text (t.min ∷ t.max ∷ [])
+task_text (Task.ColorLoop t) = ascii " loop" ++ numbers_text (loop_direction_number t.direction ∷ t.seconds ∷ [])
+task_text Task.Stop = ascii " stop"
 
-abbrev pub givenText : GivenTask → List ℕ
-givenText GivenTask.Nothing = ascii " -"
-givenText (GivenTask.Given task) = taskText task
+abbrev pub given_text : GivenTask → List ℕ
+given_text GivenTask.Nothing = ascii " -"
+given_text (GivenTask.Given task) = task_text task
 
 -- ---- answers
 
-abbrev pub statusText : ℕ → List ℕ
-statusText number = cond (eqb number accepted) (ascii "ok") (ascii "refused" ++ numbersText (number ∷ []))
+abbrev pub status_text : ℕ → List ℕ
+status_text number = cond (eqb number accepted) (ascii "ok") (ascii "refused" ++ numbers_text (number ∷ []))
 
-abbrev pub runningText : Running → List ℕ
-runningText r = cond (runs r) (ascii " running") (ascii " idle")
+abbrev pub running_text : Running → List ℕ
+running_text r = cond (runs r) (ascii " running") (ascii " idle")
 
 -- <notices or -> | <task given or -> | <wait>
-abbrev pub reportedText : Notices → GivenTask → ℕ → List ℕ
-reportedText notices task wait =
-    ascii " |" ++ noticesText notices ++ ascii " |" ++ givenText task ++ ascii " |" ++ numberText wait
+abbrev pub reported_text : Notices → GivenTask → ℕ → List ℕ
+reported_text notices task wait =
+    ascii " |" ++ notices_text notices ++ ascii " |" ++ given_text task ++ ascii " |" ++ number_text wait
 
 -- <status> | <fields> | <notices or -> | <task given or -> | <wait> | running or idle
-unfoldable pub answerText : Answer → List ℕ
-answerText a =
-    statusText a.number ++ ascii " |" ++ numbersText (lampNumbers a.lamp)
-    ++ reportedText a.notices a.task a.wait ++ ascii " |" ++ runningText a.lamp.running
+unfoldable pub answer_text : Answer → List ℕ
+answer_text a =
+    status_text a.number ++ ascii " |" ++ numbers_text (lamp_numbers a.lamp)
+    ++ reported_text a.notices a.task a.wait ++ ascii " |" ++ running_text a.lamp.running

@@ -1,9 +1,9 @@
 -- The cluster's enums by their numbers, which `matter` states, and the on/off words.
 use Rattle.std.specs.Prelude.{ℕ, List, [], ◌∷◌}
-use Rattle.matter.specs.Numbers.{caseNumbered, directionNumber, directions, moveModeNumber, moveModes}
-use Rattle.matter.specs.Numbers.{stepModeNumber, stepModes, loopActionNumber, loopActions, loopDirectionNumber}
-use Rattle.matter.specs.Numbers.{loopDirections, colorModeNumber, colorModes, enhancedColorModeNumber}
-use Rattle.matter.specs.Numbers.{enhancedColorModes}
+use Rattle.matter.specs.Numbers.{case_numbered, direction_number, directions, move_mode_number, move_modes}
+use Rattle.matter.specs.Numbers.{step_mode_number, step_modes, loop_action_number, loop_actions, loop_direction_number}
+use Rattle.matter.specs.Numbers.{loop_directions, color_mode_number, color_modes, enhanced_color_mode_number}
+use Rattle.matter.specs.Numbers.{enhanced_color_modes}
 use Rattle.matter.specs.declared.enums.ColorLoopActionEnum.{ColorLoopActionEnum}
 use Rattle.matter.specs.declared.enums.ColorLoopDirectionEnum.{ColorLoopDirectionEnum}
 use Rattle.matter.specs.declared.enums.ColorModeEnum.{ColorModeEnum}
@@ -13,38 +13,38 @@ use Rattle.matter.specs.declared.enums.MoveModeEnum.{MoveModeEnum}
 use Rattle.matter.specs.declared.enums.OnOff.{OnOff}
 use Rattle.matter.specs.declared.enums.StepModeEnum.{StepModeEnum}
 use Rattle.text.specs.Words.{lost}
-use Rattle.text.specs.Readers.{Read, Reader, Row, give, number8, ◌means◌, byName}
+use Rattle.text.specs.Readers.{Read, Reader, Row, give, number8, ◌means◌, by_name}
 
 -- the case whose number is the next word; where no case has it, no position
 abbrev pub enum : {E : Type 0} → (E → ℕ) → List E → E → Reader E
 enum number cases none line at =
-    caseNumbered number (λ x. record { value = x; at = (number8 line at).at }) (record { value = none; at = lost }) cases
+    case_numbered number (λ x. record { value = x; at = (number8 line at).at }) (record { value = none; at = lost }) cases
     (number8 line at).value
 
-unfoldable pub directionAt : Reader DirectionEnum
-directionAt = enum directionNumber directions DirectionEnum.Shortest
+unfoldable pub direction_at : Reader DirectionEnum
+direction_at = enum direction_number directions DirectionEnum.Shortest
 
-unfoldable pub moveModeAt : Reader MoveModeEnum
-moveModeAt = enum moveModeNumber moveModes MoveModeEnum.Stop
+unfoldable pub move_mode_at : Reader MoveModeEnum
+move_mode_at = enum move_mode_number move_modes MoveModeEnum.Stop
 
-unfoldable pub stepModeAt : Reader StepModeEnum
-stepModeAt = enum stepModeNumber stepModes StepModeEnum.Up
+unfoldable pub step_mode_at : Reader StepModeEnum
+step_mode_at = enum step_mode_number step_modes StepModeEnum.Up
 
-unfoldable pub loopActionAt : Reader ColorLoopActionEnum
-loopActionAt = enum loopActionNumber loopActions ColorLoopActionEnum.Deactivate
+unfoldable pub loop_action_at : Reader ColorLoopActionEnum
+loop_action_at = enum loop_action_number loop_actions ColorLoopActionEnum.Deactivate
 
-unfoldable pub loopDirectionAt : Reader ColorLoopDirectionEnum
-loopDirectionAt = enum loopDirectionNumber loopDirections ColorLoopDirectionEnum.Decrement
+unfoldable pub loop_direction_at : Reader ColorLoopDirectionEnum
+loop_direction_at = enum loop_direction_number loop_directions ColorLoopDirectionEnum.Decrement
 
-unfoldable pub colorModeAt : Reader ColorModeEnum
-colorModeAt = enum colorModeNumber colorModes ColorModeEnum.CurrentXAndCurrentY
+unfoldable pub color_mode_at : Reader ColorModeEnum
+color_mode_at = enum color_mode_number color_modes ColorModeEnum.CurrentXAndCurrentY
 
-unfoldable pub enhancedModeAt : Reader EnhancedColorModeEnum
-enhancedModeAt = enum enhancedColorModeNumber enhancedColorModes EnhancedColorModeEnum.CurrentXAndCurrentY
+unfoldable pub enhanced_mode_at : Reader EnhancedColorModeEnum
+enhanced_mode_at = enum enhanced_color_mode_number enhanced_color_modes EnhancedColorModeEnum.CurrentXAndCurrentY
 
 -- `none`: no on/off handler
-abbrev pub onOffs : List (Row OnOff)
-onOffs = "on" means give OnOff.On ∷ "off" means give OnOff.Off ∷ "none" means give OnOff.NoHandler ∷ []
+abbrev pub on_offs : List (Row OnOff)
+on_offs = "on" means give OnOff.On ∷ "off" means give OnOff.Off ∷ "none" means give OnOff.NoHandler ∷ []
 
-unfoldable pub onOffAt : Reader OnOff
-onOffAt = byName onOffs OnOff.NoHandler
+unfoldable pub on_off_at : Reader OnOff
+on_off_at = by_name on_offs OnOff.NoHandler

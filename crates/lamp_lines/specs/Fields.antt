@@ -7,37 +7,37 @@ use Rattle.lamp.specs.declared.Lamp.{Lamp}
 use Rattle.lamp.specs.declared.LoopSettings.{LoopSettings}
 use Rattle.tasks.specs.declared.Running.{Running}
 use Rattle.text.specs.Readers.{Read, Reader, give, ◌then◌, number8, number16, number64, flag}
-use Rattle.lamp_lines.specs.Enums.{loopDirectionAt, colorModeAt, enhancedModeAt}
+use Rattle.lamp_lines.specs.Enums.{loop_direction_at, color_mode_at, enhanced_mode_at}
 
 -- min max
-unfoldable pub boundsAt : Reader Bounds
-boundsAt = give (λ min max. record { min = min; max = max }) then number16 then number16
+unfoldable pub bounds_at : Reader Bounds
+bounds_at = give (λ min max. record { min = min; max = max }) then number16 then number16
 
 -- stamp_hue stamp_sat stamp_mireds
-unfoldable pub stampsAt : Reader Stamps
-stampsAt =
+unfoldable pub stamps_at : Reader Stamps
+stamps_at =
     give (λ hue saturation mireds. record { hue = hue; saturation = saturation; mireds = mireds })
     then number64 then number64 then number64
 
 -- the stamps, then hue sat mireds mode emode
-unfoldable pub colorAt : Reader Color
-colorAt =
+unfoldable pub color_at : Reader Color
+color_at =
     give
     (λ stamps hue saturation mireds mode emode.
     record { hue = hue; saturation = saturation; mireds = mireds; mode = mode; emode = emode; stamps = stamps })
-    then stampsAt then number16 then number8 then number16 then colorModeAt then enhancedModeAt
+    then stamps_at then number16 then number8 then number16 then color_mode_at then enhanced_mode_at
 
 -- loop_active loop_dir loop_time loop_start loop_stored
-unfoldable pub loopSettingsAt : Reader LoopSettings
-loopSettingsAt =
+unfoldable pub loop_settings_at : Reader LoopSettings
+loop_settings_at =
     give
     (λ active direction time start stored.
     record { active = active; direction = direction; time = time; start = start; stored = stored })
-    then flag then loopDirectionAt then number16 then number16 then number16
+    then flag then loop_direction_at then number16 then number16 then number16
 
 -- the bounds, then clock options remaining, the colour and the loop: an idle lamp
-unfoldable pub idleLampAt : Reader Lamp
-idleLampAt =
+unfoldable pub idle_lamp_at : Reader Lamp
+idle_lamp_at =
     give
     (λ bounds clock options remaining color looping.
     record {
@@ -49,4 +49,4 @@ idleLampAt =
       looping = looping;
       running = Running.Idle;
     })
-    then boundsAt then number64 then number8 then number16 then colorAt then loopSettingsAt
+    then bounds_at then number64 then number8 then number16 then color_at then loop_settings_at

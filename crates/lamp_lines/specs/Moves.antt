@@ -3,64 +3,64 @@ use Rattle.std.specs.Prelude.{ℕ, List, [], ◌∷◌}
 use Rattle.tasks.specs.declared.HueDelta.{HueDelta}
 use Rattle.tasks.specs.declared.TargetSaturation.{TargetSaturation}
 use Rattle.tasks.specs.declared.Task.{Task}
-use Rattle.text.specs.Readers.{Read, Reader, give, ◌then◌, number8, number16, number32, flag, signed, orDash, Row}
+use Rattle.text.specs.Readers.{Read, Reader, give, ◌then◌, number8, number16, number32, flag, signed, or_dash, Row}
 use Rattle.text.specs.Readers.{◌means◌, named, unknown}
-use Rattle.lamp_lines.specs.Enums.{moveModeAt, loopDirectionAt}
+use Rattle.lamp_lines.specs.Enums.{move_mode_at, loop_direction_at}
 
-unfoldable pub deltaAt : Reader HueDelta
-deltaAt = orDash HueDelta.Keep (give HueDelta.By then signed)
+unfoldable pub delta_at : Reader HueDelta
+delta_at = or_dash HueDelta.Keep (give HueDelta.By then signed)
 
-unfoldable pub targetAt : Reader TargetSaturation
-targetAt = orDash TargetSaturation.Keep (give TargetSaturation.To then number8)
+unfoldable pub target_at : Reader TargetSaturation
+target_at = or_dash TargetSaturation.Keep (give TargetSaturation.To then number8)
 
 -- <way|-> <sat|-> <ms> <enhanced>
-unfoldable pub moveToAt : Reader Task
-moveToAt =
+unfoldable pub move_to_at : Reader Task
+move_to_at =
     give
     (λ delta saturation ms enhanced.
     Task.HueSaturationMoveTo (record { delta = delta; ms = ms; saturation = saturation; enhanced = enhanced }))
-    then deltaAt then targetAt then number32 then flag
+    then delta_at then target_at then number32 then flag
 
 -- <mode> <rate> <enhanced>
-unfoldable pub hueMoveAt : Reader Task
-hueMoveAt =
+unfoldable pub hue_move_at : Reader Task
+hue_move_at =
     give (λ direction rate enhanced. Task.HueMove (record { rate = rate; direction = direction; enhanced = enhanced }))
-    then moveModeAt then number32 then flag
+    then move_mode_at then number32 then flag
 
 -- <mode> <rate>
-unfoldable pub saturationMoveAt : Reader Task
-saturationMoveAt =
-    give (λ direction rate. Task.SaturationMove (record { rate = rate; direction = direction })) then moveModeAt
+unfoldable pub saturation_move_at : Reader Task
+saturation_move_at =
+    give (λ direction rate. Task.SaturationMove (record { rate = rate; direction = direction })) then move_mode_at
     then number32
 
 -- <target> <ms>
-unfoldable pub miredsToAt : Reader Task
-miredsToAt =
+unfoldable pub mireds_to_at : Reader Task
+mireds_to_at =
     give (λ target ms. Task.ColorTemperatureMoveTo (record { ms = ms; target = target })) then number16 then number32
 
 -- <signed rate> <min> <max>
-unfoldable pub miredsMoveAt : Reader Task
-miredsMoveAt =
+unfoldable pub mireds_move_at : Reader Task
+mireds_move_at =
     give (λ rate min max. Task.ColorTemperatureMove (record { rate = rate; min = min; max = max })) then signed
     then number16 then number16
 
 -- <direction> <seconds>
-unfoldable pub colorLoopAt : Reader Task
-colorLoopAt =
+unfoldable pub color_loop_at : Reader Task
+color_loop_at =
     give (λ direction seconds. Task.ColorLoop (record { direction = direction; seconds = seconds }))
-    then loopDirectionAt then number16
+    then loop_direction_at then number16
 
 abbrev pub tasks : List (Row Task)
 tasks =
-    "move_to" means moveToAt
-    ∷ "hue_move" means hueMoveAt
-    ∷ "sat_move" means saturationMoveAt
-    ∷ "ct_to" means miredsToAt
-    ∷ "ct_move" means miredsMoveAt
-    ∷ "loop" means colorLoopAt
+    "move_to" means move_to_at
+    ∷ "hue_move" means hue_move_at
+    ∷ "sat_move" means saturation_move_at
+    ∷ "ct_to" means mireds_to_at
+    ∷ "ct_move" means mireds_move_at
+    ∷ "loop" means color_loop_at
     ∷ "stop" means give Task.Stop
     ∷ []
 
 -- the task whose name begins at `name`, with its numbers from `at` on
-unfoldable pub taskAt : List ℕ → ℕ → ℕ → Read Task
-taskAt = named tasks (unknown Task.Stop)
+unfoldable pub task_at : List ℕ → ℕ → ℕ → Read Task
+task_at = named tasks (unknown Task.Stop)

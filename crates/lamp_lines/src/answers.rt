@@ -2,7 +2,7 @@
 ghost use Rattle.std.specs.Prelude.{◌≡◌, ◌++◌};
 ghost use Rattle.text.specs.Ascii.{ascii};
 ghost use Rattle.text.specs.Written.{Written};
-ghost use Rattle.lamp_lines.specs.Answers.{numberText, signedText, numbersText, bit, lampNumbers, noticesText, deltaText, targetText, taskText, givenText, statusText, runningText, reportedText, answerText};
+ghost use Rattle.lamp_lines.specs.Answers.{number_text, signed_text, numbers_text, bit, lamp_numbers, notices_text, delta_text, target_text, task_text, given_text, status_text, running_text, reported_text, answer_text};
 
 use lamp::{Answer, Lamp};
 use notices::Notices;
@@ -20,7 +20,7 @@ pub fn bar(out: &mut [u8], at: usize) -> usize
 
 // A number after a blank.
 pub fn number(out: &mut [u8], at: usize, n: u64) -> usize
-    ensures { Written out.old at (numberText n) out.new result }
+    ensures { Written out.old at (number_text n) out.new result }
 {
     let next = byte(out, at, b' ');
     decimal(out, next, n)
@@ -28,7 +28,7 @@ pub fn number(out: &mut [u8], at: usize, n: u64) -> usize
 
 // The same of a signed number.
 fn signed_number(out: &mut [u8], at: usize, n: i64) -> usize
-    ensures { Written out.old at (signedText n) out.new result }
+    ensures { Written out.old at (signed_text n) out.new result }
 {
     let next = byte(out, at, b' ');
     signed(out, next, n)
@@ -41,7 +41,7 @@ fn flag(b: bool) -> u64
 }
 
 fn numbers(out: &mut [u8], at: usize, list: &[u64]) -> usize
-    ensures { Written out.old at (numbersText list.now) out.new result }
+    ensures { Written out.old at (numbers_text list.now) out.new result }
 {
     let mut end = at;
     let mut i = 0;
@@ -54,7 +54,7 @@ fn numbers(out: &mut [u8], at: usize, list: &[u64]) -> usize
 
 // A name, and numbers after it.
 fn named(out: &mut [u8], at: usize, name: &[u8], list: &[u64]) -> usize
-    ensures { Written out.old at (name.now ++ numbersText list.now) out.new result }
+    ensures { Written out.old at (name.now ++ numbers_text list.now) out.new result }
 {
     let next = text(out, at, name);
     numbers(out, next, list)
@@ -62,7 +62,7 @@ fn named(out: &mut [u8], at: usize, name: &[u8], list: &[u64]) -> usize
 
 // A lamp's fields, in the protocol's order.
 pub fn lamp_numbers(lamp: Lamp) -> [u64; 18]
-    ensures { result ≡ lampNumbers lamp }
+    ensures { result ≡ lamp_numbers lamp }
 {
     let bounds = lamp.bounds;
     let remaining = lamp.remaining;
@@ -95,7 +95,7 @@ pub fn lamp_numbers(lamp: Lamp) -> [u64; 18]
 }
 
 fn fields(out: &mut [u8], at: usize, lamp: Lamp) -> usize
-    ensures { Written out.old at (numbersText (lampNumbers lamp)) out.new result }
+    ensures { Written out.old at (numbers_text (lamp_numbers lamp)) out.new result }
 {
     let list = lamp_numbers(lamp);
     numbers(out, at, &list)
@@ -103,7 +103,7 @@ fn fields(out: &mut [u8], at: usize, lamp: Lamp) -> usize
 
 // The notices in their order; `-` where there is none.
 fn notices(out: &mut [u8], at: usize, list: Notices) -> usize
-    ensures { Written out.old at (noticesText list) out.new result }
+    ensures { Written out.old at (notices_text list) out.new result }
 {
     let places = list.places;
     let len = list.len;
@@ -123,7 +123,7 @@ fn notices(out: &mut [u8], at: usize, list: Notices) -> usize
 }
 
 fn delta(out: &mut [u8], at: usize, delta: HueDelta) -> usize
-    ensures { Written out.old at (deltaText delta) out.new result }
+    ensures { Written out.old at (delta_text delta) out.new result }
 {
     match delta {
         HueDelta::Keep => text(out, at, b" -"),
@@ -132,7 +132,7 @@ fn delta(out: &mut [u8], at: usize, delta: HueDelta) -> usize
 }
 
 fn target(out: &mut [u8], at: usize, target: TargetSaturation) -> usize
-    ensures { Written out.old at (targetText target) out.new result }
+    ensures { Written out.old at (target_text target) out.new result }
 {
     match target {
         TargetSaturation::Keep => text(out, at, b" -"),
@@ -141,7 +141,7 @@ fn target(out: &mut [u8], at: usize, target: TargetSaturation) -> usize
 }
 
 fn move_to(out: &mut [u8], at: usize, task: HueSaturationMoveTo) -> usize
-    ensures { Written out.old at (taskText (Task.HueSaturationMoveTo task)) out.new result }
+    ensures { Written out.old at (task_text (Task.HueSaturationMoveTo task)) out.new result }
 {
     let hue = task.delta;
     let saturation = task.saturation;
@@ -152,7 +152,7 @@ fn move_to(out: &mut [u8], at: usize, task: HueSaturationMoveTo) -> usize
 }
 
 fn hue_move(out: &mut [u8], at: usize, task: HueMove) -> usize
-    ensures { Written out.old at (taskText (Task.HueMove task)) out.new result }
+    ensures { Written out.old at (task_text (Task.HueMove task)) out.new result }
 {
     let direction = task.direction;
     let list = [
@@ -164,7 +164,7 @@ fn hue_move(out: &mut [u8], at: usize, task: HueMove) -> usize
 }
 
 fn saturation_move(out: &mut [u8], at: usize, task: SaturationMove) -> usize
-    ensures { Written out.old at (taskText (Task.SaturationMove task)) out.new result }
+    ensures { Written out.old at (task_text (Task.SaturationMove task)) out.new result }
 {
     let direction = task.direction;
     named(
@@ -176,13 +176,13 @@ fn saturation_move(out: &mut [u8], at: usize, task: SaturationMove) -> usize
 }
 
 fn mireds_to(out: &mut [u8], at: usize, task: ColorTemperatureMoveTo) -> usize
-    ensures { Written out.old at (taskText (Task.ColorTemperatureMoveTo task)) out.new result }
+    ensures { Written out.old at (task_text (Task.ColorTemperatureMoveTo task)) out.new result }
 {
     named(out, at, b" ct_to", &[task.target as u64, task.ms as u64])
 }
 
 fn mireds_move(out: &mut [u8], at: usize, task: ColorTemperatureMove) -> usize
-    ensures { Written out.old at (taskText (Task.ColorTemperatureMove task)) out.new result }
+    ensures { Written out.old at (task_text (Task.ColorTemperatureMove task)) out.new result }
 {
     let a = text(out, at, b" ct_move");
     let b = signed_number(out, a, task.rate);
@@ -190,7 +190,7 @@ fn mireds_move(out: &mut [u8], at: usize, task: ColorTemperatureMove) -> usize
 }
 
 fn color_loop(out: &mut [u8], at: usize, task: ColorLoop) -> usize
-    ensures { Written out.old at (taskText (Task.ColorLoop task)) out.new result }
+    ensures { Written out.old at (task_text (Task.ColorLoop task)) out.new result }
 {
     let direction = task.direction;
     named(
@@ -202,7 +202,7 @@ fn color_loop(out: &mut [u8], at: usize, task: ColorLoop) -> usize
 }
 
 fn task(out: &mut [u8], at: usize, task: Task) -> usize
-    ensures { Written out.old at (taskText task) out.new result }
+    ensures { Written out.old at (task_text task) out.new result }
 {
     match task {
         Task::HueSaturationMoveTo(t) => move_to(out, at, t),
@@ -216,7 +216,7 @@ fn task(out: &mut [u8], at: usize, task: Task) -> usize
 }
 
 fn given(out: &mut [u8], at: usize, given: GivenTask) -> usize
-    ensures { Written out.old at (givenText given) out.new result }
+    ensures { Written out.old at (given_text given) out.new result }
 {
     match given {
         GivenTask::Nothing => text(out, at, b" -"),
@@ -225,7 +225,7 @@ fn given(out: &mut [u8], at: usize, given: GivenTask) -> usize
 }
 
 pub fn status(out: &mut [u8], at: usize, number: u8) -> usize
-    ensures { Written out.old at (statusText number) out.new result }
+    ensures { Written out.old at (status_text number) out.new result }
 {
     if number == 0 {
         return text(out, at, b"ok");
@@ -234,7 +234,7 @@ pub fn status(out: &mut [u8], at: usize, number: u8) -> usize
 }
 
 fn ending(out: &mut [u8], at: usize, running: Running) -> usize
-    ensures { Written out.old at (runningText running) out.new result }
+    ensures { Written out.old at (running_text running) out.new result }
 {
     if running.is_running() {
         text(out, at, b" running")
@@ -245,7 +245,7 @@ fn ending(out: &mut [u8], at: usize, running: Running) -> usize
 
 // The notices, the task given and the wait.
 fn reported(out: &mut [u8], at: usize, list: Notices, task: GivenTask, wait: u64) -> usize
-    ensures { Written out.old at (reportedText list task wait) out.new result }
+    ensures { Written out.old at (reported_text list task wait) out.new result }
 {
     let a = bar(out, at);
     let b = notices(out, a, list);
@@ -256,7 +256,7 @@ fn reported(out: &mut [u8], at: usize, list: Notices, task: GivenTask, wait: u64
 }
 
 pub fn answer(out: &mut [u8], at: usize, answer: Answer) -> usize
-    ensures { Written out.old at (answerText answer) out.new result }
+    ensures { Written out.old at (answer_text answer) out.new result }
 {
     let lamp = answer.lamp;
     let running = lamp.running;

@@ -1,7 +1,7 @@
 // Reading the cluster's enums by their numbers, and the on/off words. A number that no case has is LOST.
 ghost use Rattle.std.specs.Prelude.{◌≡◌};
 ghost use Rattle.text.specs.Readers.{Reads};
-ghost use Rattle.lamp_lines.specs.Enums.{directionAt, moveModeAt, stepModeAt, loopActionAt, loopDirectionAt, colorModeAt, enhancedModeAt, onOffAt};
+ghost use Rattle.lamp_lines.specs.Enums.{direction_at, move_mode_at, step_mode_at, loop_action_at, loop_direction_at, color_mode_at, enhanced_mode_at, on_off_at};
 
 use matter::{
     ColorLoopActionEnum, ColorLoopActionFound, ColorLoopDirectionEnum, ColorLoopDirectionFound,
@@ -11,56 +11,56 @@ use matter::{
 use text::words::LOST;
 use text::{numbers, words};
 
-#[derive(Drop)]
+#[derive(Clone, Copy)]
 pub struct DirectionRead {
     pub value: DirectionEnum,
     pub at: usize,
 }
 
-#[derive(Drop)]
+#[derive(Clone, Copy)]
 pub struct MoveModeRead {
     pub value: MoveModeEnum,
     pub at: usize,
 }
 
-#[derive(Drop)]
+#[derive(Clone, Copy)]
 pub struct StepModeRead {
     pub value: StepModeEnum,
     pub at: usize,
 }
 
-#[derive(Drop)]
+#[derive(Clone, Copy)]
 pub struct LoopActionRead {
     pub value: ColorLoopActionEnum,
     pub at: usize,
 }
 
-#[derive(Drop)]
+#[derive(Clone, Copy)]
 pub struct LoopDirectionRead {
     pub value: ColorLoopDirectionEnum,
     pub at: usize,
 }
 
-#[derive(Drop)]
+#[derive(Clone, Copy)]
 pub struct ModeRead {
     pub value: ColorModeEnum,
     pub at: usize,
 }
 
-#[derive(Drop)]
+#[derive(Clone, Copy)]
 pub struct EnhancedModeRead {
     pub value: EnhancedColorModeEnum,
     pub at: usize,
 }
 
-#[derive(Drop)]
+#[derive(Clone, Copy)]
 pub struct OnOffRead {
     pub value: OnOff,
     pub at: usize,
 }
 
 pub fn path_direction(line: &[u8], at: usize) -> DirectionRead
-    ensures { Reads (directionAt line.now at) result.value result.at }
+    ensures { Reads (direction_at line.now at) result.value result.at }
 {
     let n = numbers::number_8(line, at);
     match DirectionEnum::of_number(n.value) {
@@ -76,7 +76,7 @@ pub fn path_direction(line: &[u8], at: usize) -> DirectionRead
 }
 
 pub fn move_mode(line: &[u8], at: usize) -> MoveModeRead
-    ensures { Reads (moveModeAt line.now at) result.value result.at }
+    ensures { Reads (move_mode_at line.now at) result.value result.at }
 {
     let n = numbers::number_8(line, at);
     match MoveModeEnum::of_number(n.value) {
@@ -92,7 +92,7 @@ pub fn move_mode(line: &[u8], at: usize) -> MoveModeRead
 }
 
 pub fn step_mode(line: &[u8], at: usize) -> StepModeRead
-    ensures { Reads (stepModeAt line.now at) result.value result.at }
+    ensures { Reads (step_mode_at line.now at) result.value result.at }
 {
     let n = numbers::number_8(line, at);
     match StepModeEnum::of_number(n.value) {
@@ -108,7 +108,7 @@ pub fn step_mode(line: &[u8], at: usize) -> StepModeRead
 }
 
 pub fn loop_action(line: &[u8], at: usize) -> LoopActionRead
-    ensures { Reads (loopActionAt line.now at) result.value result.at }
+    ensures { Reads (loop_action_at line.now at) result.value result.at }
 {
     let n = numbers::number_8(line, at);
     match ColorLoopActionEnum::of_number(n.value) {
@@ -124,7 +124,7 @@ pub fn loop_action(line: &[u8], at: usize) -> LoopActionRead
 }
 
 pub fn loop_direction(line: &[u8], at: usize) -> LoopDirectionRead
-    ensures { Reads (loopDirectionAt line.now at) result.value result.at }
+    ensures { Reads (loop_direction_at line.now at) result.value result.at }
 {
     let n = numbers::number_8(line, at);
     match ColorLoopDirectionEnum::of_number(n.value) {
@@ -140,7 +140,7 @@ pub fn loop_direction(line: &[u8], at: usize) -> LoopDirectionRead
 }
 
 pub fn color_mode(line: &[u8], at: usize) -> ModeRead
-    ensures { Reads (colorModeAt line.now at) result.value result.at }
+    ensures { Reads (color_mode_at line.now at) result.value result.at }
 {
     let n = numbers::number_8(line, at);
     match ColorModeEnum::of_number(n.value) {
@@ -156,7 +156,7 @@ pub fn color_mode(line: &[u8], at: usize) -> ModeRead
 }
 
 pub fn enhanced_mode(line: &[u8], at: usize) -> EnhancedModeRead
-    ensures { Reads (enhancedModeAt line.now at) result.value result.at }
+    ensures { Reads (enhanced_mode_at line.now at) result.value result.at }
 {
     let n = numbers::number_8(line, at);
     match EnhancedColorModeEnum::of_number(n.value) {
@@ -173,7 +173,7 @@ pub fn enhanced_mode(line: &[u8], at: usize) -> EnhancedModeRead
 
 // `on`, `off`, or `none` where there is no on/off handler.
 pub fn on_off(line: &[u8], at: usize) -> OnOffRead
-    ensures { Reads (onOffAt line.now at) result.value result.at }
+    ensures { Reads (on_off_at line.now at) result.value result.at }
 {
     let name = words::start(line, at);
     let end = words::end(line, name);

@@ -1,7 +1,7 @@
 // Reading a lamp's fields, in their order on a line.
 ghost use Rattle.std.specs.Prelude.{◌≡◌};
 ghost use Rattle.text.specs.Readers.{Reads};
-ghost use Rattle.lamp_lines.specs.Fields.{boundsAt, stampsAt, colorAt, loopSettingsAt, idleLampAt};
+ghost use Rattle.lamp_lines.specs.Fields.{bounds_at, stamps_at, color_at, loop_settings_at, idle_lamp_at};
 
 use crate::enums;
 use color::{Color, Stamps};
@@ -11,38 +11,38 @@ use remaining_time::RemainingTime;
 use tasks::Running;
 use text::numbers;
 
-#[derive(Drop)]
+#[derive(Clone, Copy)]
 pub struct BoundsRead {
     pub value: Bounds,
     pub at: usize,
 }
 
-#[derive(Drop)]
+#[derive(Clone, Copy)]
 struct StampsRead {
     value: Stamps,
     at: usize,
 }
 
-#[derive(Drop)]
+#[derive(Clone, Copy)]
 struct ColorRead {
     value: Color,
     at: usize,
 }
 
-#[derive(Drop)]
+#[derive(Clone, Copy)]
 struct LoopRead {
     value: LoopSettings,
     at: usize,
 }
 
-#[derive(Drop)]
+#[derive(Clone, Copy)]
 pub struct LampRead {
     pub value: Lamp,
     pub at: usize,
 }
 
 pub fn bounds(line: &[u8], at: usize) -> BoundsRead
-    ensures { Reads (boundsAt line.now at) result.value result.at }
+    ensures { Reads (bounds_at line.now at) result.value result.at }
 {
     let min = numbers::number_16(line, at);
     let max = numbers::number_16(line, min.at);
@@ -56,7 +56,7 @@ pub fn bounds(line: &[u8], at: usize) -> BoundsRead
 }
 
 fn stamps(line: &[u8], at: usize) -> StampsRead
-    ensures { Reads (stampsAt line.now at) result.value result.at }
+    ensures { Reads (stamps_at line.now at) result.value result.at }
 {
     let hue = numbers::number_64(line, at);
     let saturation = numbers::number_64(line, hue.at);
@@ -72,7 +72,7 @@ fn stamps(line: &[u8], at: usize) -> StampsRead
 }
 
 fn color(line: &[u8], at: usize) -> ColorRead
-    ensures { Reads (colorAt line.now at) result.value result.at }
+    ensures { Reads (color_at line.now at) result.value result.at }
 {
     let read = stamps(line, at);
     let stamps = read.value;
@@ -97,7 +97,7 @@ fn color(line: &[u8], at: usize) -> ColorRead
 }
 
 fn loop_settings(line: &[u8], at: usize) -> LoopRead
-    ensures { Reads (loopSettingsAt line.now at) result.value result.at }
+    ensures { Reads (loop_settings_at line.now at) result.value result.at }
 {
     let active = numbers::flag(line, at);
     let way = enums::loop_direction(line, active.at);
@@ -119,7 +119,7 @@ fn loop_settings(line: &[u8], at: usize) -> LoopRead
 
 // An idle lamp with the fields that follow.
 pub fn idle_lamp(line: &[u8], at: usize) -> LampRead
-    ensures { Reads (idleLampAt line.now at) result.value result.at }
+    ensures { Reads (idle_lamp_at line.now at) result.value result.at }
 {
     let limits = bounds(line, at);
     let bounds = limits.value;

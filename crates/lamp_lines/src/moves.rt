@@ -1,7 +1,7 @@
 // Reading a task: by its name, what it asks for. A record has the same numbers after its initial values.
 ghost use Rattle.std.specs.Prelude.{◌≡◌};
 ghost use Rattle.text.specs.Readers.{Reads};
-ghost use Rattle.lamp_lines.specs.Moves.{deltaAt, targetAt, moveToAt, hueMoveAt, saturationMoveAt, miredsToAt, miredsMoveAt, colorLoopAt, taskAt};
+ghost use Rattle.lamp_lines.specs.Moves.{delta_at, target_at, move_to_at, hue_move_at, saturation_move_at, mireds_to_at, mireds_move_at, color_loop_at, task_at};
 
 use crate::enums;
 use tasks::{
@@ -11,19 +11,19 @@ use tasks::{
 use text::words::LOST;
 use text::{numbers, words};
 
-#[derive(Drop)]
+#[derive(Clone, Copy)]
 struct DeltaRead {
     value: HueDelta,
     at: usize,
 }
 
-#[derive(Drop)]
+#[derive(Clone, Copy)]
 struct TargetRead {
     value: TargetSaturation,
     at: usize,
 }
 
-#[derive(Drop)]
+#[derive(Clone, Copy)]
 pub struct TaskRead {
     pub value: Task,
     pub at: usize,
@@ -31,7 +31,7 @@ pub struct TaskRead {
 
 // A signed delta, or `-` for none.
 fn delta(line: &[u8], at: usize) -> DeltaRead
-    ensures { Reads (deltaAt line.now at) result.value result.at }
+    ensures { Reads (delta_at line.now at) result.value result.at }
 {
     let name = words::start(line, at);
     if words::is(line, name, b"-") {
@@ -49,7 +49,7 @@ fn delta(line: &[u8], at: usize) -> DeltaRead
 
 // A saturation, or `-` for none.
 fn target(line: &[u8], at: usize) -> TargetRead
-    ensures { Reads (targetAt line.now at) result.value result.at }
+    ensures { Reads (target_at line.now at) result.value result.at }
 {
     let name = words::start(line, at);
     if words::is(line, name, b"-") {
@@ -66,7 +66,7 @@ fn target(line: &[u8], at: usize) -> TargetRead
 }
 
 fn move_to(line: &[u8], at: usize) -> TaskRead
-    ensures { Reads (moveToAt line.now at) result.value result.at }
+    ensures { Reads (move_to_at line.now at) result.value result.at }
 {
     let read = delta(line, at);
     let delta = read.value;
@@ -86,7 +86,7 @@ fn move_to(line: &[u8], at: usize) -> TaskRead
 }
 
 fn hue_move(line: &[u8], at: usize) -> TaskRead
-    ensures { Reads (hueMoveAt line.now at) result.value result.at }
+    ensures { Reads (hue_move_at line.now at) result.value result.at }
 {
     let modes = enums::move_mode(line, at);
     let direction = modes.value;
@@ -103,7 +103,7 @@ fn hue_move(line: &[u8], at: usize) -> TaskRead
 }
 
 fn saturation_move(line: &[u8], at: usize) -> TaskRead
-    ensures { Reads (saturationMoveAt line.now at) result.value result.at }
+    ensures { Reads (saturation_move_at line.now at) result.value result.at }
 {
     let modes = enums::move_mode(line, at);
     let direction = modes.value;
@@ -118,7 +118,7 @@ fn saturation_move(line: &[u8], at: usize) -> TaskRead
 }
 
 fn mireds_to(line: &[u8], at: usize) -> TaskRead
-    ensures { Reads (miredsToAt line.now at) result.value result.at }
+    ensures { Reads (mireds_to_at line.now at) result.value result.at }
 {
     let target = numbers::number_16(line, at);
     let ms = numbers::number_32(line, target.at);
@@ -132,7 +132,7 @@ fn mireds_to(line: &[u8], at: usize) -> TaskRead
 }
 
 fn mireds_move(line: &[u8], at: usize) -> TaskRead
-    ensures { Reads (miredsMoveAt line.now at) result.value result.at }
+    ensures { Reads (mireds_move_at line.now at) result.value result.at }
 {
     let rate = numbers::signed(line, at);
     let min = numbers::number_16(line, rate.at);
@@ -148,7 +148,7 @@ fn mireds_move(line: &[u8], at: usize) -> TaskRead
 }
 
 fn color_loop(line: &[u8], at: usize) -> TaskRead
-    ensures { Reads (colorLoopAt line.now at) result.value result.at }
+    ensures { Reads (color_loop_at line.now at) result.value result.at }
 {
     let read = enums::loop_direction(line, at);
     let direction = read.value;
@@ -164,7 +164,7 @@ fn color_loop(line: &[u8], at: usize) -> TaskRead
 
 // The task whose name begins at `name`, with its numbers from `at` on.
 pub fn task(line: &[u8], name: usize, at: usize) -> TaskRead
-    ensures { Reads (taskAt line.now name at) result.value result.at }
+    ensures { Reads (task_at line.now name at) result.value result.at }
 {
     if words::is(line, name, b"move_to") {
         return move_to(line, at);

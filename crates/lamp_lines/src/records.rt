@@ -1,7 +1,7 @@
 // Reading a running record: its name, the clock and the initial values at its start, and its task's numbers.
 ghost use Rattle.std.specs.Prelude.{◌≡◌};
 ghost use Rattle.text.specs.Readers.{Reads};
-ghost use Rattle.lamp_lines.specs.Records.{at_start, recordOf, values_of, running_at};
+ghost use Rattle.lamp_lines.specs.Records.{at_start, record_of, values_of, running_at};
 
 use crate::moves;
 use tasks::{
@@ -11,14 +11,14 @@ use tasks::{
 use text::words::LOST;
 use text::{numbers, words};
 
-#[derive(Drop)]
+#[derive(Clone, Copy)]
 pub struct RecordRead {
     pub value: Running,
     pub at: usize,
 }
 
 // The clock at a start and the initial values: a hue or mireds, a saturation, or a hue and a saturation.
-#[derive(Drop)]
+#[derive(Clone, Copy)]
 struct Initial {
     start: u64,
     number: u16,
@@ -60,7 +60,7 @@ fn initial_values(line: &[u8], name: usize, at: usize) -> Initial
 // The record of a task. In a move of the color temperature, the limits that it runs between take the place of the
 // caller's.
 fn record(initial: Initial, task: Task) -> Running
-    ensures { result ≡ recordOf (values_of initial) task }
+    ensures { result ≡ record_of (values_of initial) task }
 {
     let start = initial.start;
     let number = initial.number;

@@ -6,8 +6,8 @@ use mathlib.Core.Path.{◌≡◌, refl, sym}
 use native.Mathlib.Omega.{arith}
 use lib.Dec.{eqb, leb}
 use borrow.Author.Tests.{eqb-true, leb-true, le-leb}
-use Rattle.matter.specs.All.{allTrue, all_from}
-use Rattle.matter.specs.Numbers.{caseNumbered, directionNumber, directionFound, moveModeNumber, moveModeFound, stepModeNumber, stepModeFound, loopActionNumber, loopActionFound, loopDirectionNumber, loopDirectionFound, colorModeNumber, colorModeFound, enhancedColorModeNumber, enhancedColorModeFound, onOffNumber, onOffFound}
+use Rattle.matter.specs.All.{all_true, all_from}
+use Rattle.matter.specs.Numbers.{case_numbered, direction_number, direction_found, move_mode_number, move_mode_found, step_mode_number, step_mode_found, loop_action_number, loop_action_found, loop_direction_number, loop_direction_found, color_mode_number, color_mode_found, enhanced_color_mode_number, enhanced_color_mode_found, on_off_number, on_off_found}
 use Rattle.matter.specs.declared.enums.DirectionEnum.{DirectionEnum}
 use Rattle.matter.specs.declared.enums.DirectionFound.{DirectionFound}
 use Rattle.matter.specs.declared.enums.MoveModeEnum.{MoveModeEnum}
@@ -69,8 +69,8 @@ from t (b ∷ bs) e =
     let r : ((t && b) ≡ true) × Each bs = from (t && b) bs e in
     (and_left t b r.0, (and_right t b r.0, r.1))
 
-pub each : (bs : List Bool) → allTrue bs ≡ true → Each bs
-unfolding allTrue
+pub each : (bs : List Bool) → all_true bs ≡ true → Each bs
+unfolding all_true
 each [] e = tt
 each (b ∷ bs) e = from b bs e
 
@@ -78,8 +78,8 @@ to : (t : Bool) (bs : List Bool) → t ≡ true → Each bs → all_from t bs �
 to t [] h e = h
 to t (b ∷ bs) h e = to (t && b) bs (rw (h, e.0)) e.1
 
-pub all_of : (bs : List Bool) → Each bs → allTrue bs ≡ true
-unfolding allTrue
+pub all_of : (bs : List Bool) → Each bs → all_true bs ≡ true
+unfolding all_true
 all_of [] e = refl
 all_of (b ∷ bs) e = to b bs e.0 e.1
 
@@ -94,48 +94,48 @@ module _ {A B : Type 0} (number : A → ℕ) (known : A → B) (none : B) (n : �
   pick x r true e l = found x (sym (eqb-true n (number x) e)) refl
   pick x r false e l = l
 
-  pub looked : (xs : List A) → Looked number known none n (caseNumbered number known none xs n)
+  pub looked : (xs : List A) → Looked number known none n (case_numbered number known none xs n)
   looked [] = missing refl
-  looked (x ∷ xs) = pick x (caseNumbered number known none xs n) (eqb n (number x)) refl (looked xs)
+  looked (x ∷ xs) = pick x (case_numbered number known none xs n) (eqb n (number x)) refl (looked xs)
 
 -- ---- every case is found by its number
 
-pub direction-back : (d : DirectionEnum) → directionFound (directionNumber d) ≡ DirectionFound.Known d
+pub direction-back : (d : DirectionEnum) → direction_found (direction_number d) ≡ DirectionFound.Known d
 direction-back DirectionEnum.Shortest = refl
 direction-back DirectionEnum.Longest = refl
 direction-back DirectionEnum.Up = refl
 direction-back DirectionEnum.Down = refl
 
-pub move-mode-back : (m : MoveModeEnum) → moveModeFound (moveModeNumber m) ≡ MoveModeFound.Known m
+pub move-mode-back : (m : MoveModeEnum) → move_mode_found (move_mode_number m) ≡ MoveModeFound.Known m
 move-mode-back MoveModeEnum.Stop = refl
 move-mode-back MoveModeEnum.Up = refl
 move-mode-back MoveModeEnum.Down = refl
 
-pub step-mode-back : (m : StepModeEnum) → stepModeFound (stepModeNumber m) ≡ StepModeFound.Known m
+pub step-mode-back : (m : StepModeEnum) → step_mode_found (step_mode_number m) ≡ StepModeFound.Known m
 step-mode-back StepModeEnum.Up = refl
 step-mode-back StepModeEnum.Down = refl
 
-pub loop-action-back : (a : ColorLoopActionEnum) → loopActionFound (loopActionNumber a) ≡ ColorLoopActionFound.Known a
+pub loop-action-back : (a : ColorLoopActionEnum) → loop_action_found (loop_action_number a) ≡ ColorLoopActionFound.Known a
 loop-action-back ColorLoopActionEnum.Deactivate = refl
 loop-action-back ColorLoopActionEnum.ActivateFromColorLoopStartEnhancedHue = refl
 loop-action-back ColorLoopActionEnum.ActivateFromEnhancedCurrentHue = refl
 
-pub loop-direction-back : (d : ColorLoopDirectionEnum) → loopDirectionFound (loopDirectionNumber d) ≡ ColorLoopDirectionFound.Known d
+pub loop-direction-back : (d : ColorLoopDirectionEnum) → loop_direction_found (loop_direction_number d) ≡ ColorLoopDirectionFound.Known d
 loop-direction-back ColorLoopDirectionEnum.Decrement = refl
 loop-direction-back ColorLoopDirectionEnum.Increment = refl
 
-pub color-mode-back : (m : ColorModeEnum) → colorModeFound (colorModeNumber m) ≡ ColorModeFound.Known m
+pub color-mode-back : (m : ColorModeEnum) → color_mode_found (color_mode_number m) ≡ ColorModeFound.Known m
 color-mode-back ColorModeEnum.CurrentHueAndCurrentSaturation = refl
 color-mode-back ColorModeEnum.CurrentXAndCurrentY = refl
 color-mode-back ColorModeEnum.ColorTemperatureMireds = refl
 
-pub enhanced-color-mode-back : (m : EnhancedColorModeEnum) → enhancedColorModeFound (enhancedColorModeNumber m) ≡ EnhancedColorModeFound.Known m
+pub enhanced-color-mode-back : (m : EnhancedColorModeEnum) → enhanced_color_mode_found (enhanced_color_mode_number m) ≡ EnhancedColorModeFound.Known m
 enhanced-color-mode-back EnhancedColorModeEnum.CurrentHueAndCurrentSaturation = refl
 enhanced-color-mode-back EnhancedColorModeEnum.CurrentXAndCurrentY = refl
 enhanced-color-mode-back EnhancedColorModeEnum.ColorTemperatureMireds = refl
 enhanced-color-mode-back EnhancedColorModeEnum.EnhancedCurrentHueAndCurrentSaturation = refl
 
-pub on-off-back : (o : OnOff) → onOffFound (onOffNumber o) ≡ OnOffFound.Known o
+pub on-off-back : (o : OnOff) → on_off_found (on_off_number o) ≡ OnOffFound.Known o
 on-off-back OnOff.Off = refl
 on-off-back OnOff.On = refl
 on-off-back OnOff.NoHandler = refl

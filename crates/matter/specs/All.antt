@@ -6,6 +6,6 @@ all_from t [] = t
 all_from t (b ∷ bs) = all_from (t && b) bs
 
 -- every test of the list holds
-unfoldable pub allTrue : List Bool → Bool
-allTrue [] = true
-allTrue (b ∷ bs) = all_from b bs
+unfoldable pub all_true : List Bool → Bool
+all_true [] = true
+all_true (b ∷ bs) = all_from b bs

@@ -2,38 +2,38 @@
 use Rattle.std.specs.Prelude.{ℕ, ◌/◌, ◌%◌, Bool, false, cond, eqb}
 
 -- whether a bitmap has a flag; none has the flag 0
-unfoldable pub hasFlag : ℕ → ℕ → Bool
-hasFlag bits flag = cond (eqb flag 0) false (eqb (bits / flag % 2) 1)
+unfoldable pub has_flag : ℕ → ℕ → Bool
+has_flag bits flag = cond (eqb flag 0) false (eqb (bits / flag % 2) 1)
 
 -- OptionsBitmap: bit 0
-abbrev pub executeIfOff : ℕ
-executeIfOff = 1
+abbrev pub execute_if_off : ℕ
+execute_if_off = 1
 
 -- UpdateFlagsBitmap: bits 0 to 3 ("bits 1, 2, 3; action is bit 0")
-abbrev pub updateAction : ℕ
-updateAction = 1
+abbrev pub update_action : ℕ
+update_action = 1
 
-abbrev pub updateDirection : ℕ
-updateDirection = 2
+abbrev pub update_direction : ℕ
+update_direction = 2
 
-abbrev pub updateTime : ℕ
-updateTime = 4
+abbrev pub update_time : ℕ
+update_time = 4
 
-abbrev pub updateStartHue : ℕ
-updateStartHue = 8
+abbrev pub update_start_hue : ℕ
+update_start_hue = 8
 
 -- Feature: bits 0 to 4
-abbrev pub hueAndSaturation : ℕ
-hueAndSaturation = 1
+abbrev pub hue_and_saturation : ℕ
+hue_and_saturation = 1
 
-abbrev pub enhancedHue : ℕ
-enhancedHue = 2
+abbrev pub enhanced_hue : ℕ
+enhanced_hue = 2
 
-abbrev pub colorLoop : ℕ
-colorLoop = 4
+abbrev pub color_loop : ℕ
+color_loop = 4
 
 abbrev pub xy : ℕ
 xy = 8
 
-abbrev pub colorTemperature : ℕ
-colorTemperature = 16
+abbrev pub color_temperature : ℕ
+color_temperature = 16

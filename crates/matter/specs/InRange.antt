@@ -33,8 +33,8 @@ InRangeCommand (Command.StepHue mode size time) = Byte size × Short time
 InRangeCommand (Command.MoveToSaturation saturation time) = Byte saturation × Short time
 InRangeCommand (Command.MoveSaturation mode rate) = Byte rate
 InRangeCommand (Command.StepSaturation mode size time) = Byte size × Short time
-InRangeCommand (Command.MoveToHueAndSaturation hue saturation time enhanced enhancedHue) =
-    Byte hue × Byte saturation × Short time × Short enhancedHue
+InRangeCommand (Command.MoveToHueAndSaturation hue saturation time enhanced enhanced_hue) =
+    Byte hue × Byte saturation × Short time × Short enhanced_hue
 InRangeCommand (Command.EnhancedMoveToHue hue direction time) = Short hue × Short time
 InRangeCommand (Command.EnhancedMoveHue mode rate) = Short rate
 InRangeCommand (Command.EnhancedStepHue mode size time) = Short size × Short time
@@ -42,8 +42,8 @@ InRangeCommand (Command.MoveToColorTemperature mireds time) = Short mireds × Sh
 InRangeCommand (Command.MoveColorTemperature mode rate min max) = Short rate × Short min × Short max
 InRangeCommand (Command.StepColorTemperature mode size time min max) =
     Short size × Short time × Short min × Short max
-InRangeCommand (Command.ColorLoopSet flags action direction time startHue) =
-    Byte flags × Short time × Short startHue
+InRangeCommand (Command.ColorLoopSet flags action direction time start_hue) =
+    Byte flags × Short time × Short start_hue
 InRangeCommand Command.StopMoveStep = Unit {0}
 
 pub record InRangeRequest (request : Request) : Type 0 where

@@ -19,111 +19,111 @@ use Rattle.matter.specs.declared.enums.OnOff.{OnOff}
 use Rattle.matter.specs.declared.enums.OnOffFound.{OnOffFound}
 
 -- the first of the cases whose number is n, or none
-abbrev pub caseNumbered : {A B : Type 0} → (A → ℕ) → (A → B) → B → List A → ℕ → B
-caseNumbered number known none [] n = none
-caseNumbered number known none (x ∷ xs) n = cond (eqb n (number x)) (known x) (caseNumbered number known none xs n)
+abbrev pub case_numbered : {A B : Type 0} → (A → ℕ) → (A → B) → B → List A → ℕ → B
+case_numbered number known none [] n = none
+case_numbered number known none (x ∷ xs) n = cond (eqb n (number x)) (known x) (case_numbered number known none xs n)
 
 -- DirectionEnum
-abbrev pub directionNumber : DirectionEnum → ℕ
-directionNumber DirectionEnum.Shortest = 0
-directionNumber DirectionEnum.Longest = 1
-directionNumber DirectionEnum.Up = 2
-directionNumber DirectionEnum.Down = 3
+abbrev pub direction_number : DirectionEnum → ℕ
+direction_number DirectionEnum.Shortest = 0
+direction_number DirectionEnum.Longest = 1
+direction_number DirectionEnum.Up = 2
+direction_number DirectionEnum.Down = 3
 
 abbrev pub directions : List DirectionEnum
 directions = DirectionEnum.Shortest ∷ DirectionEnum.Longest ∷ DirectionEnum.Up ∷ DirectionEnum.Down ∷ []
 
-abbrev pub directionFound : ℕ → DirectionFound
-directionFound n = caseNumbered directionNumber DirectionFound.Known DirectionFound.Reserved directions n
+abbrev pub direction_found : ℕ → DirectionFound
+direction_found n = case_numbered direction_number DirectionFound.Known DirectionFound.Reserved directions n
 
 -- MoveModeEnum
-abbrev pub moveModeNumber : MoveModeEnum → ℕ
-moveModeNumber MoveModeEnum.Stop = 0
-moveModeNumber MoveModeEnum.Up = 1
-moveModeNumber MoveModeEnum.Down = 3
+abbrev pub move_mode_number : MoveModeEnum → ℕ
+move_mode_number MoveModeEnum.Stop = 0
+move_mode_number MoveModeEnum.Up = 1
+move_mode_number MoveModeEnum.Down = 3
 
-abbrev pub moveModes : List MoveModeEnum
-moveModes = MoveModeEnum.Stop ∷ MoveModeEnum.Up ∷ MoveModeEnum.Down ∷ []
+abbrev pub move_modes : List MoveModeEnum
+move_modes = MoveModeEnum.Stop ∷ MoveModeEnum.Up ∷ MoveModeEnum.Down ∷ []
 
-abbrev pub moveModeFound : ℕ → MoveModeFound
-moveModeFound n = caseNumbered moveModeNumber MoveModeFound.Known MoveModeFound.Reserved moveModes n
+abbrev pub move_mode_found : ℕ → MoveModeFound
+move_mode_found n = case_numbered move_mode_number MoveModeFound.Known MoveModeFound.Reserved move_modes n
 
 -- StepModeEnum
-abbrev pub stepModeNumber : StepModeEnum → ℕ
-stepModeNumber StepModeEnum.Up = 1
-stepModeNumber StepModeEnum.Down = 3
+abbrev pub step_mode_number : StepModeEnum → ℕ
+step_mode_number StepModeEnum.Up = 1
+step_mode_number StepModeEnum.Down = 3
 
-abbrev pub stepModes : List StepModeEnum
-stepModes = StepModeEnum.Up ∷ StepModeEnum.Down ∷ []
+abbrev pub step_modes : List StepModeEnum
+step_modes = StepModeEnum.Up ∷ StepModeEnum.Down ∷ []
 
-abbrev pub stepModeFound : ℕ → StepModeFound
-stepModeFound n = caseNumbered stepModeNumber StepModeFound.Known StepModeFound.Reserved stepModes n
+abbrev pub step_mode_found : ℕ → StepModeFound
+step_mode_found n = case_numbered step_mode_number StepModeFound.Known StepModeFound.Reserved step_modes n
 
 -- ColorLoopActionEnum
-abbrev pub loopActionNumber : ColorLoopActionEnum → ℕ
-loopActionNumber ColorLoopActionEnum.Deactivate = 0
-loopActionNumber ColorLoopActionEnum.ActivateFromColorLoopStartEnhancedHue = 1
-loopActionNumber ColorLoopActionEnum.ActivateFromEnhancedCurrentHue = 2
+abbrev pub loop_action_number : ColorLoopActionEnum → ℕ
+loop_action_number ColorLoopActionEnum.Deactivate = 0
+loop_action_number ColorLoopActionEnum.ActivateFromColorLoopStartEnhancedHue = 1
+loop_action_number ColorLoopActionEnum.ActivateFromEnhancedCurrentHue = 2
 
-abbrev pub loopActions : List ColorLoopActionEnum
-loopActions =
+abbrev pub loop_actions : List ColorLoopActionEnum
+loop_actions =
     ColorLoopActionEnum.Deactivate ∷ ColorLoopActionEnum.ActivateFromColorLoopStartEnhancedHue
     ∷ ColorLoopActionEnum.ActivateFromEnhancedCurrentHue ∷ []
 
-abbrev pub loopActionFound : ℕ → ColorLoopActionFound
-loopActionFound n = caseNumbered loopActionNumber ColorLoopActionFound.Known ColorLoopActionFound.Reserved loopActions n
+abbrev pub loop_action_found : ℕ → ColorLoopActionFound
+loop_action_found n = case_numbered loop_action_number ColorLoopActionFound.Known ColorLoopActionFound.Reserved loop_actions n
 
 -- ColorLoopDirectionEnum
-abbrev pub loopDirectionNumber : ColorLoopDirectionEnum → ℕ
-loopDirectionNumber ColorLoopDirectionEnum.Decrement = 0
-loopDirectionNumber ColorLoopDirectionEnum.Increment = 1
+abbrev pub loop_direction_number : ColorLoopDirectionEnum → ℕ
+loop_direction_number ColorLoopDirectionEnum.Decrement = 0
+loop_direction_number ColorLoopDirectionEnum.Increment = 1
 
-abbrev pub loopDirections : List ColorLoopDirectionEnum
-loopDirections = ColorLoopDirectionEnum.Decrement ∷ ColorLoopDirectionEnum.Increment ∷ []
+abbrev pub loop_directions : List ColorLoopDirectionEnum
+loop_directions = ColorLoopDirectionEnum.Decrement ∷ ColorLoopDirectionEnum.Increment ∷ []
 
-abbrev pub loopDirectionFound : ℕ → ColorLoopDirectionFound
-loopDirectionFound n =
-    caseNumbered loopDirectionNumber ColorLoopDirectionFound.Known ColorLoopDirectionFound.Reserved loopDirections n
+abbrev pub loop_direction_found : ℕ → ColorLoopDirectionFound
+loop_direction_found n =
+    case_numbered loop_direction_number ColorLoopDirectionFound.Known ColorLoopDirectionFound.Reserved loop_directions n
 
 -- ColorModeEnum
-abbrev pub colorModeNumber : ColorModeEnum → ℕ
-colorModeNumber ColorModeEnum.CurrentHueAndCurrentSaturation = 0
-colorModeNumber ColorModeEnum.CurrentXAndCurrentY = 1
-colorModeNumber ColorModeEnum.ColorTemperatureMireds = 2
+abbrev pub color_mode_number : ColorModeEnum → ℕ
+color_mode_number ColorModeEnum.CurrentHueAndCurrentSaturation = 0
+color_mode_number ColorModeEnum.CurrentXAndCurrentY = 1
+color_mode_number ColorModeEnum.ColorTemperatureMireds = 2
 
-abbrev pub colorModes : List ColorModeEnum
-colorModes =
+abbrev pub color_modes : List ColorModeEnum
+color_modes =
     ColorModeEnum.CurrentHueAndCurrentSaturation ∷ ColorModeEnum.CurrentXAndCurrentY
     ∷ ColorModeEnum.ColorTemperatureMireds ∷ []
 
-abbrev pub colorModeFound : ℕ → ColorModeFound
-colorModeFound n = caseNumbered colorModeNumber ColorModeFound.Known ColorModeFound.Reserved colorModes n
+abbrev pub color_mode_found : ℕ → ColorModeFound
+color_mode_found n = case_numbered color_mode_number ColorModeFound.Known ColorModeFound.Reserved color_modes n
 
 -- EnhancedColorModeEnum
-abbrev pub enhancedColorModeNumber : EnhancedColorModeEnum → ℕ
-enhancedColorModeNumber EnhancedColorModeEnum.CurrentHueAndCurrentSaturation = 0
-enhancedColorModeNumber EnhancedColorModeEnum.CurrentXAndCurrentY = 1
-enhancedColorModeNumber EnhancedColorModeEnum.ColorTemperatureMireds = 2
-enhancedColorModeNumber EnhancedColorModeEnum.EnhancedCurrentHueAndCurrentSaturation = 3
+abbrev pub enhanced_color_mode_number : EnhancedColorModeEnum → ℕ
+enhanced_color_mode_number EnhancedColorModeEnum.CurrentHueAndCurrentSaturation = 0
+enhanced_color_mode_number EnhancedColorModeEnum.CurrentXAndCurrentY = 1
+enhanced_color_mode_number EnhancedColorModeEnum.ColorTemperatureMireds = 2
+enhanced_color_mode_number EnhancedColorModeEnum.EnhancedCurrentHueAndCurrentSaturation = 3
 
-abbrev pub enhancedColorModes : List EnhancedColorModeEnum
-enhancedColorModes =
+abbrev pub enhanced_color_modes : List EnhancedColorModeEnum
+enhanced_color_modes =
     EnhancedColorModeEnum.CurrentHueAndCurrentSaturation ∷ EnhancedColorModeEnum.CurrentXAndCurrentY
     ∷ EnhancedColorModeEnum.ColorTemperatureMireds ∷ EnhancedColorModeEnum.EnhancedCurrentHueAndCurrentSaturation ∷ []
 
-abbrev pub enhancedColorModeFound : ℕ → EnhancedColorModeFound
-enhancedColorModeFound n =
-    caseNumbered enhancedColorModeNumber EnhancedColorModeFound.Known EnhancedColorModeFound.Reserved
-    enhancedColorModes n
+abbrev pub enhanced_color_mode_found : ℕ → EnhancedColorModeFound
+enhanced_color_mode_found n =
+    case_numbered enhanced_color_mode_number EnhancedColorModeFound.Known EnhancedColorModeFound.Reserved
+    enhanced_color_modes n
 
 -- OnOff: the on/off attribute's numbers, and 2 where there is no on/off cluster (ours)
-abbrev pub onOffNumber : OnOff → ℕ
-onOffNumber OnOff.Off = 0
-onOffNumber OnOff.On = 1
-onOffNumber OnOff.NoHandler = 2
+abbrev pub on_off_number : OnOff → ℕ
+on_off_number OnOff.Off = 0
+on_off_number OnOff.On = 1
+on_off_number OnOff.NoHandler = 2
 
-abbrev pub onOffs : List OnOff
-onOffs = OnOff.Off ∷ OnOff.On ∷ OnOff.NoHandler ∷ []
+abbrev pub on_offs : List OnOff
+on_offs = OnOff.Off ∷ OnOff.On ∷ OnOff.NoHandler ∷ []
 
-abbrev pub onOffFound : ℕ → OnOffFound
-onOffFound n = caseNumbered onOffNumber OnOffFound.Known OnOffFound.Reserved onOffs n
+abbrev pub on_off_found : ℕ → OnOffFound
+on_off_found n = case_numbered on_off_number OnOffFound.Known OnOffFound.Reserved on_offs n

@@ -12,5 +12,5 @@ abbrev pub options : ℕ → ℕ → CommandOptions
 options mask overrides = record { mask = mask; overrides = overrides }
 
 -- neither bit set
-abbrev pub noOptions : CommandOptions
-noOptions = options 0 0
+abbrev pub no_options : CommandOptions
+no_options = options 0 0

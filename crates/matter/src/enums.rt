@@ -2,11 +2,11 @@
 // number that no case has is reserved.
 // Carried over from project-chip/rs-matter, commit 43f61585a4 (Apache-2.0, see NOTICE), and changed.
 ghost use Rattle.std.specs.Prelude.{◌≡◌};
-ghost use Rattle.matter.specs.Rules.{signed, colorModeOf};
-ghost use Rattle.matter.specs.Numbers.{directionNumber, directionFound, moveModeNumber, moveModeFound, stepModeNumber, stepModeFound, loopActionNumber, loopActionFound, loopDirectionNumber, loopDirectionFound, colorModeNumber, colorModeFound, enhancedColorModeNumber, enhancedColorModeFound, onOffNumber, onOffFound};
+ghost use Rattle.matter.specs.Rules.{signed, color_mode_of};
+ghost use Rattle.matter.specs.Numbers.{direction_number, direction_found, move_mode_number, move_mode_found, step_mode_number, step_mode_found, loop_action_number, loop_action_found, loop_direction_number, loop_direction_found, color_mode_number, color_mode_found, enhanced_color_mode_number, enhanced_color_mode_found, on_off_number, on_off_found};
 
 // Which way round the circle of hues a move-to goes.
-#[derive(Drop)]
+#[derive(Clone, Copy)]
 pub enum DirectionEnum {
     Shortest,
     Longest,
@@ -14,7 +14,7 @@ pub enum DirectionEnum {
     Down,
 }
 
-#[derive(Drop)]
+#[derive(Clone, Copy)]
 pub enum DirectionFound {
     Known(DirectionEnum),
     Reserved,
@@ -22,7 +22,7 @@ pub enum DirectionFound {
 
 impl DirectionEnum {
     pub fn number(self) -> u8
-        ensures { result ≡ directionNumber self }
+        ensures { result ≡ direction_number self }
     {
         match self {
             DirectionEnum::Shortest => 0,
@@ -33,7 +33,7 @@ impl DirectionEnum {
     }
 
     pub fn of_number(n: u8) -> DirectionFound
-        ensures { result ≡ directionFound n }
+        ensures { result ≡ direction_found n }
     {
         if n == 0 {
             return DirectionFound::Known(DirectionEnum::Shortest);
@@ -52,14 +52,14 @@ impl DirectionEnum {
 }
 
 // What a move at a rate does: stop, or go up or down.
-#[derive(Drop)]
+#[derive(Clone, Copy)]
 pub enum MoveModeEnum {
     Stop,
     Up,
     Down,
 }
 
-#[derive(Drop)]
+#[derive(Clone, Copy)]
 pub enum MoveModeFound {
     Known(MoveModeEnum),
     Reserved,
@@ -78,7 +78,7 @@ impl MoveModeEnum {
     }
 
     pub fn number(self) -> u8
-        ensures { result ≡ moveModeNumber self }
+        ensures { result ≡ move_mode_number self }
     {
         match self {
             MoveModeEnum::Stop => 0,
@@ -88,7 +88,7 @@ impl MoveModeEnum {
     }
 
     pub fn of_number(n: u8) -> MoveModeFound
-        ensures { result ≡ moveModeFound n }
+        ensures { result ≡ move_mode_found n }
     {
         if n == 0 {
             return MoveModeFound::Known(MoveModeEnum::Stop);
@@ -104,13 +104,13 @@ impl MoveModeEnum {
 }
 
 // Which way a step goes.
-#[derive(Drop)]
+#[derive(Clone, Copy)]
 pub enum StepModeEnum {
     Up,
     Down,
 }
 
-#[derive(Drop)]
+#[derive(Clone, Copy)]
 pub enum StepModeFound {
     Known(StepModeEnum),
     Reserved,
@@ -118,7 +118,7 @@ pub enum StepModeFound {
 
 impl StepModeEnum {
     pub fn number(self) -> u8
-        ensures { result ≡ stepModeNumber self }
+        ensures { result ≡ step_mode_number self }
     {
         match self {
             StepModeEnum::Up => 1,
@@ -127,7 +127,7 @@ impl StepModeEnum {
     }
 
     pub fn of_number(n: u8) -> StepModeFound
-        ensures { result ≡ stepModeFound n }
+        ensures { result ≡ step_mode_found n }
     {
         if n == 1 {
             return StepModeFound::Known(StepModeEnum::Up);
@@ -140,14 +140,14 @@ impl StepModeEnum {
 }
 
 // What the colour-loop command does with the loop.
-#[derive(Drop)]
+#[derive(Clone, Copy)]
 pub enum ColorLoopActionEnum {
     Deactivate,
     ActivateFromColorLoopStartEnhancedHue,
     ActivateFromEnhancedCurrentHue,
 }
 
-#[derive(Drop)]
+#[derive(Clone, Copy)]
 pub enum ColorLoopActionFound {
     Known(ColorLoopActionEnum),
     Reserved,
@@ -155,7 +155,7 @@ pub enum ColorLoopActionFound {
 
 impl ColorLoopActionEnum {
     pub fn number(self) -> u8
-        ensures { result ≡ loopActionNumber self }
+        ensures { result ≡ loop_action_number self }
     {
         match self {
             ColorLoopActionEnum::Deactivate => 0,
@@ -165,7 +165,7 @@ impl ColorLoopActionEnum {
     }
 
     pub fn of_number(n: u8) -> ColorLoopActionFound
-        ensures { result ≡ loopActionFound n }
+        ensures { result ≡ loop_action_found n }
     {
         if n == 0 {
             return ColorLoopActionFound::Known(ColorLoopActionEnum::Deactivate);
@@ -183,13 +183,13 @@ impl ColorLoopActionEnum {
 }
 
 // Which way the colour loop turns.
-#[derive(Drop)]
+#[derive(Clone, Copy)]
 pub enum ColorLoopDirectionEnum {
     Decrement,
     Increment,
 }
 
-#[derive(Drop)]
+#[derive(Clone, Copy)]
 pub enum ColorLoopDirectionFound {
     Known(ColorLoopDirectionEnum),
     Reserved,
@@ -197,7 +197,7 @@ pub enum ColorLoopDirectionFound {
 
 impl ColorLoopDirectionEnum {
     pub fn number(self) -> u8
-        ensures { result ≡ loopDirectionNumber self }
+        ensures { result ≡ loop_direction_number self }
     {
         match self {
             ColorLoopDirectionEnum::Decrement => 0,
@@ -206,7 +206,7 @@ impl ColorLoopDirectionEnum {
     }
 
     pub fn of_number(n: u8) -> ColorLoopDirectionFound
-        ensures { result ≡ loopDirectionFound n }
+        ensures { result ≡ loop_direction_found n }
     {
         if n == 0 {
             return ColorLoopDirectionFound::Known(ColorLoopDirectionEnum::Decrement);
@@ -219,14 +219,14 @@ impl ColorLoopDirectionEnum {
 }
 
 // Which attributes the colour is read from.
-#[derive(Drop)]
+#[derive(Clone, Copy)]
 pub enum ColorModeEnum {
     CurrentHueAndCurrentSaturation,
     CurrentXAndCurrentY,
     ColorTemperatureMireds,
 }
 
-#[derive(Drop)]
+#[derive(Clone, Copy)]
 pub enum ColorModeFound {
     Known(ColorModeEnum),
     Reserved,
@@ -234,7 +234,7 @@ pub enum ColorModeFound {
 
 impl ColorModeEnum {
     pub fn number(self) -> u8
-        ensures { result ≡ colorModeNumber self }
+        ensures { result ≡ color_mode_number self }
     {
         match self {
             ColorModeEnum::CurrentHueAndCurrentSaturation => 0,
@@ -244,7 +244,7 @@ impl ColorModeEnum {
     }
 
     pub fn of_number(n: u8) -> ColorModeFound
-        ensures { result ≡ colorModeFound n }
+        ensures { result ≡ color_mode_found n }
     {
         if n == 0 {
             return ColorModeFound::Known(ColorModeEnum::CurrentHueAndCurrentSaturation);
@@ -260,7 +260,7 @@ impl ColorModeEnum {
 }
 
 // ColorModeEnum, and the enhanced hue.
-#[derive(Drop)]
+#[derive(Clone, Copy)]
 pub enum EnhancedColorModeEnum {
     CurrentHueAndCurrentSaturation,
     CurrentXAndCurrentY,
@@ -268,7 +268,7 @@ pub enum EnhancedColorModeEnum {
     EnhancedCurrentHueAndCurrentSaturation,
 }
 
-#[derive(Drop)]
+#[derive(Clone, Copy)]
 pub enum EnhancedColorModeFound {
     Known(EnhancedColorModeEnum),
     Reserved,
@@ -276,7 +276,7 @@ pub enum EnhancedColorModeFound {
 
 impl EnhancedColorModeEnum {
     pub fn number(self) -> u8
-        ensures { result ≡ enhancedColorModeNumber self }
+        ensures { result ≡ enhanced_color_mode_number self }
     {
         match self {
             EnhancedColorModeEnum::CurrentHueAndCurrentSaturation => 0,
@@ -287,7 +287,7 @@ impl EnhancedColorModeEnum {
     }
 
     pub fn of_number(n: u8) -> EnhancedColorModeFound
-        ensures { result ≡ enhancedColorModeFound n }
+        ensures { result ≡ enhanced_color_mode_found n }
     {
         if n == 0 {
             return EnhancedColorModeFound::Known(
@@ -310,14 +310,14 @@ impl EnhancedColorModeEnum {
 }
 
 // What the on/off cluster beside the lamp says: off, on, or that there is none.
-#[derive(Drop)]
+#[derive(Clone, Copy)]
 pub enum OnOff {
     Off,
     On,
     NoHandler,
 }
 
-#[derive(Drop)]
+#[derive(Clone, Copy)]
 pub enum OnOffFound {
     Known(OnOff),
     Reserved,
@@ -325,7 +325,7 @@ pub enum OnOffFound {
 
 impl OnOff {
     pub fn number(self) -> u8
-        ensures { result ≡ onOffNumber self }
+        ensures { result ≡ on_off_number self }
     {
         match self {
             OnOff::Off => 0,
@@ -335,7 +335,7 @@ impl OnOff {
     }
 
     pub fn of_number(n: u8) -> OnOffFound
-        ensures { result ≡ onOffFound n }
+        ensures { result ≡ on_off_found n }
     {
         if n == 0 {
             return OnOffFound::Known(OnOff::Off);
@@ -352,7 +352,7 @@ impl OnOff {
 
 // The ColorMode that matches an EnhancedColorMode.
 pub fn color_mode_of(mode: EnhancedColorModeEnum) -> ColorModeEnum
-    ensures { result ≡ colorModeOf mode }
+    ensures { result ≡ color_mode_of mode }
 {
     match mode {
         EnhancedColorModeEnum::CurrentHueAndCurrentSaturation => {

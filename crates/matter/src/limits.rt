@@ -6,7 +6,7 @@ ghost use Rattle.matter.specs.Bounds.{lower, upper};
 pub const CLOCK_LIMIT: u64 = 1_099_511_627_776;
 
 // The physical bounds of the mireds.
-#[derive(Drop)]
+#[derive(Clone, Copy)]
 pub struct Bounds {
     pub min: u16,
     pub max: u16,

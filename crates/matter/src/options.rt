@@ -1,8 +1,8 @@
 // The cluster's bitmaps (OptionsBitmap, UpdateFlagsBitmap, Feature) and what is decided by them.
 // Carried over from project-chip/rs-matter, commit 43f61585a4 (Apache-2.0, see NOTICE), and changed.
 ghost use Rattle.std.specs.Prelude.{◌≡◌};
-ghost use Rattle.matter.specs.Flags.{hasFlag};
-ghost use Rattle.matter.specs.Rules.{mayExecute, defaultColorMode};
+ghost use Rattle.matter.specs.Flags.{has_flag};
+ghost use Rattle.matter.specs.Rules.{may_execute, default_color_mode};
 
 use crate::enums::{EnhancedColorModeEnum, OnOff};
 
@@ -29,7 +29,7 @@ pub const COLOR_TEMPERATURE: u32 = 16;
 
 // Whether a bitmap has a flag, which is a power of two. No bitmap has the flag 0.
 pub fn contains(bits: u32, flag: u32) -> bool
-    ensures { result ≡ hasFlag bits flag }
+    ensures { result ≡ has_flag bits flag }
 {
     if flag == 0 {
         return false;
@@ -40,7 +40,7 @@ pub fn contains(bits: u32, flag: u32) -> bool
 // Whether a command may execute: without an on/off cluster, or on, always. Off: ExecuteIfOff of the override where the mask has it,
 // else of the lamp's own options.
 pub fn should_continue(on_off: OnOff, options: u8, options_mask: u8, options_override: u8) -> bool
-    ensures { result ≡ mayExecute on_off options options_mask options_override }
+    ensures { result ≡ may_execute on_off options options_mask options_override }
 {
     match on_off {
         OnOff::NoHandler => true,
@@ -57,7 +57,7 @@ pub fn should_continue(on_off: OnOff, options: u8, options_mask: u8, options_ove
 
 // The first colour mode that the features have, in the order XY, hue and saturation, mireds; XY where they have none.
 pub fn default_color_mode(feature_map: u32) -> EnhancedColorModeEnum
-    ensures { result ≡ defaultColorMode feature_map }
+    ensures { result ≡ default_color_mode feature_map }
 {
     if contains(feature_map, XY) {
         return EnhancedColorModeEnum::CurrentXAndCurrentY;

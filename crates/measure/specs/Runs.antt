@@ -3,16 +3,16 @@ use Rattle.std.specs.Prelude.{ℕ, zero, suc, ◌*◌, ◌/◌, List, length, ta
 use Rattle.lamp.specs.declared.Lamp.{Lamp}
 use Rattle.lamp.specs.declared.Answer.{Answer}
 use Rattle.measure.specs.declared.Ran.{Ran}
-use Rattle.exports.specs.Lamps.{lampOf}
+use Rattle.exports.specs.Lamps.{lamp_of}
 use Rattle.exports.specs.Calls.{sent}
-use Rattle.measure.specs.Sums.{answerAdded}
+use Rattle.measure.specs.Sums.{answer_added}
 
 -- the words of the call k
 abbrev pub call_at : List ℕ → ℕ → List ℕ
 call_at calls k = take 10 (drop (k * 10) calls)
 
 abbrev pub after : Ran → Answer → Ran
-after r a = record { lamp = a.lamp; sums = answerAdded r.sums a }
+after r a = record { lamp = a.lamp; sums = answer_added r.sums a }
 
 -- the lamp and the sums after the first k calls
 unfoldable pub ran : Lamp → List ℕ → ℕ → Ran
@@ -20,9 +20,9 @@ ran l calls zero = record { lamp = l; sums = record { a = 0; b = 0 } }
 ran l calls (suc k) = after (ran l calls k) (sent (ran l calls k).lamp (call_at calls k))
 
 -- after all of them; words at the end that make no whole call are skipped
-abbrev pub ranAll : Lamp → List ℕ → Ran
-ranAll l calls = ran l calls (length calls / 10)
+abbrev pub ran_all : Lamp → List ℕ → Ran
+ran_all l calls = ran l calls (length calls / 10)
 
 -- the checksum over the answers to the calls, from a lamp in words
 abbrev pub checksum : List ℕ → List ℕ → ℕ
-checksum w calls = (ranAll (lampOf w) calls).sums.b
+checksum w calls = (ran_all (lamp_of w) calls).sums.b

@@ -2,21 +2,21 @@
 mod sums;
 
 ghost use Rattle.std.specs.Prelude.{◌≡◌};
-ghost use Rattle.measure.specs.Runs.{ranAll, checksum};
+ghost use Rattle.measure.specs.Runs.{ran_all, checksum};
 
 use exports::{CALL_WORDS, lamp_of, sent};
 use lamp::Lamp;
 use sums::Sums;
 
 // A lamp and the sums so far.
-#[derive(Drop)]
+#[derive(Clone, Copy)]
 pub struct Ran {
     pub lamp: Lamp,
     pub sums: Sums,
 }
 
 fn run(lamp: Lamp, calls: &[u64]) -> Ran
-    ensures { result ≡ ranAll lamp calls.now }
+    ensures { result ≡ ran_all lamp calls.now }
 {
     let mut now = lamp;
     let mut sums = Sums { a: 0, b: 0 };

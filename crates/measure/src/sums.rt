@@ -1,9 +1,9 @@
 // A checksum over the numbers of answers: two sums that wrap at 64 bits, the second one of the first's values, so that the
 // order counts.
 ghost use Rattle.std.specs.Prelude.{◌≡◌};
-ghost use Rattle.exports.specs.Lamps.{colorWords, loopingWords, taskWords, recordWords, lampWords};
-ghost use Rattle.exports.specs.Answers.{placeWords};
-ghost use Rattle.measure.specs.Sums.{added, addedAll, answerAdded};
+ghost use Rattle.exports.specs.Lamps.{color_words, looping_words, task_words, record_words, lamp_words};
+ghost use Rattle.exports.specs.Answers.{place_words};
+ghost use Rattle.measure.specs.Sums.{added, added_all, answer_added};
 
 use color::Color;
 use exports::{RecordNumbers, TaskNumbers, of_flag, of_given, of_running, place};
@@ -11,7 +11,7 @@ use lamp::{Answer, Lamp, LoopSettings};
 use notices::Notices;
 use std::num::wrapping_add_u64;
 
-#[derive(Drop)]
+#[derive(Clone, Copy)]
 pub struct Sums {
     pub a: u64,
     pub b: u64,
@@ -29,7 +29,7 @@ impl Sums {
     }
 
     fn add_color(self, color: Color) -> Sums
-        ensures { result ≡ addedAll self (colorWords color) }
+        ensures { result ≡ added_all self (color_words color) }
     {
         let stamps = color.stamps;
         let mode = color.mode;
@@ -45,7 +45,7 @@ impl Sums {
     }
 
     fn add_looping(self, looping: LoopSettings) -> Sums
-        ensures { result ≡ addedAll self (loopingWords looping) }
+        ensures { result ≡ added_all self (looping_words looping) }
     {
         let direction = looping.direction;
         self.add(of_flag(looping.active))
@@ -56,7 +56,7 @@ impl Sums {
     }
 
     fn add_task(self, task: TaskNumbers) -> Sums
-        ensures { result ≡ addedAll self (taskWords task) }
+        ensures { result ≡ added_all self (task_words task) }
     {
         self.add(task.kind)
             .add(task.a)
@@ -68,7 +68,7 @@ impl Sums {
     }
 
     fn add_record(self, record: RecordNumbers) -> Sums
-        ensures { result ≡ addedAll self (recordWords «record») }
+        ensures { result ≡ added_all self (record_words «record») }
     {
         let task = record.task;
         self.add(record.start)
@@ -78,7 +78,7 @@ impl Sums {
     }
 
     fn add_lamp(self, lamp: Lamp) -> Sums
-        ensures { result ≡ addedAll self (lampWords lamp) }
+        ensures { result ≡ added_all self (lamp_words lamp) }
     {
         let remaining = lamp.remaining;
         let color = lamp.color;
@@ -95,7 +95,7 @@ impl Sums {
     }
 
     fn add_notices(self, notices: Notices) -> Sums
-        ensures { result ≡ addedAll self (placeWords notices) }
+        ensures { result ≡ added_all self (place_words notices) }
     {
         let p = notices.places;
         self.add(place(p, 0))
@@ -117,7 +117,7 @@ impl Sums {
     }
 
     pub(crate) fn add_answer(self, answer: Answer) -> Sums
-        ensures { result ≡ answerAdded self answer }
+        ensures { result ≡ answer_added self answer }
     {
         let lamp = answer.lamp;
         let notices = answer.notices;

@@ -5,7 +5,7 @@ use lib.Arith.{mod-mul}
 use Rattle.notices.specs.declared.Notices.{Notices}
 use Rattle.notices.specs.declared.Numeral.{Numeral}
 use Rattle.notices.specs.Notices.{only, filled, noted}
-use Rattle.notices.specs.Numerals.{last, empty, consed, inFront, digits, placed}
+use Rattle.notices.specs.Numerals.{last, empty, consed, in_front, digits, placed}
 
 -- every number is below a bound
 pub data Below (bound : ℕ) : List ℕ → Type 0 where
@@ -45,8 +45,8 @@ abbrev pub Bytes : List ℕ → Type 0
 Bytes xs = Below 256 xs
 
 -- one list in front of another is the two in front
-pub in-front-append : (xs ys : List ℕ) (l : Numeral) → inFront xs (inFront ys l) ≡ inFront (xs ++ ys) l
-unfolding inFront
+pub in-front-append : (xs ys : List ℕ) (l : Numeral) → in_front xs (in_front ys l) ≡ in_front (xs ++ ys) l
+unfolding in_front
 in-front-append [] ys l = refl
 in-front-append (x ∷ xs) ys l = ap (λ m. consed m x) (in-front-append xs ys l)
 
@@ -143,11 +143,11 @@ built-more xs l x b small h =
     in
     record { low = omega arith; high = omega arith; same = rw (places, sum) }
 
-built : (xs : List ℕ) → Bytes xs → length xs ≤ 16 → Built xs (inFront xs empty)
-unfolding inFront placed digits filled
+built : (xs : List ℕ) → Bytes xs → length xs ≤ 16 → Built xs (in_front xs empty)
+unfolding in_front placed digits filled
 built [] b h = record { low = omega arith; high = omega arith; same = refl }
-built (x ∷ xs) (more small b) h = built-more xs (inFront xs empty) x (built xs b (omega arith)) small (omega arith)
+built (x ∷ xs) (more small b) h = built-more xs (in_front xs empty) x (built xs b (omega arith)) small (omega arith)
 
 -- a list of bytes that has room, built and then placed
-pub placed-noted : (xs : List ℕ) → Bytes xs → length xs ≤ 16 → placed (inFront xs empty) ≡ noted xs
+pub placed-noted : (xs : List ℕ) → Bytes xs → length xs ≤ 16 → placed (in_front xs empty) ≡ noted xs
 placed-noted xs b h = (built xs b h).same

@@ -38,25 +38,25 @@ abbrev pub ColorLoopStoredEnhancedHue : ℕ
 ColorLoopStoredEnhancedHue = 12
 
 -- persistence marked dirty
-abbrev pub markedDirty : ℕ
-markedDirty = 13
+abbrev pub marked_dirty : ℕ
+marked_dirty = 13
 
 -- scenes reported
-abbrev pub scenesNotified : ℕ
-scenesNotified = 14
+abbrev pub scenes_notified : ℕ
+scenes_notified = 14
 
 -- device written with hue and saturation
-abbrev pub deviceHueSaturation : ℕ
-deviceHueSaturation = 15
+abbrev pub device_hue_saturation : ℕ
+device_hue_saturation = 15
 
 -- device written with mireds
-abbrev pub deviceMireds : ℕ
-deviceMireds = 16
+abbrev pub device_mireds : ℕ
+device_mireds = 16
 
 -- a task given
-abbrev pub taskGiven : ℕ
-taskGiven = 17
+abbrev pub task_given : ℕ
+task_given = 17
 
 -- document 02, A.6: the hue of the task given goes half the circle, and the other way round is as long
-abbrev pub hueTie : ℕ
-hueTie = 18
+abbrev pub hue_tie : ℕ
+hue_tie = 18

@@ -21,9 +21,9 @@ consed l number =
     }
 
 -- the notices of a list in front
-unfoldable pub inFront : List ℕ → Numeral → Numeral
-inFront [] l = l
-inFront (x ∷ xs) l = consed (inFront xs l) x
+unfoldable pub in_front : List ℕ → Numeral → Numeral
+in_front [] l = l
+in_front (x ∷ xs) l = consed (in_front xs l) x
 
 -- so many digits of a word, the lowest first
 unfoldable pub digits : ℕ → ℕ → List ℕ

@@ -1,7 +1,7 @@
 // What a call reports, in the order in which it comes: a list of notice numbers in sixteen places, unused places 0.
 ghost use Rattle.std.specs.Prelude.{◌≡◌, []};
 ghost use Rattle.notices.specs.Notices.{only, noted};
-ghost use Rattle.notices.specs.Numerals.{empty, consed, inFront, placed};
+ghost use Rattle.notices.specs.Numerals.{empty, consed, in_front, placed};
 
 use std::num::wrapping_add_usize;
 
@@ -43,7 +43,7 @@ pub const TASK_GIVEN: u8 = 17;
 // Document 02's: the hue of the task given goes half the circle, and the other way round is as long.
 pub const HUE_TIE: u8 = 18;
 
-#[derive(Drop)]
+#[derive(Clone, Copy)]
 pub struct Notices {
     pub places: [u8; 16],
     pub len: usize,
@@ -67,7 +67,7 @@ const LAST: u64 = 72057594037927936;
 
 // A list while it is built, from its last notice to its first: a numeral of sixteen digits of a byte, the first notice the
 // lowest, in two words.
-#[derive(Drop)]
+#[derive(Clone, Copy)]
 pub struct Numeral {
     pub low: u64,
     pub high: u64,
@@ -98,7 +98,7 @@ impl Numeral {
 
     // A notice in front where the test holds.
     pub fn cons_if(self, test: bool, number: u8) -> Self
-        ensures { result ≡ inFront (only test number) self }
+        ensures { result ≡ in_front (only test number) self }
     {
         if test { self.cons(number) } else { self }
     }

@@ -14,44 +14,44 @@ use borrow.Author.Tests.{leb-true, leb-false, ltb-false, ne_eqb, le-leb, lt-leb,
 use Rattle.integers.proofs.Sizes.{abs-mul, abs-quot}
 use Rattle.integers.proofs.Signs.{neg-mul, neg-quot}
 use Rattle.matter.specs.declared.enums.ColorLoopDirectionEnum.{ColorLoopDirectionEnum}
-use Rattle.matter.specs.Limits.{clockLimit}
-use Rattle.progress.specs.Progress.{permilleOf, limited, part_of, deltaAtRate, loopMs, snapped, loopTurn, loopDelta, tenthsOf, clamp}
+use Rattle.matter.specs.Limits.{clock_limit}
+use Rattle.progress.specs.Progress.{permille_of, limited, part_of, delta_at_rate, loop_ms, snapped, loop_turn, loop_delta, tenths_of, clamp}
 
 -- ---- sums of the document
 
 -- K5: way 65,280, time 7000, elapsed 3000
-k5 : part_of (pos 65280) (permilleOf 3000 7000) ≡ pos 27939
-unfolding permilleOf
+k5 : part_of (pos 65280) (permille_of 3000 7000) ≡ pos 27939
+unfolding permille_of
 k5 = refl
 
 -- K6: way -97, time 1000, elapsed 500: toward zero
-k6 : part_of (neg_ℤ (pos 97)) (permilleOf 500 1000) ≡ neg_ℤ (pos 48)
-unfolding permilleOf
+k6 : part_of (neg_ℤ (pos 97)) (permille_of 500 1000) ≡ neg_ℤ (pos 48)
+unfolding permille_of
 k6 = refl
 
 -- K9: a loop of a second, up
-k9 : map (λ e. loopDelta ColorLoopDirectionEnum.Increment e 1) (994 ∷ 995 ∷ 1005 ∷ 1006 ∷ 5 ∷ []) ≡ pos 65142 ∷ pos 65536 ∷ pos 65536 ∷ pos 65929 ∷ pos 327 ∷ []
-unfolding loopTurn snapped
+k9 : map (λ e. loop_delta ColorLoopDirectionEnum.Increment e 1) (994 ∷ 995 ∷ 1005 ∷ 1006 ∷ 5 ∷ []) ≡ pos 65142 ∷ pos 65536 ∷ pos 65536 ∷ pos 65929 ∷ pos 327 ∷ []
+unfolding loop_turn snapped
 k9 = refl
 
 -- K10: and down
-k10 : loopDelta ColorLoopDirectionEnum.Decrement 1 1 ≡ neg_ℤ (pos 65)
-unfolding loopTurn snapped
+k10 : loop_delta ColorLoopDirectionEnum.Decrement 1 1 ≡ neg_ℤ (pos 65)
+unfolding loop_turn snapped
 k10 = refl
 
 -- K12: 100 a second, after 100 and 2500 milliseconds
-k12 : map (deltaAtRate (pos 100)) (100 ∷ 2500 ∷ []) ≡ pos 10 ∷ pos 250 ∷ []
+k12 : map (delta_at_rate (pos 100)) (100 ∷ 2500 ∷ []) ≡ pos 10 ∷ pos 250 ∷ []
 k12 = refl
 
 -- 1 a second at the limit of clocks, and past it
-rate-at-limit : map (deltaAtRate (pos 1)) (clockLimit ∷ (clockLimit + 1000) ∷ []) ≡ pos 1099511627 ∷ pos 1099511627 ∷ []
+rate-at-limit : map (delta_at_rate (pos 1)) (clock_limit ∷ (clock_limit + 1000) ∷ []) ≡ pos 1099511627 ∷ pos 1099511627 ∷ []
 rate-at-limit = refl
 
 -- ---- permille
 
 -- where there is time, the quotient, at most 1000
-pub permille-is : (e t : ℕ) → 0 < t → permilleOf e t ≡ min 1000 (e * 1000 / t)
-unfolding permilleOf
+pub permille-is : (e t : ℕ) → 0 < t → permille_of e t ≡ min 1000 (e * 1000 / t)
+unfolding permille_of
 permille-is e t h = rw (ne_eqb t 0 (λ z. omega arith))
 
 most : (b : Bool) (q : ℕ) → cond b 1000 (min 1000 q) ≤ 1000
@@ -59,24 +59,24 @@ most true q = omega arith
 most false q = omega arith
 
 -- never above 1000
-pub permille-most : (e t : ℕ) → permilleOf e t ≤ 1000
-unfolding permilleOf
+pub permille-most : (e t : ℕ) → permille_of e t ≤ 1000
+unfolding permille_of
 permille-most e t = most (eqb t 0) (e * 1000 / t)
 
 -- 1000 at the time and past it
-pub permille-full : (e t : ℕ) → t ≤ e → permilleOf e t ≡ 1000
-unfolding permilleOf
+pub permille-full : (e t : ℕ) → t ≤ e → permille_of e t ≡ 1000
+unfolding permille_of
 permille-full e zero h = refl
 permille-full e (suc t) h =
     permille-is e (suc t) (omega arith) ∙ omega (arith, (le-div_iff_mul-le {k = suc t} {x = 1000} {y = e * 1000} (omega arith)).1 (omega arith))
 
 -- and below 1000 before it
-pub permille-short : (e t : ℕ) → e < t → permilleOf e t < 1000
+pub permille-short : (e t : ℕ) → e < t → permille_of e t < 1000
 permille-short e t h =
     omega (arith, permille-is e t (omega arith), (div-lt_iff_lt-mul {k = t} {x = e * 1000} {y = 1000} (omega arith)).1 (omega arith))
 
 -- it grows with the elapsed time
-pub permille-grows : (e f t : ℕ) → e ≤ f → permilleOf e t ≤ permilleOf f t
+pub permille-grows : (e f t : ℕ) → e ≤ f → permille_of e t ≤ permille_of f t
 permille-grows e f zero h = omega (arith, permille-full e 0 (omega arith), permille-full f 0 (omega arith))
 permille-grows e f (suc t) h =
     omega
@@ -134,15 +134,15 @@ limited-same (negsuc n) h = rw (le-ltb 65534 n (omega arith))
 -- ---- tenths
 
 -- no shorter than the milliseconds
-pub tenths-enough : (ms : ℕ) → ms ≤ 100 * tenthsOf ms
+pub tenths-enough : (ms : ℕ) → ms ≤ 100 * tenths_of ms
 tenths-enough ms = omega arith
 
 -- and with one tenth less, shorter
-pub tenths-fewest : (ms : ℕ) → 100 * tenthsOf ms < ms + 100
+pub tenths-fewest : (ms : ℕ) → 100 * tenths_of ms < ms + 100
 tenths-fewest ms = omega arith
 
 -- a whole number of tenths is itself
-pub tenths-exact : (d : ℕ) → tenthsOf (100 * d) ≡ d
+pub tenths-exact : (d : ℕ) → tenths_of (100 * d) ≡ d
 tenths-exact d = omega arith
 
 -- ---- clamp
@@ -181,7 +181,7 @@ clamp-keeps lo hi n h k = clamp-between lo hi (pos n) (le-ltb n lo h) (le-ltb hi
 -- ---- the colour loop
 
 -- a turn of the loop takes time
-pub loop-takes-time : (seconds : ℕ) → 0 < loopMs seconds
+pub loop-takes-time : (seconds : ℕ) → 0 < loop_ms seconds
 loop-takes-time zero = omega arith
 loop-takes-time (suc n) = rw (ne_eqb (suc n) 0 (λ e. omega arith)) (omega arith)
 
@@ -232,8 +232,8 @@ snapped-grows a b h =
     (λ u k. snapped-by (λ t. a ≤ t) b (λ v. omega arith) (λ v w. ⊎_elim (λ x. omega arith) (λ x. omega arith) k) (λ v w. omega arith))
 
 -- the turn fits a signed number by far
-pub loop-turn-small : (elapsed seconds : ℕ) → loopTurn elapsed seconds < 2 ^ 57
-unfolding loopTurn
+pub loop-turn-small : (elapsed seconds : ℕ) → loop_turn elapsed seconds < 2 ^ 57
+unfolding loop_turn
 loop-turn-small elapsed seconds =
-    let raw = 65536 * min elapsed clockLimit / loopMs seconds in
-    omega (arith, (snapped-near raw).1, div-le_self (65536 * min elapsed clockLimit) (loopMs seconds))
+    let raw = 65536 * min elapsed clock_limit / loop_ms seconds in
+    omega (arith, (snapped-near raw).1, div-le_self (65536 * min elapsed clock_limit) (loop_ms seconds))

@@ -3,11 +3,11 @@
 use Rattle.std.specs.Prelude.{ℕ, ◌+◌, ◌-◌, ◌*◌, ◌/◌, ◌%◌, min, cond, ◌&&◌, leb, eqb, ℤ, pos, neg_ℤ, nat_abs, ◌+ℤ◌, ◌*ℤ◌}
 use Rattle.std.specs.Int.Signed.{quot_z, lt_z}
 use Rattle.matter.specs.declared.enums.ColorLoopDirectionEnum.{ColorLoopDirectionEnum}
-use Rattle.matter.specs.Limits.{clockLimit}
+use Rattle.matter.specs.Limits.{clock_limit}
 
 -- "permille = elapsed × 1000 / time, rounded down, at most 1000"; at time 0 the end is there at once
-unfoldable pub permilleOf : ℕ → ℕ → ℕ
-permilleOf elapsed time = cond (eqb time 0) 1000 (min 1000 (elapsed * 1000 / time))
+unfoldable pub permille_of : ℕ → ℕ → ℕ
+permille_of elapsed time = cond (eqb time 0) 1000 (min 1000 (elapsed * 1000 / time))
 
 -- no valid task has a way or a rate beyond ±65,535 (document 01, "Task out of form"): one beyond is read as that limit
 unfoldable pub limited : ℤ → ℤ
@@ -18,12 +18,12 @@ abbrev pub part_of : ℤ → ℕ → ℤ
 part_of way permille = quot_z (way *ℤ pos permille) (pos 1000)
 
 -- "Moves at a rate: rate × elapsed / 1000". An elapsed time past the limit of clocks is read as the limit
-abbrev pub deltaAtRate : ℤ → ℕ → ℤ
-deltaAtRate rate elapsed = quot_z (rate *ℤ pos (min elapsed clockLimit)) (pos 1000)
+abbrev pub delta_at_rate : ℤ → ℕ → ℤ
+delta_at_rate rate elapsed = quot_z (rate *ℤ pos (min elapsed clock_limit)) (pos 1000)
 
 -- a turn of the loop in milliseconds: "seconds × 1000", with "0 seconds read as 25"
-abbrev pub loopMs : ℕ → ℕ
-loopMs seconds = cond (eqb seconds 0) 25 seconds * 1000
+abbrev pub loop_ms : ℕ → ℕ
+loop_ms seconds = cond (eqb seconds 0) 25 seconds * 1000
 
 -- "With rem = |raw| modulo 65,536: at rem ≥ 65,152 the whole turn above is shown; at rem ≤ 384 and |raw| ≥ 65,536 the
 -- whole turn below"
@@ -34,35 +34,35 @@ snapped raw =
     raw)
 
 -- the loop's turn, without sign and unwrapped: "raw = ±65,536 × elapsed / (seconds × 1000)", snapped
-unfoldable pub loopTurn : ℕ → ℕ → ℕ
-loopTurn elapsed seconds = snapped (65536 * min elapsed clockLimit / loopMs seconds)
+unfoldable pub loop_turn : ℕ → ℕ → ℕ
+loop_turn elapsed seconds = snapped (65536 * min elapsed clock_limit / loop_ms seconds)
 
 -- the turn with its sign
 abbrev pub directed : ColorLoopDirectionEnum → ℕ → ℤ
 directed ColorLoopDirectionEnum.Increment turn = pos turn
 directed ColorLoopDirectionEnum.Decrement turn = neg_ℤ (pos turn)
 
-abbrev pub loopDelta : ColorLoopDirectionEnum → ℕ → ℕ → ℤ
-loopDelta direction elapsed seconds = directed direction (loopTurn elapsed seconds)
+abbrev pub loop_delta : ColorLoopDirectionEnum → ℕ → ℕ → ℤ
+loop_delta direction elapsed seconds = directed direction (loop_turn elapsed seconds)
 
 -- tenths of a second, rounded up: the fewest tenths that are no shorter
-abbrev pub tenthsOf : ℕ → ℕ
-tenthsOf ms = (ms + 99) / 100
+abbrev pub tenths_of : ℕ → ℕ
+tenths_of ms = (ms + 99) / 100
 
 -- an integer clamped to two bounds: below lo it is lo, above hi it is hi
 unfoldable pub clamp : ℕ → ℕ → ℤ → ℕ
 clamp lo hi z = cond (lt_z z (pos lo)) lo (cond (lt_z (pos hi) z) hi (nat_abs z))
 
 -- "Saturation and mireds are clamped to 0 to 254 and to the physical bounds"
-abbrev pub clampedSum : ℕ → ℕ → ℕ → ℤ → ℕ
-clampedSum lo hi start part = clamp lo hi (pos start +ℤ part)
+abbrev pub clamped_sum : ℕ → ℕ → ℕ → ℤ → ℕ
+clamped_sum lo hi start part = clamp lo hi (pos start +ℤ part)
 
 -- "Wait: 100 ms, or less where the end or the next whole turn is nearer; moves at a rate always 100"
 abbrev pub tick : ℕ
 tick = 100
 
-abbrev pub endWait : ℕ → ℕ → ℕ
-endWait elapsed time = min tick (time - elapsed)
+abbrev pub end_wait : ℕ → ℕ → ℕ
+end_wait elapsed time = min tick (time - elapsed)
 
-abbrev pub turnWait : ℕ → ℕ → ℕ
-turnWait elapsed seconds = min tick (loopMs seconds - elapsed % loopMs seconds)
+abbrev pub turn_wait : ℕ → ℕ → ℕ
+turn_wait elapsed seconds = min tick (loop_ms seconds - elapsed % loop_ms seconds)

@@ -2,8 +2,8 @@
 // wait for the next step. Times are whole milliseconds.
 // Carried over from project-chip/rs-matter, commit 43f61585a4 (Apache-2.0, see NOTICE), and changed.
 ghost use Rattle.std.specs.Prelude.{◌≡◌, ◌-◌, min};
-ghost use Rattle.matter.specs.Limits.{clockLimit};
-ghost use Rattle.progress.specs.Progress.{permilleOf, part_of, deltaAtRate, limited, loopMs, loopTurn, loopDelta, tenthsOf, clampedSum, endWait, turnWait};
+ghost use Rattle.matter.specs.Limits.{clock_limit};
+ghost use Rattle.progress.specs.Progress.{permille_of, part_of, delta_at_rate, limited, loop_ms, loop_turn, loop_delta, tenths_of, clamped_sum, end_wait, turn_wait};
 
 use matter::{CLOCK_LIMIT, ColorLoopDirectionEnum};
 
@@ -12,7 +12,7 @@ pub const TICK: u64 = 100;
 
 // How many thousandths of `time` have passed. At or past the time, and where the time is 0, all of them.
 pub fn permille(elapsed: u64, time: u32) -> u16
-    ensures { result ≡ permilleOf elapsed time }
+    ensures { result ≡ permille_of elapsed time }
 {
     let total = time as u64;
     if total <= elapsed {
@@ -43,7 +43,7 @@ pub fn part(way: i64, permille: u16) -> i64
 
 // An elapsed time past the limit of clocks is read as the limit.
 fn within_limit(elapsed: u64) -> u64
-    ensures { result ≡ min elapsed clockLimit }
+    ensures { result ≡ min elapsed clock_limit }
 {
     if CLOCK_LIMIT < elapsed {
         CLOCK_LIMIT
@@ -54,14 +54,14 @@ fn within_limit(elapsed: u64) -> u64
 
 // The signed way that a move at a rate per second has gone. The fraction is dropped toward zero.
 pub fn delta_at_rate(rate: i64, elapsed: u64) -> i64
-    ensures { result ≡ deltaAtRate (limited rate) elapsed }
+    ensures { result ≡ delta_at_rate (limited rate) elapsed }
 {
     limited(rate) * (within_limit(elapsed) as i64) / 1000
 }
 
 // The time of one turn of the colour loop. 0 seconds are read as 25.
 fn loop_ms(seconds: u16) -> u64
-    ensures { result ≡ loopMs seconds }
+    ensures { result ≡ loop_ms seconds }
 {
     if seconds == 0 {
         return 25000;
@@ -71,7 +71,7 @@ fn loop_ms(seconds: u16) -> u64
 
 // How far the colour loop has turned, without sign and unwrapped: near a whole turn, that whole turn.
 pub fn loop_turn(elapsed: u64, seconds: u16) -> u64
-    ensures { result ≡ loopTurn elapsed seconds }
+    ensures { result ≡ loop_turn elapsed seconds }
 {
     let e = within_limit(elapsed);
     let raw = 65536 * e / loop_ms(seconds);
@@ -90,7 +90,7 @@ pub fn loop_turn(elapsed: u64, seconds: u16) -> u64
 
 // The colour loop's turn with its sign.
 pub fn loop_delta(direction: ColorLoopDirectionEnum, elapsed: u64, seconds: u16) -> i64
-    ensures { result ≡ loopDelta direction elapsed seconds }
+    ensures { result ≡ loop_delta direction elapsed seconds }
 {
     let turn = loop_turn(elapsed, seconds) as i64;
     match direction {
@@ -101,7 +101,7 @@ pub fn loop_delta(direction: ColorLoopDirectionEnum, elapsed: u64, seconds: u16)
 
 // Milliseconds in tenths of a second, rounded up.
 pub fn tenths(ms: u64) -> u64
-    ensures { result ≡ tenthsOf ms }
+    ensures { result ≡ tenths_of ms }
 {
     let whole = ms / 100;
     if ms % 100 == 0 {
@@ -112,7 +112,7 @@ pub fn tenths(ms: u64) -> u64
 
 // The sum of a start and a signed part, clamped to `lo` and `hi`; `lo` is checked first.
 pub fn clamped_sum(lo: u16, hi: u16, start: u16, part: i64) -> u16
-    ensures { result ≡ clampedSum lo hi start part }
+    ensures { result ≡ clamped_sum lo hi start part }
 {
     if part < (lo as i64) - (start as i64) {
         return lo;
@@ -125,7 +125,7 @@ pub fn clamped_sum(lo: u16, hi: u16, start: u16, part: i64) -> u16
 
 // A saturation moved by a signed part, within 0 and 254.
 pub fn moved_saturation(start: u8, part: i64) -> u8
-    ensures { result ≡ clampedSum 0 254 start part }
+    ensures { result ≡ clamped_sum 0 254 start part }
 {
     clamped_sum(0, 254, start as u16, part) as u8
 }
@@ -153,7 +153,7 @@ pub fn time_left(elapsed: u64, time: u32) -> u64
 
 // The wait before a move-to's next step: its end, if that is nearer than a tick.
 pub fn wait_for_end(elapsed: u64, time: u32) -> u64
-    ensures { result ≡ endWait elapsed time }
+    ensures { result ≡ end_wait elapsed time }
 {
     let left = time_left(elapsed, time);
     if left < TICK {
@@ -164,7 +164,7 @@ pub fn wait_for_end(elapsed: u64, time: u32) -> u64
 
 // The wait before the colour loop's next step: its next whole turn, if that is nearer than a tick.
 pub fn wait_for_turn(elapsed: u64, seconds: u16) -> u64
-    ensures { result ≡ turnWait elapsed seconds }
+    ensures { result ≡ turn_wait elapsed seconds }
 {
     let total = loop_ms(seconds);
     let left = total - elapsed % total;

@@ -1,6 +1,6 @@
 -- The remaining time: document 01, leaf 2.
 use Rattle.std.specs.Prelude.{ℕ, ◌+◌, ◌-◌, ◌%◌, Bool, not, ◌&&◌, ◌||◌, eqb, ltb}
-use Rattle.progress.specs.Progress.{tenthsOf}
+use Rattle.progress.specs.Progress.{tenths_of}
 use Rattle.remaining_time.specs.declared.RemainingTime.{RemainingTime}
 use Rattle.remaining_time.specs.declared.Written.{Written}
 
@@ -15,10 +15,10 @@ reported old new start =
     (eqb new 0 && not (eqb old 0)) || (eqb old 0 && ltb 10 new) || (ltb 10 (apart new old) && start)
 
 -- "Milliseconds become tenths, rounded up", in the attribute's sixteen bits
-abbrev pub newTenths : ℕ → ℕ
-newTenths ms = tenthsOf ms % 65536
+abbrev pub new_tenths : ℕ → ℕ
+new_tenths ms = tenths_of ms % 65536
 
 -- "It is stored in every case"
-abbrev pub writtenQuietly : RemainingTime → ℕ → Bool → Written
-writtenQuietly t ms start =
-    record { reported = reported t.tenths (newTenths ms) start; remaining = record { tenths = newTenths ms } }
+abbrev pub written_quietly : RemainingTime → ℕ → Bool → Written
+written_quietly t ms start =
+    record { reported = reported t.tenths (new_tenths ms) start; remaining = record { tenths = new_tenths ms } }

@@ -1,18 +1,18 @@
 // RemainingTime, and when a change of it is reported: document 01, leaf 2.
 // Carried over from project-chip/rs-matter, commit 43f61585a4 (Apache-2.0, see NOTICE), and changed.
 ghost use Rattle.std.specs.Prelude.{◌≡◌};
-ghost use Rattle.remaining_time.specs.RemainingTime.{apart, reported, writtenQuietly};
+ghost use Rattle.remaining_time.specs.RemainingTime.{apart, reported, written_quietly};
 
 use progress::tenths;
 
 // The attribute, in tenths of a second.
-#[derive(Drop)]
+#[derive(Clone, Copy)]
 pub struct RemainingTime {
     pub tenths: u16,
 }
 
 // The attribute after a write, and whether the change is reported.
-#[derive(Drop)]
+#[derive(Clone, Copy)]
 pub struct Written {
     pub reported: bool,
     pub remaining: RemainingTime,
@@ -39,7 +39,7 @@ fn is_reported(prev: u16, new_ds: u16, is_start_of_transition: bool) -> bool
 impl RemainingTime {
     // The rule, by value: the time that remains, rounded up to tenths and wrapped at sixteen bits, and whether the change is reported.
     fn written_quietly(self, remaining_ms: u64, is_start_of_transition: bool) -> Written
-        ensures { result ≡ writtenQuietly self remaining_ms is_start_of_transition }
+        ensures { result ≡ written_quietly self remaining_ms is_start_of_transition }
     {
         let new_ds = (tenths(remaining_ms) % 65536) as u16;
         let prev = self.tenths;
@@ -51,8 +51,8 @@ impl RemainingTime {
 
     // The record is lent and changed in place, as in the source: the time that remains is stored, and whether it is reported is answered.
     pub fn write_quietly(&mut self, remaining_ms: u64, is_start_of_transition: bool) -> bool
-        ensures { (self.new ≡ (writtenQuietly self.old remaining_ms is_start_of_transition).remaining)
-            × (result ≡ (writtenQuietly self.old remaining_ms is_start_of_transition).reported) }
+        ensures { (self.new ≡ (written_quietly self.old remaining_ms is_start_of_transition).remaining)
+            × (result ≡ (written_quietly self.old remaining_ms is_start_of_transition).reported) }
     {
         let written = (*self).written_quietly(remaining_ms, is_start_of_transition);
         *self = written.remaining;
@@ -65,7 +65,7 @@ impl RemainingTime {
         remaining_ms: u64,
         is_start_of_transition: bool,
     ) -> Written
-        ensures { result ≡ writtenQuietly self remaining_ms is_start_of_transition }
+        ensures { result ≡ written_quietly self remaining_ms is_start_of_transition }
     {
         let mut remaining = self;
         let reported = remaining.write_quietly(remaining_ms, is_start_of_transition);

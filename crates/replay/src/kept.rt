@@ -14,7 +14,7 @@ use text::writer;
 const LONGEST: usize = 4095;
 
 // The lamp and the task given last, and the row, where there is one.
-#[derive(Drop)]
+#[derive(Clone, Copy)]
 pub struct Kept {
     pub state: State,
     pub has_row: bool,
@@ -22,7 +22,7 @@ pub struct Kept {
 }
 
 // What is kept after a line, and the place after its answer.
-#[derive(Drop)]
+#[derive(Clone, Copy)]
 pub struct Reply {
     pub kept: Kept,
     pub at: usize,

@@ -13,7 +13,7 @@ const NEARLY_FULL: usize = 61440;
 
 // What is kept from one block of input to the next: the lamp, the row and the task, how much of a line has come, the place after the answers
 // that are not yet written, and whether there may be more.
-#[derive(Drop)]
+#[derive(Clone, Copy)]
 struct Replay {
     kept: Kept,
     len: usize,

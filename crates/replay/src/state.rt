@@ -8,21 +8,21 @@ use lamp_lines::answers;
 use tasks::GivenTask;
 use text::writer;
 
-#[derive(Drop)]
+#[derive(Clone, Copy)]
 pub enum Held {
     Nothing,
     Lamp(Lamp),
 }
 
 // The lamp, where there is one, and the task that was given last.
-#[derive(Drop)]
+#[derive(Clone, Copy)]
 pub struct State {
     pub held: Held,
     pub task: GivenTask,
 }
 
 // The state after a line, and the place after its answer.
-#[derive(Drop)]
+#[derive(Clone, Copy)]
 pub struct Turn {
     pub state: State,
     pub at: usize,

@@ -5,29 +5,29 @@ use mathlib.Core.Path.{◌≡◌, refl}
 use native.Mathlib.Omega.{arith}
 use lib.Dec.{lit<}
 use Rattle.matter.specs.declared.enums.DirectionEnum.{DirectionEnum}
-use Rattle.matter.specs.All.{allTrue}
-use Rattle.matter.specs.Flags.{hasFlag}
-use Rattle.hue.specs.Hue.{distance, pathDelta, isTie, movedHue}
-use Rattle.progress.specs.Progress.{permilleOf}
-use Rattle.color.specs.Valid.{colorValid}
-use Rattle.color.specs.Setters.{hueSet}
-use Rattle.tasks.specs.Valid.{moveToValid, taskValid, runningValid}
+use Rattle.matter.specs.All.{all_true}
+use Rattle.matter.specs.Flags.{has_flag}
+use Rattle.hue.specs.Hue.{distance, path_delta, is_tie, moved_hue}
+use Rattle.progress.specs.Progress.{permille_of}
+use Rattle.color.specs.Valid.{color_valid}
+use Rattle.color.specs.Setters.{hue_set}
+use Rattle.tasks.specs.Valid.{move_to_valid, task_valid, running_valid}
 use Rattle.lamp.specs.declared.Call.{Call}
 use Rattle.lamp.specs.InRange.{InRangeCall}
-use Rattle.lamp.specs.Answers.{firstCause}
-use Rattle.lamp.specs.Calls.{hueSaturationStart, started, stepped, startAnswer, stepAnswer}
-use Rattle.lamp.specs.Valid.{lampValid}
-use Rattle.lamp.specs.Passes.{hueSaturationMoved, timed}
-use Rattle.commands.specs.Commands.{commandEffect}
-use Rattle.commands.specs.Answers.{answer, commandCause, commandAnswer}
+use Rattle.lamp.specs.Answers.{first_cause}
+use Rattle.lamp.specs.Calls.{hue_saturation_start, started, stepped, start_answer, step_answer}
+use Rattle.lamp.specs.Valid.{lamp_valid}
+use Rattle.lamp.specs.Passes.{hue_saturation_moved, timed}
+use Rattle.commands.specs.Commands.{command_effect}
+use Rattle.commands.specs.Answers.{answer, command_cause, command_answer}
 use Rattle.schedule.specs.Calls.{after, quiet}
 use Rattle.schedule.specs.Schedule.{HueCommand}
-use Rattle.schedule.specs.Fades.{Fade, commandCall, startCall}
-use Rattle.schedule.proofs.Examples.{lampAt, plain, at5000, meets, in-range-lamp, in-range-plain}
+use Rattle.schedule.specs.Fades.{Fade, command_call, start_call}
+use Rattle.schedule.proofs.Examples.{lamp_at, plain, at5000, meets, in-range-lamp, in-range-plain}
 use Rattle.consequences.specs.Together.{ShowSame}
 use Rattle.rows.specs.Rows as rows
-use Rattle.rows.specs.Rows.{visited, rowCause, rowStepped, placeCause, answeredAt}
-use Rattle.row_schedule.specs.RowCalls.{RowCall, each, at, afterRow, given}
+use Rattle.rows.specs.Rows.{visited, row_cause, row_stepped, place_cause, answered_at}
+use Rattle.row_schedule.specs.RowCalls.{RowCall, each, at, after_row, given}
 use Rattle.row_schedule.proofs.Examples.{two, hues}
 use Rattle.row_consequences.proofs.RowTogether.{row-together}
 
@@ -36,34 +36,34 @@ abbrev half : HueCommand
 half = record { enhanced = false; hue = 128; direction = DirectionEnum.Down; tenths = 2; options = plain }
 
 abbrev first : Fade
-first = at5000 (lampAt 0) half (Call.Step 5050 ∷ [])
+first = at5000 (lamp_at 0) half (Call.Step 5050 ∷ [])
 
 abbrev second : Fade
-second = at5000 (lampAt 0) half []
+second = at5000 (lamp_at 0) half []
 
 abbrev calls : List RowCall
 calls =
-    at 0 (commandCall first)
-    ∷ at 1 (commandCall second)
-    ∷ at 0 (startCall first)
+    at 0 (command_call first)
+    ∷ at 1 (command_call second)
+    ∷ at 0 (start_call first)
     -- refused: an earlier clock
     ∷ each 32 4999
-    ∷ at 1 (startCall second)
+    ∷ at 1 (start_call second)
     ∷ at 0 (Call.Step 5050)
     -- refused: a short slice
     ∷ each 31 5060
     ∷ []
 
 -- apart before the row call, together after it
-pub shown : (hues (afterRow two calls) ≡ 57344 ∷ 0 ∷ []) × (hues (afterRow two (calls ++ (each 32 5100 ∷ []))) ≡ 49152 ∷ 49152 ∷ [])
-unfolding afterRow rowStepped rowCause answeredAt placeCause visited after answer commandCause commandAnswer firstCause lampValid allTrue colorValid runningValid moveToValid taskValid commandEffect startAnswer stepAnswer started stepped hueSaturationStart hueSaturationMoved timed hueSet permilleOf pathDelta isTie distance movedHue hasFlag
+pub shown : (hues (after_row two calls) ≡ 57344 ∷ 0 ∷ []) × (hues (after_row two (calls ++ (each 32 5100 ∷ []))) ≡ 49152 ∷ 49152 ∷ [])
+unfolding after_row row_stepped row_cause answered_at place_cause visited after answer command_cause command_answer first_cause lamp_valid all_true color_valid running_valid move_to_valid task_valid command_effect start_answer step_answer started stepped hue_saturation_start hue_saturation_moved timed hue_set permille_of path_delta is_tie distance moved_hue has_flag
 shown = (refl, refl)
 
-pub together : ShowSame (rows.lampAt (afterRow two (calls ++ (each 32 5100 ∷ []))) 0) (rows.lampAt (afterRow two (calls ++ (each 32 5100 ∷ []))) 1)
-unfolding given quiet afterRow rowStepped rowCause answeredAt placeCause visited after answer commandCause commandAnswer firstCause lampValid allTrue colorValid runningValid moveToValid taskValid commandEffect startAnswer stepAnswer started stepped hueSaturationStart hueSaturationMoved timed hueSet permilleOf pathDelta isTie distance movedHue hasFlag
+pub together : ShowSame (rows.lamp_at (after_row two (calls ++ (each 32 5100 ∷ []))) 0) (rows.lamp_at (after_row two (calls ++ (each 32 5100 ∷ []))) 1)
+unfolding given quiet after_row row_stepped row_cause answered_at place_cause visited after answer command_cause command_answer first_cause lamp_valid all_true color_valid running_valid move_to_valid task_valid command_effect start_answer step_answer started stepped hue_saturation_start hue_saturation_moved timed hue_set permille_of path_delta is_tie distance moved_hue has_flag
 together =
-    let command : InRangeCall (commandCall first) = (in-range-plain _ (lit< tt, lit< tt), lit< tt) in
-    let start : InRangeCall (startCall first) = (record { delta = lit< tt; saturation = tt; ms = lit< tt }, lit< tt) in
+    let command : InRangeCall (command_call first) = (in-range-plain _ (lit< tt, lit< tt), lit< tt) in
+    let start : InRangeCall (start_call first) = (record { delta = lit< tt; saturation = tt; ms = lit< tt }, lit< tt) in
     row-together two calls 32 5100 0 1 first second
     (record { places = refl; count = omega arith; lamps = refl })
     (record {

@@ -6,15 +6,15 @@ use Rattle.std.specs.Prelude.{ℕ, ◌<◌, List, [], ◌∷◌, ◌++◌, ◌�
 use Rattle.matter.specs.Causes.{accepted}
 use Rattle.schedule.specs.Fades.{Fade, list_of, Premised}
 use Rattle.rows.specs.declared.Row.{Row}
-use Rattle.rows.specs.Rows.{lampAt, rowCause}
-use Rattle.row_schedule.specs.RowCalls.{RowCall, each, afterRow, given}
+use Rattle.rows.specs.Rows.{lamp_at, row_cause}
+use Rattle.row_schedule.specs.RowCalls.{RowCall, each, after_row, given}
 use Rattle.row_schedule.specs.RowClaim.{RowValid}
 use Rattle.consequences.specs.Together.{Alike, ShowSame}
 
 -- a fade of the lamp at place k: what that lamp is given by the calls so far is the fade's list
 pub record FadeAt (k : ℕ) (r : Row) (calls : List RowCall) (e : Fade) : Type 0 where
   pub there : k < r.count
-  pub lamp : lampAt r k ≡ e.lamp
+  pub lamp : lamp_at r k ≡ e.lamp
   pub given : given k r calls ≡ list_of e
   pub premised : Premised e
 
@@ -22,6 +22,6 @@ pub record FadeAt (k : ℕ) (r : Row) (calls : List RowCall) (e : Fade) : Type 0
 abbrev pub RowTogether : Type 0
 RowTogether =
     (r : Row) (calls : List RowCall) (size clock j k : ℕ) (d e : Fade) → RowValid r → FadeAt j r calls d →
-    FadeAt k r calls e → Alike d e → rowCause (afterRow r calls) size clock ≡ accepted →
-    ShowSame (lampAt (afterRow r (calls ++ (each size clock ∷ []))) j)
-    (lampAt (afterRow r (calls ++ (each size clock ∷ []))) k)
+    FadeAt k r calls e → Alike d e → row_cause (after_row r calls) size clock ≡ accepted →
+    ShowSame (lamp_at (after_row r (calls ++ (each size clock ∷ []))) j)
+    (lamp_at (after_row r (calls ++ (each size clock ∷ []))) k)

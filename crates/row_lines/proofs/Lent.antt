@@ -12,28 +12,28 @@ use lib.ListN.{length, take, drop, set, get_or, drop_of_length-le}
 use lib.Seq.{take_all, take-suc-set}
 use Rattle.text.specs.Words.{same}
 use Rattle.text.proofs.WordLaws.{drop-next}
-use Rattle.row_lines.specs.RowAnswers.{lentBytes}
+use Rattle.row_lines.specs.RowAnswers.{lent_bytes}
 
--- what is lentBytes from a place on
+-- what is lent_bytes from a place on
 abbrev pub rest : ℕ → ℕ → ℕ → List ℕ
-rest fill n i = lentBytes (fill + i) (n - i)
+rest fill n i = lent_bytes (fill + i) (n - i)
 
-pub rest_all : (fill n : ℕ) → rest fill n 0 ≡ lentBytes fill n
+pub rest_all : (fill n : ℕ) → rest fill n 0 ≡ lent_bytes fill n
 rest_all fill n = let e : n - 0 ≡ n = omega arith in rw (e, add-zero)
 
 pub rest-next : (fill n i : ℕ) → i < n → rest fill n i ≡ (fill + i) % 256 ∷ rest fill n (i + 1)
-unfolding lentBytes
+unfolding lent_bytes
 rest-next fill n i h =
     let e : n - i ≡ suc (n - (i + 1)) = omega arith in
     let f : fill + i + 1 ≡ fill + (i + 1) = omega arith in
     rw (e, f)
 
 pub rest-none : (fill n i : ℕ) → n ≤ i → rest fill n i ≡ []
-unfolding lentBytes
+unfolding lent_bytes
 rest-none fill n i h = let e : n - i ≡ 0 = omega arith in rw e
 
-pub lent_length : (fill n : ℕ) → length (lentBytes fill n) ≡ n
-unfolding lentBytes
+pub lent_length : (fill n : ℕ) → length (lent_bytes fill n) ≡ n
+unfolding lent_bytes
 lent_length fill zero = refl
 lent_length fill (suc n) = ap suc (lent_length (fill + 1) n)
 

@@ -12,8 +12,8 @@ use Rattle.text.proofs.WriteLaws.{side}
 use Rattle.text.proofs.WordLaws.{drop-next}
 use Rattle.lamp.specs.declared.Lamp.{Lamp}
 use Rattle.rows.proofs.Places.{left, left-cons, left-none}
-use Rattle.lamp_lines.specs.Answers.{numberText, numbersText}
-use Rattle.row_lines.specs.RowAnswers.{summed, lampText, lampsText}
+use Rattle.lamp_lines.specs.Answers.{number_text, numbers_text}
+use Rattle.row_lines.specs.RowAnswers.{summed, lamp_text, lamps_text}
 
 pub summed-join : (h : ℕ) (a b : List ℕ) → summed h (a ++ b) ≡ summed (summed h a) b
 unfolding summed
@@ -40,38 +40,38 @@ text-all sum s i h e = rw (drop_of_length-le s {i = i} h) at e
 
 -- ---- numbers, each behind a blank
 
-pub numbers_more : (sum : ℕ) (list : List ℕ) (i : ℕ) {whole : ℕ} → i < length list → summed sum (numbersText (drop i list)) ≡ whole
-    → summed (summed sum (numberText (get_or list i 0))) (numbersText (drop (i + 1) list)) ≡ whole
-unfolding numbersText
+pub numbers_more : (sum : ℕ) (list : List ℕ) (i : ℕ) {whole : ℕ} → i < length list → summed sum (numbers_text (drop i list)) ≡ whole
+    → summed (summed sum (number_text (get_or list i 0))) (numbers_text (drop (i + 1) list)) ≡ whole
+unfolding numbers_text
 numbers_more sum list i h e =
-    sym (summed-join sum (numberText (get_or list i 0)) (numbersText (drop (i + 1) list))) ∙ (rw (drop-next list i h) at e)
+    sym (summed-join sum (number_text (get_or list i 0)) (numbers_text (drop (i + 1) list))) ∙ (rw (drop-next list i h) at e)
 
-pub numbers-all : (sum : ℕ) (list : List ℕ) (i : ℕ) {whole : ℕ} → length list ≤ i → summed sum (numbersText (drop i list)) ≡ whole → sum ≡ whole
-unfolding numbersText summed
+pub numbers-all : (sum : ℕ) (list : List ℕ) (i : ℕ) {whole : ℕ} → length list ≤ i → summed sum (numbers_text (drop i list)) ≡ whole → sum ≡ whole
+unfolding numbers_text summed
 numbers-all sum list i h e = rw (drop_of_length-le list {i = i} h) at e
 
 -- the blank, then the digits
-pub blank-first : (h n : ℕ) → summed ((h * 31 + 32) % 4294967296) (decimal n) ≡ summed h (numberText n)
-unfolding summed numberText
+pub blank-first : (h n : ℕ) → summed ((h * 31 + 32) % 4294967296) (decimal n) ≡ summed h (number_text n)
+unfolding summed number_text
 blank-first h n = refl
 
 -- the first has no blank
-pub first-number : (list : List ℕ) → 0 < length list → drop 1 (numbersText list) ≡ decimal (get_or list 0 0) ++ numbersText (drop 1 list)
-unfolding numbersText numberText
+pub first-number : (list : List ℕ) → 0 < length list → drop 1 (numbers_text list) ≡ decimal (get_or list 0 0) ++ numbers_text (drop 1 list)
+unfolding numbers_text number_text
 first-number [] h = absurd (not-suc-le-zero h)
 first-number (n ∷ ns) h = refl
 
 -- ---- the lamps of a row
 
 module _ (xs : List Lamp) (n i : ℕ) where
-  pub lamps-more : (d : Lamp) (sum : ℕ) {whole : ℕ} → i < n → n ≤ length xs → summed sum (lampsText (left n i xs)) ≡ whole
-      → summed (summed sum (lampText (get_or xs i d))) (lampsText (left n (i + 1) xs)) ≡ whole
-  unfolding lampsText
+  pub lamps-more : (d : Lamp) (sum : ℕ) {whole : ℕ} → i < n → n ≤ length xs → summed sum (lamps_text (left n i xs)) ≡ whole
+      → summed (summed sum (lamp_text (get_or xs i d))) (lamps_text (left n (i + 1) xs)) ≡ whole
+  unfolding lamps_text
   lamps-more d sum h k e =
-      sym (summed-join sum (lampText (get_or xs i d)) (lampsText (left n (i + 1) xs))) ∙ (rw (left-cons xs n i d h k) at e)
+      sym (summed-join sum (lamp_text (get_or xs i d)) (lamps_text (left n (i + 1) xs))) ∙ (rw (left-cons xs n i d h k) at e)
 
-  pub lamps-all : (sum : ℕ) {whole : ℕ} → n ≤ i → n ≤ length xs → summed sum (lampsText (left n i xs)) ≡ whole → sum ≡ whole
-  unfolding lampsText summed
+  pub lamps-all : (sum : ℕ) {whole : ℕ} → n ≤ i → n ≤ length xs → summed sum (lamps_text (left n i xs)) ≡ whole → sum ≡ whole
+  unfolding lamps_text summed
   lamps-all sum h k e = rw (left-none xs n i h k) at e
 
 -- a row has 32 lamps, so no more than 32 are in it

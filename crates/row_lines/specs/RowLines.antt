@@ -8,44 +8,44 @@ use Rattle.row_lines.specs.declared.lines.OnRow.{OnRow}
 use Rattle.row_lines.specs.declared.lines.RowLine.{RowLine}
 
 -- <count>
-unfoldable pub makeAt : Reader RowLine
-makeAt = give RowLine.Make then number8
+unfoldable pub make_at : Reader RowLine
+make_at = give RowLine.Make then number8
 
-unfoldable pub countAt : Reader RowLine
-countAt = give (λ count. RowLine.OnRow (OnRow.Count count)) then number8
+unfoldable pub count_at : Reader RowLine
+count_at = give (λ count. RowLine.OnRow (OnRow.Count count)) then number8
 
 -- <length> <fill> <clock>
-unfoldable pub stepRowAt : Reader RowLine
-stepRowAt =
+unfoldable pub step_row_at : Reader RowLine
+step_row_at =
     give (λ size fill clock. RowLine.OnRow (OnRow.Step (record { size = size; fill = fill; clock = clock })))
     then number16 then number8 then number64
 
 -- a line of a lamp, its first word next
-abbrev pub nextLine : Reader Line
-nextLine line at = line_at line (start_of line at) (end_of line (start_of line at))
+abbrev pub next_line : Reader Line
+next_line line at = line_at line (start_of line at) (end_of line (start_of line at))
 
 -- <place> <line>
-unfoldable pub placeAt : Reader RowLine
-placeAt =
-    give (λ place line. RowLine.OnRow (OnRow.At (record { place = place; line = line }))) then number8 then nextLine
+unfoldable pub place_at : Reader RowLine
+place_at =
+    give (λ place line. RowLine.OnRow (OnRow.At (record { place = place; line = line }))) then number8 then next_line
 
 -- any other line is the lamp's
-unfoldable pub lampLineAt : List ℕ → ℕ → ℕ → Read RowLine
-lampLineAt line name at = record { value = RowLine.Lamp (line_at line name at).value; at = (line_at line name at).at }
+unfoldable pub lamp_line_at : List ℕ → ℕ → ℕ → Read RowLine
+lamp_line_at line name at = record { value = RowLine.Lamp (line_at line name at).value; at = (line_at line name at).at }
 
 abbrev pub row_lines : List (Row RowLine)
 row_lines =
-    "row" means makeAt
-    ∷ "rowcount" means countAt
+    "row" means make_at
+    ∷ "rowcount" means count_at
     ∷ "rowshow" means give (RowLine.OnRow OnRow.Show)
-    ∷ "rowstep" means stepRowAt
-    ∷ "at" means placeAt
+    ∷ "rowstep" means step_row_at
+    ∷ "at" means place_at
     ∷ []
 
-unfoldable pub rowLineAt : Reader RowLine
-rowLineAt line at = named row_lines (λ l p. lampLineAt l 0 p) line 0 at
+unfoldable pub row_line_at : Reader RowLine
+row_line_at line at = named row_lines (λ l p. lamp_line_at l 0 p) line 0 at
 
-unfoldable pub rowLineRead : List ℕ → RowLine
-rowLineRead line =
-    let read : Read RowLine = rowLineAt line (end_of line 0) in
+unfoldable pub row_line_read : List ℕ → RowLine
+row_line_read line =
+    let read : Read RowLine = row_line_at line (end_of line 0) in
     cond (eqb read.at (length line)) read.value (RowLine.Lamp Line.Unreadable)

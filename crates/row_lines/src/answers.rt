@@ -6,8 +6,8 @@ ghost use Rattle.text.specs.Digits.{decimal};
 ghost use Rattle.text.specs.Words.{same};
 ghost use Rattle.text.specs.Written.{Written};
 ghost use Rattle.rows.specs.Rows.{row_of};
-ghost use Rattle.lamp_lines.specs.Answers.{numberText, numbersText, lampNumbers, statusText, answerText};
-ghost use Rattle.row_lines.specs.RowAnswers.{summed, lampText, lampsText, rowText, thenRow, Turned, shownRow, unread, freshPlace, fresh_row, lentBytes, sliceText, keptText, lentText, stepWith, stepRow, lastStart, onLampAsked, asked_of, lampAnswer, lampHidden, calledAt, lampMissing, editedAt, editedOn, answeredPlace, onRow};
+ghost use Rattle.lamp_lines.specs.Answers.{number_text, numbers_text, lamp_numbers, status_text, answer_text};
+ghost use Rattle.row_lines.specs.RowAnswers.{summed, lamp_text, lamps_text, row_text, then_row, Turned, shown_row, unread, fresh_place, fresh_row, lent_bytes, slice_text, kept_text, lent_text, step_with, step_row, last_start, on_lamp_asked, asked_of, lamp_answer, lamp_hidden, called_at, lamp_missing, edited_at, edited_on, answered_place, on_row};
 
 use crate::lines::{AtPlace, OnRow, RowStep};
 use call_lines::lines;
@@ -25,7 +25,7 @@ use text::writer::{hex, text};
 const LONGEST: usize = 1024;
 
 // The row after a line, the task that its lamp gave, and the place after the answer.
-#[derive(Drop)]
+#[derive(Clone, Copy)]
 pub struct RowTurn {
     pub row: Row,
     pub task: GivenTask,
@@ -33,7 +33,7 @@ pub struct RowTurn {
 }
 
 // What a line at a place asks of the lamp there.
-#[derive(Drop)]
+#[derive(Clone, Copy)]
 pub enum Asked {
     Call(Call),
     Place(Lamp),
@@ -79,13 +79,13 @@ fn sum_decimal(h: u32, n: u64) -> u32
 
 // A number after a blank.
 fn sum_number(h: u32, n: u64) -> u32
-    ensures { result ≡ summed h (numberText n) }
+    ensures { result ≡ summed h (number_text n) }
 {
     sum_decimal(sum_byte(h, b' '), n)
 }
 
 fn sum_numbers(h: u32, list: &[u64]) -> u32
-    ensures { result ≡ summed h (numbersText list.now) }
+    ensures { result ≡ summed h (numbers_text list.now) }
 {
     let mut sum = h;
     let mut i = 0;
@@ -98,7 +98,7 @@ fn sum_numbers(h: u32, list: &[u64]) -> u32
 
 // A lamp's fields, with no blank before the first.
 fn sum_fields(h: u32, lamp: Lamp) -> u32
-    ensures { result ≡ summed h (drop 1 (numbersText (lampNumbers lamp))) }
+    ensures { result ≡ summed h (drop 1 (numbers_text (lamp_numbers lamp))) }
 {
     let list = lamp_numbers(lamp);
     let first = sum_decimal(h, list[0]);
@@ -106,7 +106,7 @@ fn sum_fields(h: u32, lamp: Lamp) -> u32
 }
 
 fn sum_lamp(h: u32, lamp: Lamp) -> u32
-    ensures { result ≡ summed h (lampText lamp) }
+    ensures { result ≡ summed h (lamp_text lamp) }
 {
     let running = lamp.running;
     let sum = sum_fields(h, lamp);
@@ -124,7 +124,7 @@ fn places(count: u8) -> usize
 }
 
 fn sum_lamps(lamps: [Lamp; 32], count: u8) -> u32
-    ensures { result ≡ summed 0 (lampsText (take count lamps)) }
+    ensures { result ≡ summed 0 (lamps_text (take count lamps)) }
 {
     let n = places(count);
     let mut sum: u32 = 0;
@@ -139,7 +139,7 @@ fn sum_lamps(lamps: [Lamp; 32], count: u8) -> u32
 
 // A row's count and sum. The word between them is A.3's.
 fn row_numbers(out: &mut [u8], at: usize, row: Row) -> usize
-    ensures { Written out.old at (rowText row) out.new result }
+    ensures { Written out.old at (row_text row) out.new result }
 {
     let a = number(out, at, row.count as u64);
     let b = text(out, a, b" -");
@@ -149,7 +149,7 @@ fn row_numbers(out: &mut [u8], at: usize, row: Row) -> usize
 
 // The row behind what was answered.
 fn then_row(out: &mut [u8], at: usize, row: Row) -> usize
-    ensures { Written out.old at (thenRow row) out.new result }
+    ensures { Written out.old at (then_row row) out.new result }
 {
     let a = bar(out, at);
     row_numbers(out, a, row)
@@ -157,7 +157,7 @@ fn then_row(out: &mut [u8], at: usize, row: Row) -> usize
 
 // The row as it is: made, with another count, or to be seen.
 fn shown(row: Row, out: &mut [u8], at: usize) -> RowTurn
-    ensures { Turned (shownRow row) out.old at out.new result }
+    ensures { Turned (shown_row row) out.old at out.new result }
 {
     let a = text(out, at, b"ok");
     let b = then_row(out, a, row);
@@ -181,7 +181,7 @@ fn error(row: Row, out: &mut [u8], at: usize) -> RowTurn
 
 // A lamp as `new 153 500 31 0 0` makes it.
 fn fresh_lamp() -> Lamp
-    ensures { result ≡ freshPlace }
+    ensures { result ≡ fresh_place }
 {
     let bounds = Bounds { min: 153, max: 500 };
     Lamp {
@@ -212,7 +212,7 @@ pub fn fresh_row(count: u8) -> Row
 
 // `row`: a row of fresh lamps.
 pub fn make(count: u8, out: &mut [u8], at: usize) -> RowTurn
-    ensures { Turned (shownRow (fresh_row count)) out.old at out.new result }
+    ensures { Turned (shown_row (fresh_row count)) out.old at out.new result }
 {
     shown(fresh_row(count), out, at)
 }
@@ -233,7 +233,7 @@ fn byte_at(from: u8, i: usize) -> u8
 }
 
 fn fill(bytes: &mut [u8], from: u8)
-    ensures { bytes.new ≡ lentBytes from (length bytes.old) }
+    ensures { bytes.new ≡ lent_bytes from (length bytes.old) }
 {
     let mut i = 0;
     while i < bytes.len() {
@@ -242,9 +242,9 @@ fn fill(bytes: &mut [u8], from: u8)
     }
 }
 
-// Whether every byte is as it was lentBytes.
+// Whether every byte is as it was lent_bytes.
 fn is_filled(bytes: &[u8], from: u8) -> bool
-    ensures { result ≡ same bytes.now (lentBytes from (length bytes.now)) }
+    ensures { result ≡ same bytes.now (lent_bytes from (length bytes.now)) }
 {
     let mut i = 0;
     while i < bytes.len() {
@@ -258,7 +258,7 @@ fn is_filled(bytes: &[u8], from: u8) -> bool
 
 // The bytes of a slice; `-` where there is none.
 fn slice(out: &mut [u8], at: usize, bytes: &[u8]) -> usize
-    ensures { Written out.old at (sliceText bytes.now) out.new result }
+    ensures { Written out.old at (slice_text bytes.now) out.new result }
 {
     if bytes.len() == 0 {
         return text(out, at, b" -");
@@ -268,7 +268,7 @@ fn slice(out: &mut [u8], at: usize, bytes: &[u8]) -> usize
 }
 
 fn kept(out: &mut [u8], at: usize, bytes: &[u8], from: u8) -> usize
-    ensures { Written out.old at (keptText bytes.now from) out.new result }
+    ensures { Written out.old at (kept_text bytes.now from) out.new result }
 {
     if is_filled(bytes, from) {
         return text(out, at, b" kept");
@@ -278,7 +278,7 @@ fn kept(out: &mut [u8], at: usize, bytes: &[u8], from: u8) -> usize
 
 // The wait, the slice, and whether it is as it was lent.
 fn lent(out: &mut [u8], at: usize, wait: u64, bytes: &[u8], from: u8) -> usize
-    ensures { Written out.old at (lentText wait bytes.now from) out.new result }
+    ensures { Written out.old at (lent_text wait bytes.now from) out.new result }
 {
     let a = bar(out, at);
     let b = number(out, a, wait);
@@ -290,7 +290,7 @@ fn lent(out: &mut [u8], at: usize, wait: u64, bytes: &[u8], from: u8) -> usize
 
 // A row call with this slice.
 fn step_with(row: Row, bytes: &mut [u8], asked: RowStep, out: &mut [u8], at: usize) -> RowTurn
-    ensures { Turned (stepWith row (length bytes.old) asked.fill asked.clock) out.old at out.new result }
+    ensures { Turned (step_with row (length bytes.old) asked.fill asked.clock) out.old at out.new result }
 {
     fill(bytes, asked.fill);
     let stepped = row.step(bytes, asked.clock);
@@ -314,7 +314,7 @@ fn zeros() -> [u8; 1024]
 
 // A row call. A slice above 1,024 bytes is an error.
 fn step(row: Row, asked: RowStep, out: &mut [u8], at: usize) -> RowTurn
-    ensures { Turned (stepRow row asked) out.old at out.new result }
+    ensures { Turned (step_row row asked) out.old at out.new result }
 {
     let size = asked.size as usize;
     if LONGEST < size {
@@ -327,7 +327,7 @@ fn step(row: Row, asked: RowStep, out: &mut [u8], at: usize) -> RowTurn
 
 // A start of the task given last.
 fn start_of(last: GivenTask, clock: u64) -> Asked
-    ensures { result ≡ lastStart last clock }
+    ensures { result ≡ last_start last clock }
 {
     match last {
         GivenTask::Nothing => Asked::Nothing,
@@ -336,7 +336,7 @@ fn start_of(last: GivenTask, clock: u64) -> Asked
 }
 
 fn asked_of(what: OnLamp) -> Asked
-    ensures { result ≡ onLampAsked what }
+    ensures { result ≡ on_lamp_asked what }
 {
     match what {
         OnLamp::Call(call) => Asked::Call(call),
@@ -365,7 +365,7 @@ fn asked_at(line: Line, last: GivenTask) -> Asked
 // The answer of the lamp at the place.
 fn lamp_answer(answered: RowAnswer, place: u8) -> Answer
     requires { place < 32 }
-    ensures { result ≡ lampAnswer answered place }
+    ensures { result ≡ lamp_answer answered place }
 {
     let row = answered.row;
     let i = place as usize;
@@ -383,7 +383,7 @@ fn lamp_answer(answered: RowAnswer, place: u8) -> Answer
 
 // A refusal with no lamp to show.
 fn without_lamp(out: &mut [u8], at: usize, number: u8) -> usize
-    ensures { Written out.old at (statusText number ++ ascii " | - | - | - | 0 | -") out.new result }
+    ensures { Written out.old at (status_text number ++ ascii " | - | - | - | 0 | -") out.new result }
 {
     let a = status(out, at, number);
     text(out, a, b" | - | - | - | 0 | -")
@@ -391,7 +391,7 @@ fn without_lamp(out: &mut [u8], at: usize, number: u8) -> usize
 
 // What the lamp at the place answers, of a row of so many.
 fn place_text(out: &mut [u8], at: usize, answered: RowAnswer, count: u8, place: u8) -> usize
-    ensures { Written out.old at (cond (lampHidden count place) (statusText answered.number ++ ascii " | - | - | - | 0 | -") (answerText (lampAnswer answered place))) out.new result }
+    ensures { Written out.old at (cond (lamp_hidden count place) (status_text answered.number ++ ascii " | - | - | - | 0 | -") (answer_text (lamp_answer answered place))) out.new result }
 {
     if (MOST < count) | (count <= place) {
         return without_lamp(out, at, answered.number);
@@ -401,7 +401,7 @@ fn place_text(out: &mut [u8], at: usize, answered: RowAnswer, count: u8, place: 
 
 // A call of the lamp at a place.
 fn called(row: Row, place: u8, call: Call, out: &mut [u8], at: usize) -> RowTurn
-    ensures { Turned (calledAt row place call) out.old at out.new result }
+    ensures { Turned (called_at row place call) out.old at out.new result }
 {
     let answered = row.call_at(place, call);
     let next = answered.row;
@@ -417,7 +417,7 @@ fn called(row: Row, place: u8, call: Call, out: &mut [u8], at: usize) -> RowTurn
 
 // An edit's answer, and its lamp in the row.
 fn edited(row: Row, place: u8, edit: Answer, out: &mut [u8], at: usize) -> RowTurn
-    ensures { Turned (editedAt row place edit) out.old at out.new result }
+    ensures { Turned (edited_at row place edit) out.old at out.new result }
 {
     if (row.count <= place) | (MOST <= place) {
         return error(row, out, at);
@@ -435,7 +435,7 @@ fn edited(row: Row, place: u8, edit: Answer, out: &mut [u8], at: usize) -> RowTu
 
 // The same of what is done on the lamp there.
 fn edited_on(row: Row, place: u8, what: OnLamp, out: &mut [u8], at: usize) -> RowTurn
-    ensures { Turned (editedOn row place what) out.old at out.new result }
+    ensures { Turned (edited_on row place what) out.old at out.new result }
 {
     if MOST <= place {
         return error(row, out, at);
@@ -447,7 +447,7 @@ fn edited_on(row: Row, place: u8, what: OnLamp, out: &mut [u8], at: usize) -> Ro
 
 // A line at a place, where the task given last is this.
 fn at_place(row: Row, asked: AtPlace, last: GivenTask, out: &mut [u8], at: usize) -> RowTurn
-    ensures { Turned (answeredPlace row asked.place (asked_of asked.line last)) out.old at out.new result }
+    ensures { Turned (answered_place row asked.place (asked_of asked.line last)) out.old at out.new result }
 {
     let place = asked.place;
     let line = asked.line;
@@ -461,7 +461,7 @@ fn at_place(row: Row, asked: AtPlace, last: GivenTask, out: &mut [u8], at: usize
 
 // A line of the row, where the task given last is this.
 pub fn on_row(row: Row, what: OnRow, last: GivenTask, out: &mut [u8], at: usize) -> RowTurn
-    ensures { Turned (onRow row what last) out.old at out.new result }
+    ensures { Turned (on_row row what last) out.old at out.new result }
 {
     match what {
         OnRow::Count(count) => shown(with_count(row, count), out, at),

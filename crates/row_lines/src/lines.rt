@@ -1,14 +1,14 @@
 // The lines of a row, read. Any other line is the lamp's.
 ghost use Rattle.std.specs.Prelude.{◌≡◌};
 ghost use Rattle.text.specs.Readers.{Reads};
-ghost use Rattle.row_lines.specs.RowLines.{makeAt, countAt, stepRowAt, placeAt, lampLineAt, rowLineAt, rowLineRead};
+ghost use Rattle.row_lines.specs.RowLines.{make_at, count_at, step_row_at, place_at, lamp_line_at, row_line_at, row_line_read};
 
 use call_lines::lines;
 use call_lines::lines::Line;
 use text::{numbers, words};
 
-// A row call: the size of the slice that is lent, and the number that it is lentBytes from.
-#[derive(Drop)]
+// A row call: the size of the slice that is lent, and the number that it is lent_bytes from.
+#[derive(Clone, Copy)]
 pub struct RowStep {
     pub size: u16,
     pub fill: u8,
@@ -16,14 +16,14 @@ pub struct RowStep {
 }
 
 // A line of a lamp, at a place.
-#[derive(Drop)]
+#[derive(Clone, Copy)]
 pub struct AtPlace {
     pub place: u8,
     pub line: Line,
 }
 
 // What is done on the row that there is.
-#[derive(Drop)]
+#[derive(Clone, Copy)]
 pub enum OnRow {
     Count(u8),
     Show,
@@ -31,21 +31,21 @@ pub enum OnRow {
     At(AtPlace),
 }
 
-#[derive(Drop)]
+#[derive(Clone, Copy)]
 pub enum RowLine {
     Make(u8),
     OnRow(OnRow),
     Lamp(Line),
 }
 
-#[derive(Drop)]
+#[derive(Clone, Copy)]
 struct RowLineRead {
     value: RowLine,
     at: usize,
 }
 
 fn make_line(line: &[u8], at: usize) -> RowLineRead
-    ensures { Reads (makeAt line.now at) result.value result.at }
+    ensures { Reads (make_at line.now at) result.value result.at }
 {
     let count = numbers::number_8(line, at);
     RowLineRead {
@@ -55,7 +55,7 @@ fn make_line(line: &[u8], at: usize) -> RowLineRead
 }
 
 fn count_line(line: &[u8], at: usize) -> RowLineRead
-    ensures { Reads (countAt line.now at) result.value result.at }
+    ensures { Reads (count_at line.now at) result.value result.at }
 {
     let count = numbers::number_8(line, at);
     RowLineRead {
@@ -65,7 +65,7 @@ fn count_line(line: &[u8], at: usize) -> RowLineRead
 }
 
 fn step_line(line: &[u8], at: usize) -> RowLineRead
-    ensures { Reads (stepRowAt line.now at) result.value result.at }
+    ensures { Reads (step_row_at line.now at) result.value result.at }
 {
     let size = numbers::number_16(line, at);
     let fill = numbers::number_8(line, size.at);
@@ -81,7 +81,7 @@ fn step_line(line: &[u8], at: usize) -> RowLineRead
 }
 
 fn place_line(line: &[u8], at: usize) -> RowLineRead
-    ensures { Reads (placeAt line.now at) result.value result.at }
+    ensures { Reads (place_at line.now at) result.value result.at }
 {
     let place = numbers::number_8(line, at);
     let name = words::start(line, place.at);
@@ -98,7 +98,7 @@ fn place_line(line: &[u8], at: usize) -> RowLineRead
 
 // A line of the lamp alone.
 fn lamp_line(line: &[u8], name: usize, at: usize) -> RowLineRead
-    ensures { Reads (lampLineAt line.now name at) result.value result.at }
+    ensures { Reads (lamp_line_at line.now name at) result.value result.at }
 {
     let read = lines::any_line(line, name, at);
     let asked = read.value;
@@ -109,7 +109,7 @@ fn lamp_line(line: &[u8], name: usize, at: usize) -> RowLineRead
 }
 
 fn any_line(line: &[u8], at: usize) -> RowLineRead
-    ensures { Reads (rowLineAt line.now at) result.value result.at }
+    ensures { Reads (row_line_at line.now at) result.value result.at }
 {
     if words::is(line, 0, b"row") {
         return make_line(line, at);
@@ -133,7 +133,7 @@ fn any_line(line: &[u8], at: usize) -> RowLineRead
 }
 
 pub fn read(line: &[u8]) -> RowLine
-    ensures { result ≡ rowLineRead line.now }
+    ensures { result ≡ row_line_read line.now }
 {
     let read = any_line(line, words::end(line, 0));
     if read.at != line.len() {

@@ -15,12 +15,12 @@ use Rattle.commands.specs.Answers.{answer}
 use Rattle.schedule.specs.Calls.{InRangeCalls}
 use Rattle.schedule.proofs.Keeps.{keeps-schedule}
 use Rattle.rows.specs.declared.Row.{Row}
-use Rattle.rows.specs.Rows.{lampAt, visited, answeredAt, rowCause, rowStepped, rowBytes, leastWait, noLamp}
+use Rattle.rows.specs.Rows.{lamp_at, visited, answered_at, row_cause, row_stepped, row_bytes, least_wait, no_lamp}
 use Rattle.rows.specs.RowTable.{AnswersAs}
 use Rattle.rows.proofs.Laws.{InRow, either, visited-step, single-is}
-use Rattle.rows.proofs.Bytes.{sixteenAt, bytes-at}
-use Rattle.row_schedule.specs.RowCalls.{RowCall, each, at, nextRow, afterRow, givenBy, given, InRangeRowCall, InRangeRowCalls}
-use Rattle.row_schedule.specs.RowClaim.{RowValid, RowClaim, own, owns, stepBytes}
+use Rattle.rows.proofs.Bytes.{sixteen_at, bytes-at}
+use Rattle.row_schedule.specs.RowCalls.{RowCall, each, at, next_row, after_row, given_by, given, InRangeRowCall, InRangeRowCalls}
+use Rattle.row_schedule.specs.RowClaim.{RowValid, RowClaim, own, owns, step_bytes}
 use Rattle.row_schedule.proofs.Lists.{kept-after, its-calls, count-after, each-valid}
 
 -- what is given is in range
@@ -32,19 +32,19 @@ when : (b : Bool) (x : Call) → InRangeCall x → InRangeCalls (cond b (x ∷ [
 when true x t = (t, tt)
 when false x t = tt
 
-by_one : (k : ℕ) (r : Row) (x : RowCall) → InRangeRowCall x → InRangeCalls (givenBy k r x)
-by_one k r (each size clock) t = when (eqb (rowCause r size clock) 0) (Call.Step clock) t
+by_one : (k : ℕ) (r : Row) (x : RowCall) → InRangeRowCall x → InRangeCalls (given_by k r x)
+by_one k r (each size clock) t = when (eqb (row_cause r size clock) 0) (Call.Step clock) t
 by_one k r (at place x) t = when (eqb place k) x t
 
 pub given-in-range : (k : ℕ) (r : Row) (xs : List RowCall) → InRangeRowCalls xs → InRangeCalls (given k r xs)
 unfolding given
 given-in-range k r [] t = tt
-given-in-range k r (x ∷ xs) t = in-range-append (givenBy k r x) _ (by_one k r x t.0) (given-in-range k (nextRow r x) xs t.1)
+given-in-range k r (x ∷ xs) t = in-range-append (given_by k r x) _ (by_one k r x t.0) (given-in-range k (next_row r x) xs t.1)
 
 -- ---- sixteen bytes a place
 
 -- what the lamp's step reports is nothing where it is idle
-step-bytes : (l : Lamp) (clock : ℕ) → (answer l (Call.Step clock)).notices.places ≡ stepBytes l clock
+step-bytes : (l : Lamp) (clock : ℕ) → (answer l (Call.Step clock)).notices.places ≡ step_bytes l clock
 unfolding visited filled
 step-bytes l clock =
     either (runs l.running) (λ e. rw e) (λ e. rw (e, ← (visited-step l clock).1, e))
@@ -53,48 +53,48 @@ module _ (r : Row) (valid : RowValid r) (k : ℕ) (h : k < r.count) where
   pub in_row : InRow k r
   in_row = record { there = h; room = record { few = valid.count; places = valid.places } }
 
-  single-after : (ys : List RowCall) (x : Call) → AnswersAs (answeredAt (afterRow r ys) k x) (answer (own k r ys) x)
-  single-after ys x = rw (its-calls k r ys in_row) at (single-is (afterRow r ys) k x (kept-after k r ys in_row))
+  single-after : (ys : List RowCall) (x : Call) → AnswersAs (answered_at (after_row r ys) k x) (answer (own k r ys) x)
+  single-after ys x = rw (its-calls k r ys in_row) at (single-is (after_row r ys) k x (kept-after k r ys in_row))
 
-  bytes_after : (ys : List RowCall) (clock : ℕ) (out : List ℕ) → rowCause (afterRow r ys) (length out) clock ≡ 0 →
-      sixteenAt k (rowBytes (afterRow r ys) out clock) ≡ stepBytes (own k r ys) clock
+  bytes_after : (ys : List RowCall) (clock : ℕ) (out : List ℕ) → row_cause (after_row r ys) (length out) clock ≡ 0 →
+      sixteen_at k (row_bytes (after_row r ys) out clock) ≡ step_bytes (own k r ys) clock
   bytes_after ys clock out e =
-      bytes-at (afterRow r ys) out clock k (kept-after k r ys in_row) e
+      bytes-at (after_row r ys) out clock k (kept-after k r ys in_row) e
       ∙ ap (λ l. (answer l (Call.Step clock)).notices.places) (its-calls k r ys in_row)
       ∙ step-bytes (own k r ys) clock
 
 -- ---- the lamps of the row are those that their own calls leave
 
 -- the first places of a list, one after another
-abbrev fromPlace : ℕ → ℕ → List Lamp → List Lamp
-fromPlace zero j xs = []
-fromPlace (suc n) j xs = get_or xs j noLamp ∷ fromPlace n (suc j) xs
+abbrev from_place : ℕ → ℕ → List Lamp → List Lamp
+from_place zero j xs = []
+from_place (suc n) j xs = get_or xs j no_lamp ∷ from_place n (suc j) xs
 
-behind-first : (n j : ℕ) (x : Lamp) (xs : List Lamp) → fromPlace n (suc j) (x ∷ xs) ≡ fromPlace n j xs
+behind-first : (n j : ℕ) (x : Lamp) (xs : List Lamp) → from_place n (suc j) (x ∷ xs) ≡ from_place n j xs
 behind-first zero j x xs = refl
-behind-first (suc n) j x xs = ap (λ (ls : List Lamp). get_or xs j noLamp ∷ ls) (behind-first n (suc j) x xs)
+behind-first (suc n) j x xs = ap (λ (ls : List Lamp). get_or xs j no_lamp ∷ ls) (behind-first n (suc j) x xs)
 
-take_places : (n : ℕ) (xs : List Lamp) → n ≤ length xs → take n xs ≡ fromPlace n 0 xs
+take_places : (n : ℕ) (xs : List Lamp) → n ≤ length xs → take n xs ≡ from_place n 0 xs
 take_places zero xs h = refl
 take_places (suc n) [] h = absurd (omega arith)
 take_places (suc n) (x ∷ xs) h = ap (λ (ls : List Lamp). x ∷ ls) (take_places n xs (omega arith) ∙ sym (behind-first n 0 x xs))
 
 module _ (r : Row) (valid : RowValid r) (ys : List RowCall) where
-  each-own : (n j : ℕ) → j + n ≤ r.count → fromPlace n j (afterRow r ys).lamps ≡ owns n j r ys
+  each-own : (n j : ℕ) → j + n ≤ r.count → from_place n j (after_row r ys).lamps ≡ owns n j r ys
   each-own zero j h = refl
   each-own (suc n) j h =
       rw (its-calls j r ys (in_row r valid j (omega arith)), each-own n (suc j) (omega arith))
 
   module _ (k : ℕ) (h : k < r.count) where
-    wait-is : (size clock : ℕ) → rowCause (afterRow r ys) size clock ≡ 0 →
-        (rowStepped (afterRow r ys) size clock).wait ≡ leastWait clock (owns r.count 0 r ys)
-    unfolding rowStepped
+    wait-is : (size clock : ℕ) → row_cause (after_row r ys) size clock ≡ 0 →
+        (row_stepped (after_row r ys) size clock).wait ≡ least_wait clock (owns r.count 0 r ys)
+    unfolding row_stepped
     wait-is size clock e =
-        let later = afterRow r ys in
+        let later = after_row r ys in
         let kept = kept-after k r ys (in_row r valid k h) in
         let count : later.count ≡ r.count = count-after r ys in
-        rw e (ap (leastWait clock) (take_places later.count later.lamps (omega (arith, kept.room.few, kept.room.places))
-        ∙ ap (λ n. fromPlace n 0 later.lamps) count ∙ each-own r.count 0 (omega arith)))
+        rw e (ap (least_wait clock) (take_places later.count later.lamps (omega (arith, kept.room.few, kept.room.places))
+        ∙ ap (λ n. from_place n 0 later.lamps) count ∙ each-own r.count 0 (omega arith)))
 
 pub row_keeps : RowClaim
 row_keeps r calls valid t k h small =
@@ -107,7 +107,7 @@ row_keeps r calls valid t k h small =
             wait = λ ys size clock zs e a. wait-is r valid ys k h size clock a;
           };
       everywhere =
-          keeps-schedule (lampAt r k) (given k r calls)
+          keeps-schedule (lamp_at r k) (given k r calls)
           (each-valid r.count k r.lamps valid.lamps h (omega (arith, valid.places, valid.count))) small
           (given-in-range k r calls t);
     }

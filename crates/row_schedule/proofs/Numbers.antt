@@ -6,13 +6,13 @@ use mathlib.Core.Path.{◌≡◌, sym, ◌∙◌, subst}
 use native.Mathlib.Omega.{arith}
 use lib.Dec.{leb, ltb}
 use borrow.Author.Tests.{le-ltb, leb-true, leb-false}
-use Rattle.matter.specs.Limits.{clockLimit}
-use Rattle.tasks.specs.Valid.{taskValid}
+use Rattle.matter.specs.Limits.{clock_limit}
+use Rattle.tasks.specs.Valid.{task_valid}
 use Rattle.tasks.specs.Runs.{runs}
 use Rattle.lamp.specs.declared.Lamp.{Lamp}
 use Rattle.lamp.specs.declared.Call.{Call}
-use Rattle.lamp.specs.Answers.{badClock}
-use Rattle.lamp.specs.Valid.{lampValid}
+use Rattle.lamp.specs.Answers.{bad_clock}
+use Rattle.lamp.specs.Valid.{lamp_valid}
 use Rattle.lamp.specs.InRange.{InRangeLamp}
 use Rattle.commands.specs.Commands.{checks}
 use Rattle.commands.specs.Answers.{cause}
@@ -20,38 +20,38 @@ use Rattle.commands.proofs.Table.{table}
 use Rattle.commands.proofs.Kept.{number-is-cause}
 use Rattle.schedule.proofs.Lists.{in-range-after}
 use Rattle.rows.specs.declared.Row.{Row}
-use Rattle.rows.specs.Rows.{lampAt, placed, anyLater, rowCause, rowStepped, answeredAt}
+use Rattle.rows.specs.Rows.{lamp_at, placed, any_later, row_cause, row_stepped, answered_at}
 use Rattle.rows.proofs.Laws.{either, row_number}
 use Rattle.rows.proofs.RowTable.{table-of-rows}
-use Rattle.row_schedule.specs.RowCalls.{RowCall, each, at, afterRow, InRangeRowCalls}
+use Rattle.row_schedule.specs.RowCalls.{RowCall, each, at, after_row, InRangeRowCalls}
 use Rattle.row_schedule.specs.RowClaim.{RowValid}
 use Rattle.row_schedule.proofs.Lists.{each-valid, row-valid-after, its-calls, count-after}
 use Rattle.row_schedule.proofs.Keeps.{in_row, given-in-range}
 
 -- a valid lamp refuses nothing with 8
-valid-no-8 : (l : Lamp) (x : Call) → lampValid l ≡ true → cause l x ≡ 8 → ⊥
-valid-no-8 l (Call.Command r onOff clock) v e =
-    let t = table.commands l clock r onOff in
-    either (badClock l clock) (λ b. omega (arith, t.command-4 v b, e))
+valid-no-8 : (l : Lamp) (x : Call) → lamp_valid l ≡ true → cause l x ≡ 8 → ⊥
+valid-no-8 l (Call.Command r on_off clock) v e =
+    let t = table.commands l clock r on_off in
+    either (bad_clock l clock) (λ b. omega (arith, t.command-4 v b, e))
     (λ b. either (checks r.command).stop (λ s. omega (arith, t.command-stop v b s, e))
     (λ s. omega (arith, t.command-own v b s, table.own r.command, e)))
 valid-no-8 l (Call.Start task clock) v e =
     let t = table.starts l clock task in
-    either (badClock l clock) (λ b. omega (arith, t.start-4 v b, e))
-    (λ b. either (taskValid task) (λ s. omega (arith, t.start-0 v b s, e)) (λ s. omega (arith, t.start-6 v b s, e)))
+    either (bad_clock l clock) (λ b. omega (arith, t.start-4 v b, e))
+    (λ b. either (task_valid task) (λ s. omega (arith, t.start-0 v b s, e)) (λ s. omega (arith, t.start-6 v b s, e)))
 valid-no-8 l (Call.Step clock) v e =
     let t = table.steps l clock in
     either (runs l.running)
-    (λ r. either (badClock l clock) (λ b. omega (arith, t.step-4 v r b, e)) (λ b. omega (arith, t.step-0 v r b, e)))
+    (λ r. either (bad_clock l clock) (λ b. omega (arith, t.step-4 v r b, e)) (λ b. omega (arith, t.step-0 v r b, e)))
     (λ r. omega (arith, t.step-7 v r, e))
 valid-no-8 l (Call.Halt clock) v e =
     let t = table.halts l clock in
-    either (badClock l clock) (λ b. omega (arith, t.halt-4 v b, e)) (λ b. omega (arith, t.halt-0 v b, e))
+    either (bad_clock l clock) (λ b. omega (arith, t.halt-4 v b, e)) (λ b. omega (arith, t.halt-0 v b, e))
 
 -- the number of the answer to a call
 abbrev pub number_of : Row → RowCall → ℕ
-number_of r (each size clock) = (rowStepped r size clock).number
-number_of r (at place x) = (answeredAt r place x).number
+number_of r (each size clock) = (row_stepped r size clock).number
+number_of r (at place x) = (answered_at r place x).number
 
 no-8 : (slice late : Bool) → ◌≡◌ {A = ℕ} (cond false 8 (cond slice 9 (cond (not true) 8 (cond late 4 0)))) 8 → ⊥
 no-8 true late e = omega (arith, e)
@@ -59,35 +59,35 @@ no-8 false true e = omega (arith, e)
 no-8 false false e = omega (arith, e)
 
 valid-row-no-8 : (r : Row) (x : RowCall) → RowValid r → number_of r x ≡ 8 → ⊥
-unfolding rowCause
+unfolding row_cause
 valid-row-no-8 r (each size clock) v e =
-    no-8 (ltb size (16 * r.count)) (anyLater (placed r) clock || ltb clockLimit clock) (rw (le-ltb 32 r.count v.count, v.lamps) at (sym (row_number r size clock) ∙ e))
+    no-8 (ltb size (16 * r.count)) (any_later (placed r) clock || ltb clock_limit clock) (rw (le-ltb 32 r.count v.count, v.lamps) at (sym (row_number r size clock) ∙ e))
 valid-row-no-8 r (at place x) v e =
     let t = table-of-rows.places r place x in
     either (leb r.count place)
     (λ h. omega (arith, t.place-10 v.count (leb-true _ _ h), e))
     (λ h. let there = leb-false r.count place h in
-    valid-no-8 (lampAt r place) x (each-valid r.count place r.lamps v.lamps there (omega (arith, v.places, v.count)))
-    (sym (number-is-cause (lampAt r place) x) ∙ sym (t.own v.count there).number ∙ e))
+    valid-no-8 (lamp_at r place) x (each-valid r.count place r.lamps v.lamps there (omega (arith, v.places, v.count)))
+    (sym (number-is-cause (lamp_at r place) x) ∙ sym (t.own v.count there).number ∙ e))
 
 -- 8 never occurs in any list of calls
-pub never-8 : (r : Row) (ys : List RowCall) (x : RowCall) → RowValid r → number_of (afterRow r ys) x ≡ 8 → ⊥
-never-8 r ys x v = valid-row-no-8 (afterRow r ys) x (row-valid-after r ys v)
+pub never-8 : (r : Row) (ys : List RowCall) (x : RowCall) → RowValid r → number_of (after_row r ys) x ≡ 8 → ⊥
+never-8 r ys x v = valid-row-no-8 (after_row r ys) x (row-valid-after r ys v)
 
 -- nor 10 for a call to a place below the count
-pub never-10 : (r : Row) (ys : List RowCall) (k : ℕ) (x : Call) → RowValid r → k < r.count → (answeredAt (afterRow r ys) k x).number ≡ 10 → ⊥
+pub never-10 : (r : Row) (ys : List RowCall) (k : ℕ) (x : Call) → RowValid r → k < r.count → (answered_at (after_row r ys) k x).number ≡ 10 → ⊥
 never-10 r ys k x v h e =
     let w = row-valid-after r ys v in
-    let l = lampAt (afterRow r ys) k in
-    let own = ((table-of-rows.places (afterRow r ys) k x).own w.count (omega (arith, count-after r ys, h))).number in
+    let l = lamp_at (after_row r ys) k in
+    let own = ((table-of-rows.places (after_row r ys) k x).own w.count (omega (arith, count-after r ys, h))).number in
     omega (arith, table.most l x, number-is-cause l x, own, e)
 
 -- the widths of every lamp of the row
 abbrev pub InRangeRow : Row → Type 0
-InRangeRow r = (k : ℕ) → k < r.count → InRangeLamp (lampAt r k)
+InRangeRow r = (k : ℕ) → k < r.count → InRangeLamp (lamp_at r k)
 
-pub row-in-range-after : (r : Row) (ys : List RowCall) → RowValid r → InRangeRowCalls ys → InRangeRow r → InRangeRow (afterRow r ys)
+pub row-in-range-after : (r : Row) (ys : List RowCall) → RowValid r → InRangeRowCalls ys → InRangeRow r → InRangeRow (after_row r ys)
 row-in-range-after r ys v t w k h =
     let there : k < r.count = omega (arith, count-after r ys, h) in
     let valid = each-valid r.count k r.lamps v.lamps there (omega (arith, v.places, v.count)) in
-    subst InRangeLamp (sym (its-calls k r ys (in_row r v k there))) (in-range-after (lampAt r k) _ valid (w k there) (given-in-range k r ys t))
+    subst InRangeLamp (sym (its-calls k r ys (in_row r v k there))) (in-range-after (lamp_at r k) _ valid (w k there) (given-in-range k r ys t))

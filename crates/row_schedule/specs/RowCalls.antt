@@ -5,7 +5,7 @@ use Rattle.matter.specs.InRange.{Clock}
 use Rattle.lamp.specs.declared.Call.{Call}
 use Rattle.lamp.specs.InRange.{InRangeCall}
 use Rattle.rows.specs.declared.Row.{Row}
-use Rattle.rows.specs.Rows.{rowCause, rowStepped, answeredAt}
+use Rattle.rows.specs.Rows.{row_cause, row_stepped, answered_at}
 
 -- a row call with a slice of so many bytes, and a call at a place
 pub data RowCall : Type 0 where
@@ -13,25 +13,25 @@ pub data RowCall : Type 0 where
   at : (place : ℕ) → Call → RowCall
 
 -- the row that a call leaves
-abbrev pub nextRow : Row → RowCall → Row
-nextRow r (each size clock) = (rowStepped r size clock).row
-nextRow r (at place x) = (answeredAt r place x).row
+abbrev pub next_row : Row → RowCall → Row
+next_row r (each size clock) = (row_stepped r size clock).row
+next_row r (at place x) = (answered_at r place x).row
 
 -- the row that a list leaves
-unfoldable pub afterRow : Row → List RowCall → Row
-afterRow r [] = r
-afterRow r (x ∷ xs) = afterRow (nextRow r x) xs
+unfoldable pub after_row : Row → List RowCall → Row
+after_row r [] = r
+after_row r (x ∷ xs) = after_row (next_row r x) xs
 
 -- "a row call that the row's rules accept is an accepted step of each lamp that runs": a step, which an idle lamp
 -- refuses with 7; "a call to another place leaves it [..] as they were"
-abbrev pub givenBy : ℕ → Row → RowCall → List Call
-givenBy k r (each size clock) = cond (eqb (rowCause r size clock) accepted) (Call.Step clock ∷ []) []
-givenBy k r (at place x) = cond (eqb place k) (x ∷ []) []
+abbrev pub given_by : ℕ → Row → RowCall → List Call
+given_by k r (each size clock) = cond (eqb (row_cause r size clock) accepted) (Call.Step clock ∷ []) []
+given_by k r (at place x) = cond (eqb place k) (x ∷ []) []
 
 -- what the lamp at place k is given
 unfoldable pub given : ℕ → Row → List RowCall → List Call
 given k r [] = []
-given k r (x ∷ xs) = givenBy k r x ++ given k (nextRow r x) xs
+given k r (x ∷ xs) = given_by k r x ++ given k (next_row r x) xs
 
 -- the widths of their numbers
 abbrev pub InRangeRowCall : RowCall → Type 0

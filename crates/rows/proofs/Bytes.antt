@@ -13,13 +13,13 @@ use Rattle.lamp.specs.declared.Call.{Call}
 use Rattle.commands.specs.Answers.{answer}
 use Rattle.commands.proofs.Table.{table}
 use Rattle.rows.specs.declared.Row.{Row}
-use Rattle.rows.specs.Rows.{noLamp, lampAt, placed, visited, bytes_of, rowCause, rowBytes}
+use Rattle.rows.specs.Rows.{no_lamp, lamp_at, placed, visited, bytes_of, row_cause, row_bytes}
 use Rattle.rows.proofs.Causes.{slice_fits}
 use Rattle.rows.proofs.Laws.{InRow, Room, either, visited-step, accepted-slice, accepted-few, placed-many}
 
 -- the sixteen bytes of a place
-abbrev pub sixteenAt : ℕ → List ℕ → List ℕ
-sixteenAt k out = take 16 (drop (16 * k) out)
+abbrev pub sixteen_at : ℕ → List ℕ → List ℕ
+sixteen_at k out = take 16 (drop (16 * k) out)
 
 filled-16 : (xs : List ℕ) → length xs ≤ 16 → length (filled xs) ≡ 16
 unfolding filled
@@ -36,7 +36,7 @@ bytes-length clock (l ∷ ls) =
     omega (arith, length-append (visited l clock).notices.places (bytes_of clock ls), sixteen l clock, bytes-length clock ls)
 
 place-bytes : (clock k : ℕ) (ls : List Lamp) (rest : List ℕ) → k < length ls →
-    sixteenAt k (bytes_of clock ls ++ rest) ≡ (visited (get_or ls k noLamp) clock).notices.places
+    sixteen_at k (bytes_of clock ls ++ rest) ≡ (visited (get_or ls k no_lamp) clock).notices.places
 place-bytes clock k [] rest h = absurd (omega arith)
 place-bytes clock zero (l ∷ ls) rest h =
     rw (append_assoc (visited l clock).notices.places (bytes_of clock ls) rest)
@@ -47,30 +47,30 @@ place-bytes clock (suc k) (l ∷ ls) rest h =
     (place-bytes clock k ls rest (omega arith))
 
 -- an accepted row call writes at each place what that lamp's own step reports, an idle one's nothing
-pub bytes-at : (r : Row) (out : List ℕ) (clock k : ℕ) → InRow k r → rowCause r (length out) clock ≡ 0 →
-    sixteenAt k (rowBytes r out clock) ≡ (answer (lampAt r k) (Call.Step clock)).notices.places
-unfolding rowBytes
+pub bytes-at : (r : Row) (out : List ℕ) (clock k : ℕ) → InRow k r → row_cause r (length out) clock ≡ 0 →
+    sixteen_at k (row_bytes r out clock) ≡ (answer (lamp_at r k) (Call.Step clock)).notices.places
+unfolding row_bytes
 bytes-at r out clock k h e =
     rw e (place-bytes clock k (placed r) _ (omega (arith, placed-many r h.room, h.there))
-    ∙ rw (get_or-take r.count r.lamps k noLamp h.there, (visited-step (lampAt r k) clock).1))
+    ∙ rw (get_or-take r.count r.lamps k no_lamp h.there, (visited-step (lamp_at r k) clock).1))
 
 all-bytes : (r : Row) (clock : ℕ) → Room r → length (bytes_of clock (placed r)) ≡ 16 * r.count
 all-bytes r clock h = bytes-length clock (placed r) ∙ ap (λ n. 16 * n) (placed-many r h)
 
 -- "Bytes past the last place stay", and the slice its size, whether the call is accepted or not
 pub bytes_past : (r : Row) (out : List ℕ) (clock : ℕ) → length r.lamps ≡ 32 →
-    drop (16 * r.count) (rowBytes r out clock) ≡ drop (16 * r.count) out
-unfolding rowBytes
+    drop (16 * r.count) (row_bytes r out clock) ≡ drop (16 * r.count) out
+unfolding row_bytes
 bytes_past r out clock len =
-    either (eqb (rowCause r (length out) clock) 0)
+    either (eqb (row_cause r (length out) clock) 0)
     (λ e. rw e (drop_at (bytes_of clock (placed r)) (drop (16 * r.count) out) (16 * r.count)
     (all-bytes r clock (record { few = accepted-few r (length out) clock (eqb-true _ _ e); places = len }))))
     (λ e. rw e)
 
-pub bytes-size : (r : Row) (out : List ℕ) (clock : ℕ) → length r.lamps ≡ 32 → length (rowBytes r out clock) ≡ length out
-unfolding rowBytes
+pub bytes-size : (r : Row) (out : List ℕ) (clock : ℕ) → length r.lamps ≡ 32 → length (row_bytes r out clock) ≡ length out
+unfolding row_bytes
 bytes-size r out clock len =
-    either (eqb (rowCause r (length out) clock) 0)
+    either (eqb (row_cause r (length out) clock) 0)
     (λ e. let fits = slice_fits r (length out) (accepted-slice r (length out) clock (eqb-true _ _ e)) in
     let many = all-bytes r clock (record { few = fits.0; places = len }) in
     rw e (omega (arith, length-append (bytes_of clock (placed r)) (drop (16 * r.count) out), length-drop (16 * r.count) out, many, fits.1)))

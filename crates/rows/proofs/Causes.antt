@@ -6,12 +6,12 @@ use mathlib.Core.List.{List, [], ◌∷◌}
 use native.Mathlib.Omega.{arith}
 use borrow.Author.Tests.{ltb-false, leb-false}
 use lib.Dec.{ltb, leb, eqb}
-use Rattle.matter.specs.Limits.{clockLimit}
+use Rattle.matter.specs.Limits.{clock_limit}
 use Rattle.lamp.specs.declared.Lamp.{Lamp}
-use Rattle.lamp.specs.Valid.{lampValid}
-use Rattle.lamp.specs.Answers.{firstCause}
+use Rattle.lamp.specs.Valid.{lamp_valid}
+use Rattle.lamp.specs.Answers.{first_cause}
 use Rattle.rows.specs.declared.Row.{Row}
-use Rattle.rows.specs.Rows.{placed, allValid, anyLater, rowCause, sliceCause, limitCause, visitsCause, placeCause}
+use Rattle.rows.specs.Rows.{placed, all_valid, any_later, row_cause, slice_cause, limit_cause, visits_cause, place_cause}
 
 small : (b : Bool) → cond b 4 0 ≤ 4
 small true = omega arith
@@ -37,15 +37,15 @@ one_more v a b av al rest e = omega (arith, e, worst v a av al b)
 
 -- the worst of the lamps' own causes and the limit's is the row's
 all-lamps : (clock : ℕ) (ls : List Lamp) →
-    max (limitCause clock) (visitsCause clock ls) ≡ cond (not (allValid ls)) 8 (cond (anyLater ls clock || ltb clockLimit clock) 4 0)
-unfolding firstCause
-all-lamps clock [] = go (ltb clockLimit clock)
+    max (limit_cause clock) (visits_cause clock ls) ≡ cond (not (all_valid ls)) 8 (cond (any_later ls clock || ltb clock_limit clock) 4 0)
+unfolding first_cause
+all-lamps clock [] = go (ltb clock_limit clock)
   where
     go : (b : Bool) → max (cond b 4 0) 0 ≡ cond b 4 0
     go true = refl
     go false = refl
 all-lamps clock (l ∷ ls) =
-    one_more (lampValid l) (ltb clock l.clock) (ltb clockLimit clock) (allValid ls) (anyLater ls clock) (visitsCause clock ls)
+    one_more (lamp_valid l) (ltb clock l.clock) (ltb clock_limit clock) (all_valid ls) (any_later ls clock) (visits_cause clock ls)
     (all-lamps clock ls)
 
 by_parts : (a b : Bool) (x y : ℕ) → x ≡ y →
@@ -56,16 +56,16 @@ by_parts false false x y e = sym e
 
 -- before the lamps, then over them
 pub row-cause : (r : Row) (size clock : ℕ) →
-    rowCause r size clock ≡ cond (eqb (sliceCause r size) 0) (max (limitCause clock) (visitsCause clock (placed r))) (sliceCause r size)
-unfolding rowCause sliceCause
+    row_cause r size clock ≡ cond (eqb (slice_cause r size) 0) (max (limit_cause clock) (visits_cause clock (placed r))) (slice_cause r size)
+unfolding row_cause slice_cause
 row-cause r size clock =
     by_parts (ltb 32 r.count) (ltb size (16 * r.count)) _ _ (all-lamps clock (placed r))
 
-pub slice_first : (r : Row) (size clock : ℕ) → eqb (sliceCause r size) 0 ≡ false → rowCause r size clock ≡ sliceCause r size
+pub slice_first : (r : Row) (size clock : ℕ) → eqb (slice_cause r size) 0 ≡ false → row_cause r size clock ≡ slice_cause r size
 slice_first r size clock e = row-cause r size clock ∙ rw e
 
-pub lamps-next : (r : Row) (size clock : ℕ) → sliceCause r size ≡ 0 →
-    rowCause r size clock ≡ max (limitCause clock) (visitsCause clock (placed r))
+pub lamps-next : (r : Row) (size clock : ℕ) → slice_cause r size ≡ 0 →
+    row_cause r size clock ≡ max (limit_cause clock) (visits_cause clock (placed r))
 lamps-next r size clock e = row-cause r size clock ∙ rw e
 
 first_two : (a b : Bool) (n m : ℕ) → cond a 8 (cond b n m) ≡ 0 → 0 < n → (a ≡ false) × (b ≡ false)
@@ -73,14 +73,14 @@ first_two true b n m e p = absurd (omega arith)
 first_two false true n m e p = absurd (omega arith)
 first_two false false n m e p = (refl, refl)
 
-pub slice_fits : (r : Row) (size : ℕ) → sliceCause r size ≡ 0 → (r.count ≤ 32) × (16 * r.count ≤ size)
-unfolding sliceCause
+pub slice_fits : (r : Row) (size : ℕ) → slice_cause r size ≡ 0 → (r.count ≤ 32) × (16 * r.count ≤ size)
+unfolding slice_cause
 slice_fits r size e =
     let f = first_two (ltb 32 r.count) (ltb size (16 * r.count)) 9 0 e (omega arith) in
     (ltb-false 32 r.count f.0, ltb-false size (16 * r.count) f.1)
 
-pub place-there : (r : Row) (place : ℕ) → placeCause r place ≡ 0 → (r.count ≤ 32) × (place < r.count)
-unfolding placeCause
+pub place-there : (r : Row) (place : ℕ) → place_cause r place ≡ 0 → (r.count ≤ 32) × (place < r.count)
+unfolding place_cause
 place-there r place e =
     let f = first_two (ltb 32 r.count) (leb r.count place) 10 0 e (omega arith) in
     (ltb-false 32 r.count f.0, leb-false r.count place f.1)

@@ -6,21 +6,21 @@ use lib.ListN.{length}
 use Rattle.lamp.specs.declared.Call.{Call}
 use Rattle.commands.specs.Answers.{answer}
 use Rattle.rows.specs.declared.Row.{Row}
-use Rattle.rows.specs.Rows.{lampAt, rowCause, rowStepped, rowBytes, answeredAt}
+use Rattle.rows.specs.Rows.{lamp_at, row_cause, row_stepped, row_bytes, answered_at}
 use Rattle.rows.proofs.Laws.{InRow, row-lamp, single-is, single-lamp, single-others}
-use Rattle.rows.proofs.Bytes.{sixteenAt, bytes-at}
+use Rattle.rows.proofs.Bytes.{sixteen_at, bytes-at}
 
 -- two rows with the same lamp at a place: the other lamps and the count are free
 pub record AgreeAt (k : ℕ) (r q : Row) : Type 0 where
   pub left : InRow k r
   pub right : InRow k q
-  pub same : lampAt r k ≡ lampAt q k
+  pub same : lamp_at r k ≡ lamp_at q k
 
 -- a row call that both accept, whatever slices are lent: the same record there, and the same sixteen bytes
 pub row-call-depends : (r q : Row) (out other : List ℕ) (clock k : ℕ) → AgreeAt k r q →
-    rowCause r (length out) clock ≡ 0 → rowCause q (length other) clock ≡ 0 →
-    (lampAt (rowStepped r (length out) clock).row k ≡ lampAt (rowStepped q (length other) clock).row k)
-    × (sixteenAt k (rowBytes r out clock) ≡ sixteenAt k (rowBytes q other clock))
+    row_cause r (length out) clock ≡ 0 → row_cause q (length other) clock ≡ 0 →
+    (lamp_at (row_stepped r (length out) clock).row k ≡ lamp_at (row_stepped q (length other) clock).row k)
+    × (sixteen_at k (row_bytes r out clock) ≡ sixteen_at k (row_bytes q other clock))
 row-call-depends r q out other clock k a e f = (
   row-lamp r (length out) clock k a.left e ∙ ap (λ l. (answer l (Call.Step clock)).lamp) a.same ∙ sym (row-lamp q (length other) clock k a.right f),
   bytes-at r out clock k a.left e ∙ ap (λ l. (answer l (Call.Step clock)).notices.places) a.same ∙ sym (bytes-at q other clock k a.right f),
@@ -28,9 +28,9 @@ row-call-depends r q out other clock k a e f = (
 
 -- a single call there, accepted or not: the same record, number, notices, task and wait
 pub single-depends : (r q : Row) (k : ℕ) (x : Call) → AgreeAt k r q →
-    (lampAt (answeredAt r k x).row k ≡ lampAt (answeredAt q k x).row k)
-    × ((answeredAt r k x).number ≡ (answeredAt q k x).number) × ((answeredAt r k x).notices ≡ (answeredAt q k x).notices)
-    × ((answeredAt r k x).task ≡ (answeredAt q k x).task) × ((answeredAt r k x).wait ≡ (answeredAt q k x).wait)
+    (lamp_at (answered_at r k x).row k ≡ lamp_at (answered_at q k x).row k)
+    × ((answered_at r k x).number ≡ (answered_at q k x).number) × ((answered_at r k x).notices ≡ (answered_at q k x).notices)
+    × ((answered_at r k x).task ≡ (answered_at q k x).task) × ((answered_at r k x).wait ≡ (answered_at q k x).wait)
 single-depends r q k x a =
     let s = single-is r k x a.left in
     let t = single-is q k x a.right in (
@@ -43,5 +43,5 @@ single-depends r q k x a =
 
 -- a single call elsewhere, accepted or not
 pub elsewhere-depends : (r q : Row) (place k : ℕ) (x : Call) → AgreeAt k r q → (k ≡ place → ⊥) →
-    lampAt (answeredAt r place x).row k ≡ lampAt (answeredAt q place x).row k
+    lamp_at (answered_at r place x).row k ≡ lamp_at (answered_at q place x).row k
 elsewhere-depends r q place k x a n = single-others r place k x n ∙ a.same ∙ sym (single-others q place k x n)

@@ -9,22 +9,22 @@ use lib.Dec.{leb, ltb, eqb}
 use lib.ListN.{length, get_or, set}
 use lib.Seq.{get_or-take, get_or-set_same, get_or-set_other, set-get_or, length-take-le}
 use borrow.Author.Tests.{le-ltb, le-leb, lt-leb, leb-false, ltb-false, eqb-true, ne_eqb}
-use Rattle.matter.specs.Limits.{clockLimit}
+use Rattle.matter.specs.Limits.{clock_limit}
 use Rattle.notices.specs.Notices.{noted}
 use Rattle.tasks.specs.declared.GivenTask.{GivenTask}
 use Rattle.tasks.specs.Runs.{runs}
 use Rattle.lamp.specs.declared.Lamp.{Lamp}
 use Rattle.lamp.specs.declared.Answer.{Answer}
 use Rattle.lamp.specs.declared.Call.{Call}
-use Rattle.lamp.specs.Answers.{atClock, badClock, firstCause, refusal}
-use Rattle.lamp.specs.Valid.{lampValid}
-use Rattle.lamp.specs.Calls.{choose, done, stepped, stepCause, stepAnswer}
+use Rattle.lamp.specs.Answers.{at_clock, bad_clock, first_cause, refusal}
+use Rattle.lamp.specs.Valid.{lamp_valid}
+use Rattle.lamp.specs.Calls.{choose, done, stepped, step_cause, step_answer}
 use Rattle.commands.specs.Answers.{cause, answer}
 use Rattle.commands.proofs.Kept.{refused-same, number-is-cause}
 use Rattle.rows.specs.declared.Row.{Row}
 use Rattle.rows.specs.RowTable.{AnswersAs}
-use Rattle.rows.specs.Rows.{mapTo, visited, noLamp, lampAt, placed, rowCause, rowStepped, rowBytes, sliceCause, limitCause, visitsCause, placeCause, answeredAt, row_of, put_at, withLamps}
-use Rattle.rows.proofs.Visiting.{step-mapTo, length-mapTo, step-number}
+use Rattle.rows.specs.Rows.{map_to, visited, no_lamp, lamp_at, placed, row_cause, row_stepped, row_bytes, slice_cause, limit_cause, visits_cause, place_cause, answered_at, row_of, put_at, with_lamps}
+use Rattle.rows.proofs.Visiting.{step-map_to, length-map_to, step-number}
 use Rattle.rows.proofs.Causes.{lamps-next, row-cause, slice_fits}
 
 -- a row's own count and array, and a place of it
@@ -46,14 +46,14 @@ either false f g = g refl
 -- ---- a place
 
 -- a place of the row after the call is that place's own lamp, visited
-pub its_own : {A : Type 0} (f : A → A) (n k : ℕ) (xs : List A) (d : A) → k < n → k < length xs → get_or (mapTo n f xs) k d ≡ f (get_or xs k d)
+pub its_own : {A : Type 0} (f : A → A) (n k : ℕ) (xs : List A) (d : A) → k < n → k < length xs → get_or (map_to n f xs) k d ≡ f (get_or xs k d)
 its_own f zero k xs d h m = absurd (omega arith)
 its_own f (suc n) k [] d h m = absurd (omega arith)
 its_own f (suc n) zero (x ∷ xs) d h m = refl
 its_own f (suc n) (suc k) (x ∷ xs) d h m = its_own f n k xs d (omega arith) (omega arith)
 
 -- and a place past the last stays
-pub past-stays : {A : Type 0} (f : A → A) (n k : ℕ) (xs : List A) (d : A) → n ≤ k → get_or (mapTo n f xs) k d ≡ get_or xs k d
+pub past-stays : {A : Type 0} (f : A → A) (n k : ℕ) (xs : List A) (d : A) → n ≤ k → get_or (map_to n f xs) k d ≡ get_or xs k d
 past-stays f zero k xs d h = refl
 past-stays f (suc n) k [] d h = refl
 past-stays f (suc n) zero (x ∷ xs) d h = absurd (omega arith)
@@ -65,9 +65,9 @@ idle-refuses : (v bad : Bool) (l : Lamp) (a : Answer) →
 idle-refuses true bad l a = refl
 idle-refuses false bad l a = refl
 
-pub idle-answer : (l : Lamp) (clock : ℕ) → runs l.running ≡ false → stepAnswer l clock ≡ refusal l (stepCause l clock)
-unfolding stepAnswer
-idle-answer l clock e = rw e (idle-refuses (lampValid l) (badClock l clock) l (done (stepped (atClock l clock) l.running)))
+pub idle-answer : (l : Lamp) (clock : ℕ) → runs l.running ≡ false → step_answer l clock ≡ refusal l (step_cause l clock)
+unfolding step_answer
+idle-answer l clock e = rw e (idle-refuses (lamp_valid l) (bad_clock l clock) l (done (stepped (at_clock l clock) l.running)))
 
 pub visited-step : (l : Lamp) (clock : ℕ) →
     ((visited l clock).lamp ≡ (answer l (Call.Step clock)).lamp)
@@ -79,7 +79,7 @@ visited-step l clock =
 
 -- ---- in an accepted row call each running lamp's own step has number 0
 
-none-worst : (clock k : ℕ) (ls : List Lamp) → visitsCause clock ls ≡ 0 → k < length ls → firstCause (get_or ls k noLamp) clock ≡ 0
+none-worst : (clock k : ℕ) (ls : List Lamp) → visits_cause clock ls ≡ 0 → k < length ls → first_cause (get_or ls k no_lamp) clock ≡ 0
 none-worst clock k [] e h = absurd (omega arith)
 none-worst clock zero (l ∷ ls) e h = omega (arith, e)
 none-worst clock (suc k) (l ∷ ls) e h = none-worst clock k ls (omega (arith, e)) (omega arith)
@@ -88,22 +88,22 @@ none-worst clock (suc k) (l ∷ ls) e h = none-worst clock k ls (omega (arith, e
 slice-zero : (s x : ℕ) → cond (eqb s 0) x s ≡ 0 → s ≡ 0
 slice-zero s x e = either (eqb s 0) (λ h. eqb-true s 0 h) (λ h. rw h at e)
 
-pub accepted-slice : (r : Row) (size clock : ℕ) → rowCause r size clock ≡ 0 → sliceCause r size ≡ 0
-accepted-slice r size clock e = slice-zero (sliceCause r size) _ (sym (row-cause r size clock) ∙ e)
+pub accepted-slice : (r : Row) (size clock : ℕ) → row_cause r size clock ≡ 0 → slice_cause r size ≡ 0
+accepted-slice r size clock e = slice-zero (slice_cause r size) _ (sym (row-cause r size clock) ∙ e)
 
-pub accepted-few : (r : Row) (size clock : ℕ) → rowCause r size clock ≡ 0 → r.count ≤ 32
+pub accepted-few : (r : Row) (size clock : ℕ) → row_cause r size clock ≡ 0 → r.count ≤ 32
 accepted-few r size clock e = (slice_fits r size (accepted-slice r size clock e)).0
 
-pub accepted-lamps : (r : Row) (size clock : ℕ) → rowCause r size clock ≡ 0 → visitsCause clock (placed r) ≡ 0
+pub accepted-lamps : (r : Row) (size clock : ℕ) → row_cause r size clock ≡ 0 → visits_cause clock (placed r) ≡ 0
 accepted-lamps r size clock e = omega (arith, lamps-next r size clock (accepted-slice r size clock e), e)
 
 -- its places are the row's
 pub placed-many : (r : Row) → Room r → length (placed r) ≡ r.count
 placed-many r h = length-take-le r.count r.lamps (omega (arith, h.few, h.places))
 
-pub accepted-first : (r : Row) (size clock k : ℕ) → InRow k r → rowCause r size clock ≡ 0 → firstCause (lampAt r k) clock ≡ 0
+pub accepted-first : (r : Row) (size clock k : ℕ) → InRow k r → row_cause r size clock ≡ 0 → first_cause (lamp_at r k) clock ≡ 0
 accepted-first r size clock k h e =
-    ap (λ l. firstCause l clock) (sym (get_or-take r.count r.lamps k noLamp h.there))
+    ap (λ l. first_cause l clock) (sym (get_or-take r.count r.lamps k no_lamp h.there))
     ∙ none-worst clock k (placed r) (accepted-lamps r size clock e) (omega (arith, placed-many r h.room, h.there))
 
 -- what it shows of such a lamp: its clock is no later, and the call's within the limit
@@ -113,133 +113,133 @@ clock-good true true high e = absurd (omega (arith, e))
 clock-good true false true e = absurd (omega (arith, e))
 clock-good false late high e = absurd (omega (arith, e))
 
-pub first-none : (l : Lamp) (clock : ℕ) → firstCause l clock ≡ 0 → (l.clock ≤ clock) × (clock ≤ clockLimit)
-unfolding firstCause
+pub first-none : (l : Lamp) (clock : ℕ) → first_cause l clock ≡ 0 → (l.clock ≤ clock) × (clock ≤ clock_limit)
+unfolding first_cause
 first-none l clock e =
-    let f = clock-good (lampValid l) (ltb clock l.clock) (ltb clockLimit clock) e in
-    (ltb-false clock l.clock f.0, ltb-false clockLimit clock f.1)
+    let f = clock-good (lamp_valid l) (ltb clock l.clock) (ltb clock_limit clock) e in
+    (ltb-false clock l.clock f.0, ltb-false clock_limit clock f.1)
 
-pub own-step : (r : Row) (size clock k : ℕ) → InRow k r → rowCause r size clock ≡ 0 → runs (lampAt r k).running ≡ true →
-    (answer (lampAt r k) (Call.Step clock)).number ≡ 0
+pub own-step : (r : Row) (size clock k : ℕ) → InRow k r → row_cause r size clock ≡ 0 → runs (lamp_at r k).running ≡ true →
+    (answer (lamp_at r k) (Call.Step clock)).number ≡ 0
 unfolding answer
-own-step r size clock k h e running = step-number (lampAt r k) clock running ∙ accepted-first r size clock k h e
+own-step r size clock k h e running = step-number (lamp_at r k) clock running ∙ accepted-first r size clock k h e
 
 -- the lamp at a place after an accepted row call is what its own step leaves
-pub row-lamp : (r : Row) (size clock k : ℕ) → InRow k r → rowCause r size clock ≡ 0 →
-    lampAt (rowStepped r size clock).row k ≡ (answer (lampAt r k) (Call.Step clock)).lamp
-unfolding rowStepped
+pub row-lamp : (r : Row) (size clock k : ℕ) → InRow k r → row_cause r size clock ≡ 0 →
+    lamp_at (row_stepped r size clock).row k ≡ (answer (lamp_at r k) (Call.Step clock)).lamp
+unfolding row_stepped
 row-lamp r size clock k h e =
-    rw e (its_own (λ l. (visited l clock).lamp) r.count k r.lamps noLamp h.there (in_array k r h) ∙ (visited-step (lampAt r k) clock).0)
+    rw e (its_own (λ l. (visited l clock).lamp) r.count k r.lamps no_lamp h.there (in_array k r h) ∙ (visited-step (lamp_at r k) clock).0)
 
 -- a lamp past the last place is no part of the row
-pub row-past : (r : Row) (size clock k : ℕ) → r.count ≤ k → lampAt (rowStepped r size clock).row k ≡ lampAt r k
-unfolding rowStepped
+pub row-past : (r : Row) (size clock k : ℕ) → r.count ≤ k → lamp_at (row_stepped r size clock).row k ≡ lamp_at r k
+unfolding row_stepped
 row-past r size clock k h =
-    either (eqb (rowCause r size clock) 0)
-    (λ e. rw e (past-stays (λ l. (visited l clock).lamp) r.count k r.lamps noLamp h))
+    either (eqb (row_cause r size clock) 0)
+    (λ e. rw e (past-stays (λ l. (visited l clock).lamp) r.count k r.lamps no_lamp h))
     (λ e. rw e)
 
-pub row_count : (r : Row) (size clock : ℕ) → (rowStepped r size clock).row.count ≡ r.count
-unfolding rowStepped
-row_count r size clock = either (eqb (rowCause r size clock) 0) (λ e. rw e) (λ e. rw e)
+pub row_count : (r : Row) (size clock : ℕ) → (row_stepped r size clock).row.count ≡ r.count
+unfolding row_stepped
+row_count r size clock = either (eqb (row_cause r size clock) 0) (λ e. rw e) (λ e. rw e)
 
 -- the number of a row call is its cause, and where there is one nothing changes, the slice included
-pub row_number : (r : Row) (size clock : ℕ) → (rowStepped r size clock).number ≡ rowCause r size clock
-unfolding rowStepped
+pub row_number : (r : Row) (size clock : ℕ) → (row_stepped r size clock).number ≡ row_cause r size clock
+unfolding row_stepped
 row_number r size clock =
-    either (eqb (rowCause r size clock) 0) (λ e. rw e (sym (eqb-true _ _ e))) (λ e. rw e)
+    either (eqb (row_cause r size clock) 0) (λ e. rw e (sym (eqb-true _ _ e))) (λ e. rw e)
 
-pub row-refused : (r : Row) (out : List ℕ) (clock : ℕ) → (rowCause r (length out) clock ≡ 0 → ⊥) →
-    (rowStepped r (length out) clock ≡ record { number = rowCause r (length out) clock; row = r; wait = 0 }) × (rowBytes r out clock ≡ out)
-unfolding rowStepped rowBytes
-row-refused r out clock n = rw (ne_eqb (rowCause r (length out) clock) 0 n) (refl, refl)
+pub row-refused : (r : Row) (out : List ℕ) (clock : ℕ) → (row_cause r (length out) clock ≡ 0 → ⊥) →
+    (row_stepped r (length out) clock ≡ record { number = row_cause r (length out) clock; row = r; wait = 0 }) × (row_bytes r out clock ≡ out)
+unfolding row_stepped row_bytes
+row-refused r out clock n = rw (ne_eqb (row_cause r (length out) clock) 0 n) (refl, refl)
 
 -- it is accepted where the slice fits, the clock is none above the limit, and no lamp of the row, idle ones included, has a cause
-all_first : (clock : ℕ) (ls : List Lamp) → ((k : ℕ) → k < length ls → firstCause (get_or ls k noLamp) clock ≡ 0) → visitsCause clock ls ≡ 0
+all_first : (clock : ℕ) (ls : List Lamp) → ((k : ℕ) → k < length ls → first_cause (get_or ls k no_lamp) clock ≡ 0) → visits_cause clock ls ≡ 0
 all_first clock [] f = refl
 all_first clock (l ∷ ls) f = omega (arith, f 0 (omega arith), all_first clock ls (λ k h. f (suc k) (omega arith)))
 
-pub row-accepts : (r : Row) (size clock : ℕ) → Room r → 16 * r.count ≤ size → clock ≤ clockLimit →
-    ((k : ℕ) → k < r.count → firstCause (lampAt r k) clock ≡ 0) → (rowStepped r size clock).number ≡ 0
-unfolding sliceCause
+pub row-accepts : (r : Row) (size clock : ℕ) → Room r → 16 * r.count ≤ size → clock ≤ clock_limit →
+    ((k : ℕ) → k < r.count → first_cause (lamp_at r k) clock ≡ 0) → (row_stepped r size clock).number ≡ 0
+unfolding slice_cause
 row-accepts r size clock h fits low f =
-    let slice : sliceCause r size ≡ 0 = rw (le-ltb 32 r.count h.few, le-ltb size (16 * r.count) fits) in
-    let limit : limitCause clock ≡ 0 = rw (le-ltb clockLimit clock low) in
+    let slice : slice_cause r size ≡ 0 = rw (le-ltb 32 r.count h.few, le-ltb size (16 * r.count) fits) in
+    let limit : limit_cause clock ≡ 0 = rw (le-ltb clock_limit clock low) in
     let lamps = all_first clock (placed r) (λ k m.
     let there : k < r.count = omega (arith, placed-many r h, m) in
-    ap (λ l. firstCause l clock) (get_or-take r.count r.lamps k noLamp there) ∙ f k there) in
+    ap (λ l. first_cause l clock) (get_or-take r.count r.lamps k no_lamp there) ∙ f k there) in
     row_number r size clock ∙ lamps-next r size clock slice ∙ omega (arith, limit, lamps)
 
 -- ---- the row call is the single steps of its places, one after another in rising place
 
-pub no-cause : (r : Row) (k : ℕ) → InRow k r → placeCause r k ≡ 0
-unfolding placeCause
+pub no-cause : (r : Row) (k : ℕ) → InRow k r → place_cause r k ≡ 0
+unfolding place_cause
 no-cause r k h = rw (le-ltb 32 r.count h.room.few, lt-leb r.count k h.there)
 
-abbrev pub stepEach : ℕ → ℕ → Row → ℕ → Row
-stepEach zero k r clock = r
-stepEach (suc left) k r clock = stepEach left (suc k) (answeredAt r k (Call.Step clock)).row clock
+abbrev pub step_each : ℕ → ℕ → Row → ℕ → Row
+step_each zero k r clock = r
+step_each (suc left) k r clock = step_each left (suc k) (answered_at r k (Call.Step clock)).row clock
 
 module _ (clock : ℕ) where
   abbrev visit : Lamp → Lamp
   visit l = (visited l clock).lamp
 
-  one_more : (n : ℕ) (xs : List Lamp) → set (mapTo n visit xs) n (visit (get_or (mapTo n visit xs) n noLamp)) ≡ mapTo (suc n) visit xs
-  one_more n xs = rw (past-stays visit n n xs noLamp (omega arith)) (step-mapTo n visit xs noLamp)
+  one_more : (n : ℕ) (xs : List Lamp) → set (map_to n visit xs) n (visit (get_or (map_to n visit xs) n no_lamp)) ≡ map_to (suc n) visit xs
+  one_more n xs = rw (past-stays visit n n xs no_lamp (omega arith)) (step-map_to n visit xs no_lamp)
 
   at_place : (r : Row) (k : ℕ) → InRow k r →
-      (answeredAt r k (Call.Step clock)).row ≡ withLamps r (set r.lamps k (visit (lampAt r k)))
-  unfolding answeredAt
-  at_place r k h = rw (no-cause r k h, (visited-step (lampAt r k) clock).0)
+      (answered_at r k (Call.Step clock)).row ≡ with_lamps r (set r.lamps k (visit (lamp_at r k)))
+  unfolding answered_at
+  at_place r k h = rw (no-cause r k h, (visited-step (lamp_at r k) clock).0)
 
   from : (r : Row) (left k : ℕ) → Room r → k + left ≤ r.count →
-      stepEach left k (withLamps r (mapTo k visit r.lamps)) clock ≡ withLamps r (mapTo (k + left) visit r.lamps)
-  from r zero k h m = ap (λ n. withLamps r (mapTo n visit r.lamps)) (sym (add-zero k))
+      step_each left k (with_lamps r (map_to k visit r.lamps)) clock ≡ with_lamps r (map_to (k + left) visit r.lamps)
+  from r zero k h m = ap (λ n. with_lamps r (map_to n visit r.lamps)) (sym (add-zero k))
   from r (suc left) k h m =
-      let room : Room (withLamps r (mapTo k visit r.lamps)) = record { few = h.few; places = length-mapTo k visit r.lamps ∙ h.places } in
+      let room : Room (with_lamps r (map_to k visit r.lamps)) = record { few = h.few; places = length-map_to k visit r.lamps ∙ h.places } in
       let e : suc k + left ≡ k + suc left = omega arith in
-      ap (λ q. stepEach left (suc k) q clock) (at_place (withLamps r (mapTo k visit r.lamps)) k (record { there = omega arith; room = room }) ∙ ap (withLamps r) (one_more k r.lamps))
-      ∙ from r left (suc k) h (omega arith) ∙ ap (λ n. withLamps r (mapTo n visit r.lamps)) e
+      ap (λ q. step_each left (suc k) q clock) (at_place (with_lamps r (map_to k visit r.lamps)) k (record { there = omega arith; room = room }) ∙ ap (with_lamps r) (one_more k r.lamps))
+      ∙ from r left (suc k) h (omega arith) ∙ ap (λ n. with_lamps r (map_to n visit r.lamps)) e
 
-  pub singly-is : (r : Row) (size : ℕ) → length r.lamps ≡ 32 → rowCause r size clock ≡ 0 →
-      stepEach r.count 0 r clock ≡ (rowStepped r size clock).row
-  unfolding rowStepped
+  pub singly-is : (r : Row) (size : ℕ) → length r.lamps ≡ 32 → row_cause r size clock ≡ 0 →
+      step_each r.count 0 r clock ≡ (row_stepped r size clock).row
+  unfolding row_stepped
   singly-is r size len e =
       let room : Room r = record { few = accepted-few r size clock e; places = len } in
       let all : 0 + r.count ≡ r.count = omega arith in
-      rw e (from r r.count 0 room (omega arith) ∙ ap (λ n. withLamps r (mapTo n visit r.lamps)) all)
+      rw e (from r r.count 0 room (omega arith) ∙ ap (λ n. with_lamps r (map_to n visit r.lamps)) all)
 
 -- ---- a single call is the lamp's own answer at that place, with every other lamp and the count as they were
 
-pub single-is : (r : Row) (k : ℕ) (x : Call) → InRow k r → AnswersAs (answeredAt r k x) (answer (lampAt r k) x)
-unfolding answeredAt
+pub single-is : (r : Row) (k : ℕ) (x : Call) → InRow k r → AnswersAs (answered_at r k x) (answer (lamp_at r k) x)
+unfolding answered_at
 single-is r k x h =
     let e = no-cause r k h in
     record { number = rw e; notices = rw e; task = rw e; wait = rw e }
 
-pub single-lamp : (r : Row) (k : ℕ) (x : Call) → InRow k r → lampAt (answeredAt r k x).row k ≡ (answer (lampAt r k) x).lamp
-unfolding answeredAt
-single-lamp r k x h = rw (no-cause r k h) (get_or-set_same r.lamps k (answer (lampAt r k) x).lamp noLamp (in_array k r h))
+pub single-lamp : (r : Row) (k : ℕ) (x : Call) → InRow k r → lamp_at (answered_at r k x).row k ≡ (answer (lamp_at r k) x).lamp
+unfolding answered_at
+single-lamp r k x h = rw (no-cause r k h) (get_or-set_same r.lamps k (answer (lamp_at r k) x).lamp no_lamp (in_array k r h))
 
-pub single-others : (r : Row) (place k : ℕ) (x : Call) → (k ≡ place → ⊥) → lampAt (answeredAt r place x).row k ≡ lampAt r k
-unfolding answeredAt
+pub single-others : (r : Row) (place k : ℕ) (x : Call) → (k ≡ place → ⊥) → lamp_at (answered_at r place x).row k ≡ lamp_at r k
+unfolding answered_at
 single-others r place k x n =
-    either (eqb (placeCause r place) 0)
-    (λ e. rw e (get_or-set_other r.lamps place k (answer (lampAt r place) x).lamp noLamp n))
+    either (eqb (place_cause r place) 0)
+    (λ e. rw e (get_or-set_other r.lamps place k (answer (lamp_at r place) x).lamp no_lamp n))
     (λ e. rw e)
 
-pub single-count : (r : Row) (place : ℕ) (x : Call) → (answeredAt r place x).row.count ≡ r.count
-unfolding answeredAt
-single-count r place x = either (eqb (placeCause r place) 0) (λ e. rw e) (λ e. rw e)
+pub single-count : (r : Row) (place : ℕ) (x : Call) → (answered_at r place x).row.count ≡ r.count
+unfolding answered_at
+single-count r place x = either (eqb (place_cause r place) 0) (λ e. rw e) (λ e. rw e)
 
 -- one that is refused, for the place or by its lamp, leaves the row as it was, reports nothing, and has no task and wait 0
-pub single-refused : (r : Row) (k : ℕ) (x : Call) → ((answeredAt r k x).number ≡ 0 → ⊥) →
-    answeredAt r k x ≡ record { number = (answeredAt r k x).number; row = r; notices = noted []; task = GivenTask.Nothing; wait = 0 }
-unfolding answeredAt
+pub single-refused : (r : Row) (k : ℕ) (x : Call) → ((answered_at r k x).number ≡ 0 → ⊥) →
+    answered_at r k x ≡ record { number = (answered_at r k x).number; row = r; notices = noted []; task = GivenTask.Nothing; wait = 0 }
+unfolding answered_at
 single-refused r k x n =
-    either (eqb (placeCause r k) 0)
-    (λ e. let same = refused-same (lampAt r k) x (λ z. (rw e at n) (number-is-cause (lampAt r k) x ∙ z)) in
-    rw (e, same) (ap (λ (ls : List Lamp). record { number = cause (lampAt r k) x; row = withLamps r ls; notices = noted []; task = GivenTask.Nothing; wait = 0 }) (set-get_or r.lamps k noLamp)))
+    either (eqb (place_cause r k) 0)
+    (λ e. let same = refused-same (lamp_at r k) x (λ z. (rw e at n) (number-is-cause (lamp_at r k) x ∙ z)) in
+    rw (e, same) (ap (λ (ls : List Lamp). record { number = cause (lamp_at r k) x; row = with_lamps r ls; notices = noted []; task = GivenTask.Nothing; wait = 0 }) (set-get_or r.lamps k no_lamp)))
     (λ e. rw e)
 
 -- ---- making a row, and putting a lamp into it
@@ -248,11 +248,11 @@ pub made : (count : ℕ) (ls : List Lamp) → ((row_of count ls).count ≡ count
 made count ls = (refl, refl)
 
 pub put_in : (r : Row) (k : ℕ) (l : Lamp) → InRow k r →
-    (lampAt (put_at r k l) k ≡ l) × ((put_at r k l).count ≡ r.count) × ((j : ℕ) → (j ≡ k → ⊥) → lampAt (put_at r k l) j ≡ lampAt r j)
+    (lamp_at (put_at r k l) k ≡ l) × ((put_at r k l).count ≡ r.count) × ((j : ℕ) → (j ≡ k → ⊥) → lamp_at (put_at r k l) j ≡ lamp_at r j)
 unfolding put_at
 put_in r k l h =
     rw (lt-leb r.count k h.there, lt-leb 32 k (omega (arith, h.there, h.room.few)))
-    (get_or-set_same r.lamps k l noLamp (in_array k r h), refl, λ j n. get_or-set_other r.lamps k j l noLamp n)
+    (get_or-set_same r.lamps k l no_lamp (in_array k r h), refl, λ j n. get_or-set_other r.lamps k j l no_lamp n)
 
 -- at and past the count nothing is put, and nothing past the array
 pub put-past : (r : Row) (k : ℕ) (l : Lamp) → min r.count 32 ≤ k → put_at r k l ≡ r

@@ -5,16 +5,16 @@ use mathlib.Core.Path.{◌≡◌, sym, ◌∙◌}
 use native.Mathlib.Omega.{arith}
 use lib.Dec.{ltb, leb}
 use borrow.Author.Tests.{lt-ltb, le-ltb, le-leb, lt-leb, ltb-true, ltb-false, leb-true, leb-false}
-use Rattle.matter.specs.Limits.{clockLimit}
+use Rattle.matter.specs.Limits.{clock_limit}
 use Rattle.lamp.specs.declared.Call.{Call}
 use Rattle.commands.proofs.Table.{table}
 use Rattle.rows.specs.declared.Row.{Row}
-use Rattle.rows.specs.Rows.{placed, allValid, anyLater, lampAt, rowCause, placeCause, answeredAt}
+use Rattle.rows.specs.Rows.{placed, all_valid, any_later, lamp_at, row_cause, place_cause, answered_at}
 use Rattle.rows.specs.RowTable.{RowCauses, PlaceCauses, TableOfRows}
 use Rattle.rows.proofs.Laws.{either, row_number}
 
 row-causes : (r : Row) (size clock : ℕ) → RowCauses r size clock
-unfolding rowCause
+unfolding row_cause
 row-causes r size clock =
     let n = row_number r size clock in
     record {
@@ -26,12 +26,12 @@ row-causes r size clock =
     }
 
 place-causes : (r : Row) (place : ℕ) (x : Call) → PlaceCauses r place x
-unfolding answeredAt placeCause
+unfolding answered_at place_cause
 place-causes r place x =
     record {
       count-8 = λ h. rw (lt-ltb 32 r.count h);
       place-10 = λ h k. rw (le-ltb 32 r.count h, le-leb r.count place k);
-      own = λ h k. let e : placeCause r place ≡ 0 = rw (le-ltb 32 r.count h, lt-leb r.count place k) in
+      own = λ h k. let e : place_cause r place ≡ 0 = rw (le-ltb 32 r.count h, lt-leb r.count place k) in
           record { number = rw e; notices = rw e; task = rw e; wait = rw e };
     }
 
@@ -43,16 +43,16 @@ never-3 false false true true e = omega (arith, e)
 never-3 false false true false e = omega (arith, e)
 
 pub table-of-rows : TableOfRows
-unfolding rowCause
+unfolding row_cause
 table-of-rows =
     record {
       rows = row-causes;
       places = place-causes;
-      no-3 = λ r size clock e. never-3 (ltb 32 r.count) (ltb size (16 * r.count)) (allValid (placed r)) (anyLater (placed r) clock || ltb clockLimit clock) (sym (row_number r size clock) ∙ e);
+      no-3 = λ r size clock e. never-3 (ltb 32 r.count) (ltb size (16 * r.count)) (all_valid (placed r)) (any_later (placed r) clock || ltb clock_limit clock) (sym (row_number r size clock) ∙ e);
       place-no-3 = λ r place x e.
           either (ltb 32 r.count)
           (λ h. omega (arith, (place-causes r place x).count-8 (ltb-true 32 r.count h), e))
           (λ h. either (leb r.count place)
           (λ k. omega (arith, (place-causes r place x).place-10 (ltb-false 32 r.count h) (leb-true r.count place k), e))
-          (λ k. table.no-3 (lampAt r place) x (sym ((place-causes r place x).own (ltb-false 32 r.count h) (leb-false r.count place k)).number ∙ e)));
+          (λ k. table.no-3 (lamp_at r place) x (sym ((place-causes r place x).own (ltb-false 32 r.count h) (leb-false r.count place k)).number ∙ e)));
     }

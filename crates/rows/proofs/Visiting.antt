@@ -8,15 +8,15 @@ use lib.ListN.{length, get_or, set, drop}
 use lib.Seq.{drop-drop}
 use Rattle.lamp.specs.declared.Lamp.{Lamp}
 use Rattle.lamp.specs.declared.Answer.{Answer}
-use Rattle.lamp.specs.Answers.{atClock, firstCause, refusal}
-use Rattle.lamp.specs.Calls.{choose, done, stepped, stepCause, stepAnswer}
+use Rattle.lamp.specs.Answers.{at_clock, first_cause, refusal}
+use Rattle.lamp.specs.Calls.{choose, done, stepped, step_cause, step_answer}
 use Rattle.tasks.specs.Runs.{runs}
 use mathlib.Core.Bool.{Bool, true, false, cond}
 use lib.Dec.{eqb}
 use borrow.Author.Tests.{eqb-true}
 use Rattle.rows.specs.declared.Row.{Row}
 use Rattle.rows.specs.declared.RowStepped.{RowStepped}
-use Rattle.rows.specs.Rows.{row_of, withLamps, visited, visitsCause, lesser, leastWait, bytes_of, mapTo}
+use Rattle.rows.specs.Rows.{row_of, with_lamps, visited, visits_cause, lesser, least_wait, bytes_of, map_to}
 use Rattle.rows.proofs.Places.{left, left-cons}
 
 pub lesser-none : (a : ℕ) → lesser a 0 ≡ a
@@ -39,28 +39,28 @@ lesser-assoc (suc a) (suc b) (suc c) =
     lesser-min (min (suc a) (suc b)) (suc c) (omega arith) (omega arith) ∙ omega arith
     ∙ sym (lesser-min (suc a) (min (suc b) (suc c)) (omega arith) (omega arith))
 
-pub step-mapTo : {A : Type 0} (n : ℕ) (f : A → A) (xs : List A) (d : A) → set (mapTo n f xs) n (f (get_or xs n d)) ≡ mapTo (suc n) f xs
-step-mapTo zero f [] d = refl
-step-mapTo zero f (x ∷ xs) d = refl
-step-mapTo (suc n) f [] d = refl
-step-mapTo {A} (suc n) f (x ∷ xs) d = ap (λ (ys : List A). f x ∷ ys) (step-mapTo n f xs d)
+pub step-map_to : {A : Type 0} (n : ℕ) (f : A → A) (xs : List A) (d : A) → set (map_to n f xs) n (f (get_or xs n d)) ≡ map_to (suc n) f xs
+step-map_to zero f [] d = refl
+step-map_to zero f (x ∷ xs) d = refl
+step-map_to (suc n) f [] d = refl
+step-map_to {A} (suc n) f (x ∷ xs) d = ap (λ (ys : List A). f x ∷ ys) (step-map_to n f xs d)
 
-pub length-mapTo : {A : Type 0} (n : ℕ) (f : A → A) (xs : List A) → length (mapTo n f xs) ≡ length xs
-length-mapTo zero f xs = refl
-length-mapTo (suc n) f [] = refl
-length-mapTo (suc n) f (x ∷ xs) = ap suc (length-mapTo n f xs)
+pub length-map_to : {A : Type 0} (n : ℕ) (f : A → A) (xs : List A) → length (map_to n f xs) ≡ length xs
+length-map_to zero f xs = refl
+length-map_to (suc n) f [] = refl
+length-map_to (suc n) f (x ∷ xs) = ap suc (length-map_to n f xs)
 
 module _ (xs : List Lamp) (n i clock : ℕ) (h : i < n) (k : n ≤ length xs) (d : Lamp) where
-  pub lamps-more : (next : Row) (count : ℕ) → next ≡ row_of count (mapTo i (λ l. (visited l clock).lamp) xs)
-      → withLamps next (set next.lamps i (visited (get_or xs i d) clock).lamp) ≡ row_of count (mapTo (i + 1) (λ l. (visited l clock).lamp) xs)
-  lamps-more next count e = rw (e, add-one i) (ap (row_of count) (step-mapTo i (λ l. (visited l clock).lamp) xs d))
+  pub lamps-more : (next : Row) (count : ℕ) → next ≡ row_of count (map_to i (λ l. (visited l clock).lamp) xs)
+      → with_lamps next (set next.lamps i (visited (get_or xs i d) clock).lamp) ≡ row_of count (map_to (i + 1) (λ l. (visited l clock).lamp) xs)
+  lamps-more next count e = rw (e, add-one i) (ap (row_of count) (step-map_to i (λ l. (visited l clock).lamp) xs d))
 
-  pub wait-more : (w : ℕ) {whole : ℕ} → lesser w (leastWait clock (left n i xs)) ≡ whole
-      → lesser (lesser w (visited (get_or xs i d) clock).wait) (leastWait clock (left n (i + 1) xs)) ≡ whole
-  wait-more w e = lesser-assoc w (visited (get_or xs i d) clock).wait (leastWait clock (left n (i + 1) xs)) ∙ (rw (left-cons xs n i d h k) at e)
+  pub wait-more : (w : ℕ) {whole : ℕ} → lesser w (least_wait clock (left n i xs)) ≡ whole
+      → lesser (lesser w (visited (get_or xs i d) clock).wait) (least_wait clock (left n (i + 1) xs)) ≡ whole
+  wait-more w e = lesser-assoc w (visited (get_or xs i d) clock).wait (least_wait clock (left n (i + 1) xs)) ∙ (rw (left-cons xs n i d h k) at e)
 
-  pub cause-more : (number : ℕ) {whole : ℕ} → max number (visitsCause clock (left n i xs)) ≡ whole
-      → max (max number (firstCause (get_or xs i d) clock)) (visitsCause clock (left n (i + 1) xs)) ≡ whole
+  pub cause-more : (number : ℕ) {whole : ℕ} → max number (visits_cause clock (left n i xs)) ≡ whole
+      → max (max number (first_cause (get_or xs i d) clock)) (visits_cause clock (left n (i + 1) xs)) ≡ whole
   cause-more number e = omega (arith, rw (left-cons xs n i d h k) at e)
 
   pub bytes-more : (done : List ℕ) {whole : List ℕ} → done ++ bytes_of clock (left n i xs) ≡ whole
@@ -79,9 +79,9 @@ choose-number n l a e = go (eqb n 0) refl
     go true h = e ∙ sym (eqb-true n 0 h)
     go false h = refl
 
-pub step-number : (l : Lamp) (clock : ℕ) → runs l.running ≡ true → (stepAnswer l clock).number ≡ firstCause l clock
-unfolding stepAnswer firstCause
-step-number l clock e = choose-number (stepCause l clock) l (done (stepped (atClock l clock) l.running)) refl ∙ rw e
+pub step-number : (l : Lamp) (clock : ℕ) → runs l.running ≡ true → (step_answer l clock).number ≡ first_cause l clock
+unfolding step_answer first_cause
+step-number l clock e = choose-number (step_cause l clock) l (done (stepped (at_clock l clock) l.running)) refl ∙ rw e
 
 -- a row call by its parts
 pub by_parts : (r : RowStepped) {number wait : ℕ} {row : Row} → r.number ≡ number → r.row ≡ row → r.wait ≡ wait

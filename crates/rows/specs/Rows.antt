@@ -1,7 +1,7 @@
 -- Rows of lamps: document 02, A.1. A row has up to 32 lamps; those at and past its count are no part of it.
 use Rattle.std.specs.Prelude.{ℕ, zero, suc, ◌*◌, min, max, Bool, true, false, not, cond, ◌&&◌, ◌||◌, List, [], ◌∷◌, ◌++◌, leb, ltb, eqb, length, set, take, drop, get_or}
-use Rattle.matter.specs.Causes.{accepted, clockRefused, invalidLamp, shortSlice, noPlace}
-use Rattle.matter.specs.Limits.{clockLimit}
+use Rattle.matter.specs.Causes.{accepted, clock_refused, invalid_lamp, short_slice, no_place}
+use Rattle.matter.specs.Limits.{clock_limit}
 use Rattle.notices.specs.Notices.{noted}
 use Rattle.matter.specs.declared.enums.ColorModeEnum.{ColorModeEnum}
 use Rattle.matter.specs.declared.enums.EnhancedColorModeEnum.{EnhancedColorModeEnum}
@@ -12,9 +12,9 @@ use Rattle.tasks.specs.Runs.{runs}
 use Rattle.lamp.specs.declared.Lamp.{Lamp}
 use Rattle.lamp.specs.declared.Answer.{Answer}
 use Rattle.lamp.specs.declared.Call.{Call}
-use Rattle.lamp.specs.Answers.{firstCause, refusal}
-use Rattle.lamp.specs.Calls.{stepAnswer}
-use Rattle.lamp.specs.Valid.{lampValid}
+use Rattle.lamp.specs.Answers.{first_cause, refusal}
+use Rattle.lamp.specs.Calls.{step_answer}
+use Rattle.lamp.specs.Valid.{lamp_valid}
 use Rattle.commands.specs.Answers.{answer}
 use Rattle.rows.specs.declared.Row.{Row}
 use Rattle.rows.specs.declared.RowStepped.{RowStepped}
@@ -28,48 +28,48 @@ abbrev pub placed : Row → List Lamp
 placed r = take r.count r.lamps
 
 -- the row with these lamps
-abbrev pub withLamps : Row → List Lamp → Row
-withLamps r ls = row_of r.count ls
+abbrev pub with_lamps : Row → List Lamp → Row
+with_lamps r ls = row_of r.count ls
 
 -- ---- a row call
 
 -- what it does at one place: "One call at one clock steps every running lamp [..]; idle lamps stay"
 unfoldable pub visited : Lamp → ℕ → Answer
-visited l clock = cond (runs l.running) (stepAnswer l clock) (refusal l accepted)
+visited l clock = cond (runs l.running) (step_answer l clock) (refusal l accepted)
 
 -- "If any lamp, idle ones included, is out of form"
-abbrev pub allValid : List Lamp → Bool
-allValid [] = true
-allValid (l ∷ ls) = lampValid l && allValid ls
+abbrev pub all_valid : List Lamp → Bool
+all_valid [] = true
+all_valid (l ∷ ls) = lamp_valid l && all_valid ls
 
 -- "if the clock is above the limit or earlier than any lamp's, idle ones included"
-abbrev pub anyLater : List Lamp → ℕ → Bool
-anyLater [] clock = false
-anyLater (l ∷ ls) clock = ltb clock l.clock || anyLater ls clock
+abbrev pub any_later : List Lamp → ℕ → Bool
+any_later [] clock = false
+any_later (l ∷ ls) clock = ltb clock l.clock || any_later ls clock
 
-unfoldable pub rowCause : Row → ℕ → ℕ → ℕ
-rowCause r size clock =
-    cond (ltb 32 r.count) invalidLamp
-    (cond (ltb size (16 * r.count)) shortSlice
-    (cond (not (allValid (placed r))) invalidLamp
-    (cond (anyLater (placed r) clock || ltb clockLimit clock) clockRefused accepted)))
+unfoldable pub row_cause : Row → ℕ → ℕ → ℕ
+row_cause r size clock =
+    cond (ltb 32 r.count) invalid_lamp
+    (cond (ltb size (16 * r.count)) short_slice
+    (cond (not (all_valid (placed r))) invalid_lamp
+    (cond (any_later (placed r) clock || ltb clock_limit clock) clock_refused accepted)))
 
 -- the same as the code goes through it: before the lamps, and over them, where 8 is above 4 and 4 above none
-unfoldable pub sliceCause : Row → ℕ → ℕ
-sliceCause r size = cond (ltb 32 r.count) invalidLamp (cond (ltb size (16 * r.count)) shortSlice accepted)
+unfoldable pub slice_cause : Row → ℕ → ℕ
+slice_cause r size = cond (ltb 32 r.count) invalid_lamp (cond (ltb size (16 * r.count)) short_slice accepted)
 
-abbrev pub limitCause : ℕ → ℕ
-limitCause clock = cond (ltb clockLimit clock) clockRefused accepted
+abbrev pub limit_cause : ℕ → ℕ
+limit_cause clock = cond (ltb clock_limit clock) clock_refused accepted
 
-abbrev pub visitsCause : ℕ → List Lamp → ℕ
-visitsCause clock [] = accepted
-visitsCause clock (l ∷ ls) = max (firstCause l clock) (visitsCause clock ls)
+abbrev pub visits_cause : ℕ → List Lamp → ℕ
+visits_cause clock [] = accepted
+visits_cause clock (l ∷ ls) = max (first_cause l clock) (visits_cause clock ls)
 
 -- f at each of the first n
-abbrev pub mapTo : {A : Type 0} → ℕ → (A → A) → List A → List A
-mapTo zero f xs = xs
-mapTo (suc n) f [] = []
-mapTo (suc n) f (x ∷ xs) = f x ∷ mapTo n f xs
+abbrev pub map_to : {A : Type 0} → ℕ → (A → A) → List A → List A
+map_to zero f xs = xs
+map_to (suc n) f [] = []
+map_to (suc n) f (x ∷ xs) = f x ∷ map_to n f xs
 
 -- the lesser of two waits, where 0 is none
 unfoldable pub lesser : ℕ → ℕ → ℕ
@@ -78,60 +78,60 @@ lesser (suc a) zero = suc a
 lesser (suc a) (suc b) = min (suc a) (suc b)
 
 -- "the least wait of those still running, or 0"
-abbrev pub leastWait : ℕ → List Lamp → ℕ
-leastWait clock [] = 0
-leastWait clock (l ∷ ls) = lesser (visited l clock).wait (leastWait clock ls)
+abbrev pub least_wait : ℕ → List Lamp → ℕ
+least_wait clock [] = 0
+least_wait clock (l ∷ ls) = lesser (visited l clock).wait (least_wait clock ls)
 
 -- "Sixteen bytes per place go into a lent slice: the notices, zero filled; an idle lamp's sixteen are zero"
 abbrev pub bytes_of : ℕ → List Lamp → List ℕ
 bytes_of clock [] = []
 bytes_of clock (l ∷ ls) = (visited l clock).notices.places ++ bytes_of clock ls
 
-abbrev pub rowRefusal : Row → ℕ → RowStepped
-rowRefusal r number = record { number = number; row = r; wait = 0 }
+abbrev pub row_refusal : Row → ℕ → RowStepped
+row_refusal r number = record { number = number; row = r; wait = 0 }
 
-abbrev pub rowAfter : Row → ℕ → RowStepped
-rowAfter r clock =
+abbrev pub row_after : Row → ℕ → RowStepped
+row_after r clock =
     record {
       number = accepted;
-      row = withLamps r (mapTo r.count (λ l. (visited l clock).lamp) r.lamps);
-      wait = leastWait clock (placed r);
+      row = with_lamps r (map_to r.count (λ l. (visited l clock).lamp) r.lamps);
+      wait = least_wait clock (placed r);
     }
 
-unfoldable pub rowStepped : Row → ℕ → ℕ → RowStepped
-rowStepped r size clock =
-    cond (eqb (rowCause r size clock) accepted) (rowAfter r clock) (rowRefusal r (rowCause r size clock))
+unfoldable pub row_stepped : Row → ℕ → ℕ → RowStepped
+row_stepped r size clock =
+    cond (eqb (row_cause r size clock) accepted) (row_after r clock) (row_refusal r (row_cause r size clock))
 
 -- the caller's slice after the call: "Bytes past the last place stay"
-unfoldable pub rowBytes : Row → List ℕ → ℕ → List ℕ
-rowBytes r out clock =
-    cond (eqb (rowCause r (length out) clock) accepted) (bytes_of clock (placed r) ++ drop (16 * r.count) out) out
+unfoldable pub row_bytes : Row → List ℕ → ℕ → List ℕ
+row_bytes r out clock =
+    cond (eqb (row_cause r (length out) clock) accepted) (bytes_of clock (placed r) ++ drop (16 * r.count) out) out
 
 -- ---- a call at a place
 
 -- "10, place not in the row, looked at in that same place for a single call, which then checks the form of its own lamp
 -- only"
-unfoldable pub placeCause : Row → ℕ → ℕ
-placeCause r place = cond (ltb 32 r.count) invalidLamp (cond (leb r.count place) noPlace accepted)
+unfoldable pub place_cause : Row → ℕ → ℕ
+place_cause r place = cond (ltb 32 r.count) invalid_lamp (cond (leb r.count place) no_place accepted)
 
-abbrev pub placeRefusal : Row → ℕ → RowAnswer
-placeRefusal r number =
+abbrev pub place_refusal : Row → ℕ → RowAnswer
+place_refusal r number =
     record { number = number; row = r; notices = noted []; task = GivenTask.Nothing; wait = 0 }
 
 -- the lamp's own answer, and the row with that lamp in it
-abbrev pub withAnswer : Row → ℕ → Answer → RowAnswer
-withAnswer r place a =
+abbrev pub with_answer : Row → ℕ → Answer → RowAnswer
+with_answer r place a =
     record {
       number = a.number;
-      row = withLamps r (set r.lamps place a.lamp);
+      row = with_lamps r (set r.lamps place a.lamp);
       notices = a.notices;
       task = a.task;
       wait = a.wait;
     }
 
 -- for `get_or`, at a place that there is not: no contract has it in an answer
-abbrev pub noLamp : Lamp
-noLamp =
+abbrev pub no_lamp : Lamp
+no_lamp =
     record {
       clock = 0;
       bounds = record { min = 0; max = 0 };
@@ -152,14 +152,14 @@ noLamp =
     }
 
 -- the lamp at a place
-abbrev pub lampAt : Row → ℕ → Lamp
-lampAt r place = get_or r.lamps place noLamp
+abbrev pub lamp_at : Row → ℕ → Lamp
+lamp_at r place = get_or r.lamps place no_lamp
 
-unfoldable pub answeredAt : Row → ℕ → Call → RowAnswer
-answeredAt r place x =
-    cond (eqb (placeCause r place) accepted) (withAnswer r place (answer (lampAt r place) x))
-    (placeRefusal r (placeCause r place))
+unfoldable pub answered_at : Row → ℕ → Call → RowAnswer
+answered_at r place x =
+    cond (eqb (place_cause r place) accepted) (with_answer r place (answer (lamp_at r place) x))
+    (place_refusal r (place_cause r place))
 
 -- ---- putting a lamp into a row: "as it was" at or past the count, and at no place of the array
 unfoldable pub put_at : Row → ℕ → Lamp → Row
-put_at r place l = cond (leb r.count place || leb 32 place) r (withLamps r (set r.lamps place l))
+put_at r place l = cond (leb r.count place || leb 32 place) r (with_lamps r (set r.lamps place l))

@@ -1,8 +1,8 @@
 // Rows of lamps: up to 32 of them, each at its place. One call steps every lamp that runs; a single call goes to one place.
 // Document 02, A.1.
 ghost use Rattle.std.specs.Prelude.{◌≡◌, ◌++◌, ◌*◌, ◌+◌, ◌≤◌, ◌<◌, max, ltb, length, take, drop, set, get_or};
-ghost use Rattle.rows.specs.Rows.{placed, visited, visitsCause, limitCause, sliceCause, lesser, mapTo, leastWait, bytes_of, row_of, withLamps, rowStepped, rowBytes, rowRefusal, placeCause, answeredAt, placeRefusal, put_at};
-ghost use Rattle.lamp.specs.Answers.{firstCause};
+ghost use Rattle.rows.specs.Rows.{placed, visited, visits_cause, limit_cause, slice_cause, lesser, map_to, least_wait, bytes_of, row_of, with_lamps, row_stepped, row_bytes, row_refusal, place_cause, answered_at, place_refusal, put_at};
+ghost use Rattle.lamp.specs.Answers.{first_cause};
 
 use commands::call;
 use lamp::{Answer, Call, Lamp};
@@ -14,14 +14,14 @@ use tasks::GivenTask;
 pub const MOST: u8 = 32;
 
 // The first `count` lamps are the row; those behind them are no part of it.
-#[derive(Drop)]
+#[derive(Clone, Copy)]
 pub struct Row {
     pub count: u8,
     pub lamps: [Lamp; 32],
 }
 
 // What a row call gives: 0 or the number of its refusal, the row after it, and the least wait of the lamps that run on.
-#[derive(Drop)]
+#[derive(Clone, Copy)]
 pub struct RowStepped {
     pub number: u8,
     pub row: Row,
@@ -29,7 +29,7 @@ pub struct RowStepped {
 }
 
 // What a call at a place gives: its lamp's answer, with the row in place of the lamp.
-#[derive(Drop)]
+#[derive(Clone, Copy)]
 pub struct RowAnswer {
     pub number: u8,
     pub row: Row,
@@ -40,7 +40,7 @@ pub struct RowAnswer {
 
 // What a row call does at one place: a lamp that runs is stepped, an idle one stays. The number is the lamp's own cause.
 fn visit(lamp: Lamp, clock: u64) -> Answer
-    ensures { (result.lamp ≡ (visited lamp clock).lamp) × (result.notices ≡ (visited lamp clock).notices) × (result.wait ≡ (visited lamp clock).wait) × (result.number ≡ firstCause lamp clock) }
+    ensures { (result.lamp ≡ (visited lamp clock).lamp) × (result.notices ≡ (visited lamp clock).notices) × (result.wait ≡ (visited lamp clock).wait) × (result.number ≡ first_cause lamp clock) }
 {
     let running = lamp.running;
     if running.is_running() {
@@ -71,7 +71,7 @@ fn first_of(a: u8, b: u8) -> u8
 
 // A clock above the limit, which a row of no lamps refuses too.
 fn limit_cause(clock: u64) -> u8
-    ensures { result ≡ limitCause clock }
+    ensures { result ≡ limit_cause clock }
 {
     if CLOCK_LIMIT < clock {
         CLOCK_REFUSED
@@ -120,7 +120,7 @@ impl Row {
 
     fn with_lamp_at(self, place: u8, lamp: Lamp) -> Row
         requires { place < 32 }
-        ensures { result ≡ withLamps self (set self.lamps place lamp) }
+        ensures { result ≡ with_lamps self (set self.lamps place lamp) }
     {
         let at = place as usize;
         let mut row = self;
@@ -129,7 +129,7 @@ impl Row {
     }
 
     fn refused(self, number: u8) -> RowStepped
-        ensures { result ≡ rowRefusal self number }
+        ensures { result ≡ row_refusal self number }
     {
         RowStepped {
             number,
@@ -139,7 +139,7 @@ impl Row {
     }
 
     fn refused_at(self, number: u8) -> RowAnswer
-        ensures { result ≡ placeRefusal self number }
+        ensures { result ≡ place_refusal self number }
     {
         RowAnswer {
             number,
@@ -159,7 +159,7 @@ impl Row {
 
     // What is checked before the lamps: the count, and the slice.
     fn slice_cause(self, size: usize) -> u8
-        ensures { result ≡ sliceCause self size }
+        ensures { result ≡ slice_cause self size }
     {
         if self.too_many() {
             return INVALID_LAMP;
@@ -174,7 +174,7 @@ impl Row {
     // they report goes into `bytes`.
     fn visit_all(self, bytes: &mut [u8], clock: u64) -> RowStepped
         requires { (self.count ≤ 32) × (16 * self.count ≤ length bytes.old) }
-        ensures { (result.row ≡ withLamps self (mapTo self.count (λ l. (visited l clock).lamp) self.lamps)) × (result.wait ≡ leastWait clock (placed self)) × (result.number ≡ visitsCause clock (placed self)) × (take (16 * self.count) bytes.new ≡ bytes_of clock (placed self)) }
+        ensures { (result.row ≡ with_lamps self (map_to self.count (λ l. (visited l clock).lamp) self.lamps)) × (result.wait ≡ least_wait clock (placed self)) × (result.number ≡ visits_cause clock (placed self)) × (take (16 * self.count) bytes.new ≡ bytes_of clock (placed self)) }
     {
         let n = self.count as usize;
         let mut next = self;
@@ -202,7 +202,7 @@ impl Row {
 
     // One call at one clock: every lamp that runs is stepped, in rising place, and reports into its sixteen bytes.
     pub fn step(self, out: &mut [u8], clock: u64) -> RowStepped
-        ensures { (result ≡ rowStepped self (length out.old) clock) × (out.new ≡ rowBytes self out.old clock) }
+        ensures { (result ≡ row_stepped self (length out.old) clock) × (out.new ≡ row_bytes self out.old clock) }
     {
         let early = self.slice_cause(out.len());
         if early != ACCEPTED {
@@ -220,7 +220,7 @@ impl Row {
 
     // What is checked before the lamp: the count, and the place.
     fn place_cause(self, place: u8) -> u8
-        ensures { result ≡ placeCause self place }
+        ensures { result ≡ place_cause self place }
     {
         if self.too_many() {
             return INVALID_LAMP;
@@ -233,7 +233,7 @@ impl Row {
 
     // Any call of the lamp at a place.
     pub fn call_at(self, place: u8, asked: Call) -> RowAnswer
-        ensures { result ≡ answeredAt self place asked }
+        ensures { result ≡ answered_at self place asked }
     {
         let number = self.place_cause(place);
         if number != ACCEPTED {

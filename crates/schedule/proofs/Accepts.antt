@@ -4,33 +4,33 @@ use mathlib.Core.Bool.{Bool, true, false, not, cond, ◌&&◌, ◌||◌}
 use mathlib.Core.Path.{◌≡◌, refl, sym, ◌∙◌, ap}
 use lib.Dec.{leb, eqb}
 use borrow.Author.Tests.{eqb-true, eqb-false}
-use Rattle.matter.specs.Limits.{clockLimit}
-use Rattle.tasks.specs.Valid.{taskValid}
+use Rattle.matter.specs.Limits.{clock_limit}
+use Rattle.tasks.specs.Valid.{task_valid}
 use Rattle.tasks.specs.Runs.{runs}
 use Rattle.lamp.specs.declared.Lamp.{Lamp}
 use Rattle.lamp.specs.declared.Answer.{Answer}
-use Rattle.lamp.specs.Answers.{badClock, firstCause}
-use Rattle.lamp.specs.Valid.{lampValid}
+use Rattle.lamp.specs.Answers.{bad_clock, first_cause}
+use Rattle.lamp.specs.Valid.{lamp_valid}
 use Rattle.lamp.specs.declared.Call.{Call}
 use Rattle.commands.specs.Commands.{checks}
-use Rattle.commands.specs.Answers.{commandCause, cause, answer, granted, clockOf}
+use Rattle.commands.specs.Answers.{command_cause, cause, answer, granted, clock_of}
 use Rattle.commands.proofs.Kept.{answer-both, number-is-cause, refused-same}
 use Rattle.schedule.specs.Calls.{next, accepts}
 use Rattle.schedule.proofs.Tests.{below-is}
 
 -- a clock that a lamp takes
 abbrev pub timely : ℕ → ℕ → Bool
-timely now clock = leb now clock && leb clock clockLimit
+timely now clock = leb now clock && leb clock clock_limit
 
 -- a call that nothing but validity and clock can turn away
 abbrev pub grounds : Lamp → Call → Bool
-grounds l (Call.Command r onOff clock) = (checks r.command).stop || eqb (checks r.command).cause 0
-grounds l (Call.Start task clock) = taskValid task
+grounds l (Call.Command r on_off clock) = (checks r.command).stop || eqb (checks r.command).cause 0
+grounds l (Call.Start task clock) = task_valid task
 grounds l (Call.Step clock) = runs l.running
 grounds l (Call.Halt clock) = true
 
-bad-is : (l : Lamp) (clock : ℕ) → badClock l clock ≡ not (timely l.clock clock)
-bad-is l clock = rw (below-is clock l.clock, below-is clockLimit clock) (go (leb l.clock clock) (leb clock clockLimit))
+bad-is : (l : Lamp) (clock : ℕ) → bad_clock l clock ≡ not (timely l.clock clock)
+bad-is l clock = rw (below-is clock l.clock, below-is clock_limit clock) (go (leb l.clock clock) (leb clock clock_limit))
   where
     go : (a b : Bool) → (not a || not b) ≡ not (a && b)
     go true b = refl
@@ -57,15 +57,15 @@ halt-table : (t : Bool) → eqb (cond (not t) 4 0) 0 ≡ (t && true)
 halt-table true = refl
 halt-table false = refl
 
-table : (l : Lamp) (x : Call) → lampValid l ≡ true → eqb (cause l x) 0 ≡ (timely l.clock (clockOf x) && grounds l x)
-unfolding cause commandCause firstCause
-table l (Call.Command r onOff clock) f = rw (f, bad-is l clock) (command-table (timely l.clock clock) (checks r.command).stop (checks r.command).cause)
-table l (Call.Start task clock) f = rw (f, bad-is l clock) (start-table (timely l.clock clock) (taskValid task))
+table : (l : Lamp) (x : Call) → lamp_valid l ≡ true → eqb (cause l x) 0 ≡ (timely l.clock (clock_of x) && grounds l x)
+unfolding cause command_cause first_cause
+table l (Call.Command r on_off clock) f = rw (f, bad-is l clock) (command-table (timely l.clock clock) (checks r.command).stop (checks r.command).cause)
+table l (Call.Start task clock) f = rw (f, bad-is l clock) (start-table (timely l.clock clock) (task_valid task))
 table l (Call.Step clock) f = rw (f, bad-is l clock) (step-table (timely l.clock clock) (runs l.running))
 table l (Call.Halt clock) f = rw (f, bad-is l clock) (halt-table (timely l.clock clock))
 
 -- accepted where clock and grounds are good
-pub accepts-is : (l : Lamp) (x : Call) → lampValid l ≡ true → accepts l x ≡ (timely l.clock (clockOf x) && grounds l x)
+pub accepts-is : (l : Lamp) (x : Call) → lamp_valid l ≡ true → accepts l x ≡ (timely l.clock (clock_of x) && grounds l x)
 accepts-is l x f = ap (λ (n : ℕ). eqb n 0) (number-is-cause l x) ∙ table l x f
 
 -- an accepted call has no cause

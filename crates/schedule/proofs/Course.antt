@@ -8,15 +8,15 @@ use native.Mathlib.Omega.{arith}
 use lib.Dec.{leb, eqb}
 use lib.IntN.{nat_abs}
 use borrow.Author.Tests.{leb-true, leb-false, le-leb, lt-leb, eqb-true, ne_eqb, not-true}
-use Rattle.matter.specs.Limits.{clockLimit}
-use Rattle.hue.specs.Hue.{movedHue}
+use Rattle.matter.specs.Limits.{clock_limit}
+use Rattle.hue.specs.Hue.{moved_hue}
 use Rattle.hue.proofs.Laws.{way-small}
-use Rattle.progress.specs.Progress.{permilleOf, part_of}
+use Rattle.progress.specs.Progress.{permille_of, part_of}
 use Rattle.progress.proofs.Laws.{permille-most, permille-grows, part-within, part-grows}
 use Rattle.lamp.specs.declared.Call.{Call}
-use Rattle.commands.specs.Answers.{clockOf}
-use Rattle.schedule.specs.Calls.{isStep}
-use Rattle.schedule.specs.Schedule.{target, deltaFrom, time, Fed, Shown, over, shownAt, takes, whenTaken, followed}
+use Rattle.commands.specs.Answers.{clock_of}
+use Rattle.schedule.specs.Calls.{is_step}
+use Rattle.schedule.specs.Schedule.{target, delta_from, time, Fed, Shown, over, shown_at, takes, when_taken, followed}
 use Rattle.matter.proofs.Laws.{and_left, and_right, or_left, or_right}
 use Rattle.schedule.proofs.Tests.{either, never, positive, leb-same}
 use Rattle.schedule.proofs.Arithmetic.{gone, gone-part, gone_whole}
@@ -28,26 +28,26 @@ pub record Sane (f : Fed) : Type 0 where
   pub time : time f.fade ≤ 6553500
 
 -- how much of the way a hue shows travelled, and the whole of it
-abbrev pub goneOf : Fed → ℕ → ℕ
-goneOf f hue = gone (deltaFrom f.fade f.found) f.found hue
+abbrev pub gone_of : Fed → ℕ → ℕ
+gone_of f hue = gone (delta_from f.fade f.found) f.found hue
 
 abbrev pub whole_of : Fed → ℕ
-whole_of f = nat_abs (deltaFrom f.fade f.found)
+whole_of f = nat_abs (delta_from f.fade f.found)
 
 -- the size of the part at a clock
 abbrev pub part_at : Fed → ℕ → ℕ
-part_at f clock = nat_abs (part_of (deltaFrom f.fade f.found) (permilleOf (clock - f.start) (time f.fade)))
+part_at f clock = nat_abs (part_of (delta_from f.fade f.found) (permille_of (clock - f.start) (time f.fade)))
 
 -- what holds of the schedule at every time
 pub record Right (f : Fed) (s : Shown) : Type 0 where
   pub since : f.start ≤ s.clock
-  pub small : goneOf f s.hue ≤ whole_of f
-  pub bound : s.done ≡ false → goneOf f s.hue ≤ part_at f s.clock
+  pub small : gone_of f s.hue ≤ whole_of f
+  pub bound : s.done ≡ false → gone_of f s.hue ≤ part_at f s.clock
   pub ends : s.done ≡ true → (s.hue ≡ target f.fade) × (s.remaining ≡ 0)
   pub live : s.done ≡ false → (0 < time f.fade) × (0 < whole_of f)
 
 part-later : (f : Fed) (b c : ℕ) → b ≤ c → part_at f b ≤ part_at f c
-part-later f b c h = part-grows (deltaFrom f.fade f.found) _ _ (permille-grows (b - f.start) (c - f.start) (time f.fade) (omega arith))
+part-later f b c h = part-grows (delta_from f.fade f.found) _ _ (permille-grows (b - f.start) (c - f.start) (time f.fade) (omega arith))
 
 -- a later clock changes nothing else
 later-right : (f : Fed) (s : Shown) (clock : ℕ) → Right f s → s.clock ≤ clock → Right f (record { clock = clock; hue = s.hue; remaining = s.remaining; wait = s.wait; done = s.done })
@@ -61,23 +61,23 @@ later-right f s clock r h =
     }
 
 -- a place is done where it is over
-pub done-is : (f : Fed) (clock : ℕ) → (shownAt f clock).done ≡ over f (clock - f.start)
-unfolding shownAt
+pub done-is : (f : Fed) (clock : ℕ) → (shown_at f clock).done ≡ over f (clock - f.start)
+unfolding shown_at
 done-is f clock = elim (either (over f (clock - f.start))) [ inl e ↦ rw e | inr e ↦ rw e ]
 
 module _ (f : Fed) (n : Sane f) where
   -- the whole way is travelled at the target
-  gone-target : goneOf f (target f.fade) ≡ whole_of f
+  gone-target : gone_of f (target f.fade) ≡ whole_of f
   gone-target = gone_whole f.found (target f.fade) f.fade.direction n.found n.target
 
   -- and so much of it as the part's size at a place before the end
-  gone_at : (clock : ℕ) → goneOf f (movedHue f.found (part_of (deltaFrom f.fade f.found) (permilleOf (clock - f.start) (time f.fade)))) ≡ part_at f clock
-  gone_at clock = gone-part (deltaFrom f.fade f.found) f.found (permilleOf (clock - f.start) (time f.fade)) n.found (way-small f.found (target f.fade) f.fade.direction) (permille-most (clock - f.start) (time f.fade))
+  gone_at : (clock : ℕ) → gone_of f (moved_hue f.found (part_of (delta_from f.fade f.found) (permille_of (clock - f.start) (time f.fade)))) ≡ part_at f clock
+  gone_at clock = gone-part (delta_from f.fade f.found) f.found (permille_of (clock - f.start) (time f.fade)) n.found (way-small f.found (target f.fade) f.fade.direction) (permille-most (clock - f.start) (time f.fade))
 
   -- ---- a place of the schedule
 
-  pub at_right : (clock : ℕ) → f.start ≤ clock → Right f (shownAt f clock)
-  unfolding shownAt
+  pub at_right : (clock : ℕ) → f.start ≤ clock → Right f (shown_at f clock)
+  unfolding shown_at
   at_right clock h =
       elim (either (over f (clock - f.start))) [
         | inl e ↦ rw e
@@ -90,7 +90,7 @@ module _ (f : Fed) (n : Sane f) where
             })
         | inr e ↦
             let t : clock - f.start < time f.fade = leb-false (time f.fade) (clock - f.start) (or_left (leb (time f.fade) (clock - f.start)) _ e) in
-            let w = part-within (deltaFrom f.fade f.found) (permilleOf (clock - f.start) (time f.fade)) (permille-most (clock - f.start) (time f.fade)) in
+            let w = part-within (delta_from f.fade f.found) (permille_of (clock - f.start) (time f.fade)) (permille-most (clock - f.start) (time f.fade)) in
             rw e
             (record {
               since = h;
@@ -102,8 +102,8 @@ module _ (f : Fed) (n : Sane f) where
       ]
 
   -- from an earlier time on the way travelled has not shrunk
-  at_on : (s : Shown) (clock : ℕ) → Right f s → s.done ≡ false → s.clock ≤ clock → goneOf f s.hue ≤ goneOf f (shownAt f clock).hue
-  unfolding shownAt
+  at_on : (s : Shown) (clock : ℕ) → Right f s → s.done ≡ false → s.clock ≤ clock → gone_of f s.hue ≤ gone_of f (shown_at f clock).hue
+  unfolding shown_at
   at_on s clock r d h =
       let b = r.bound d in
       let m = part-later f s.clock clock h in
@@ -116,28 +116,28 @@ module _ (f : Fed) (n : Sane f) where
 -- ---- a call that the schedule takes, or not
 
 -- a step that is taken
-abbrev pub stepTaken : Shown → Call → Bool
-stepTaken s x = isStep x && takes s x
+abbrev pub step_taken : Shown → Call → Bool
+step_taken s x = is_step x && takes s x
 
-pub takes-late : (s : Shown) (x : Call) → takes s x ≡ true → s.clock ≤ clockOf x
-takes-late s x e = leb-true s.clock (clockOf x) (and_left (leb s.clock (clockOf x)) _ (and_left (leb s.clock (clockOf x) && leb (clockOf x) clockLimit) _ e))
+pub takes-late : (s : Shown) (x : Call) → takes s x ≡ true → s.clock ≤ clock_of x
+takes-late s x e = leb-true s.clock (clock_of x) (and_left (leb s.clock (clock_of x)) _ (and_left (leb s.clock (clock_of x) && leb (clock_of x) clock_limit) _ e))
 
-pub taken : (f : Fed) (s : Shown) (x : Call) → takes s x ≡ true → followed f s x ≡ whenTaken f s x
+pub taken : (f : Fed) (s : Shown) (x : Call) → takes s x ≡ true → followed f s x ≡ when_taken f s x
 taken f s x e = rw e
 
 pub refused : (f : Fed) (s : Shown) (x : Call) → takes s x ≡ false → followed f s x ≡ s
 refused f s x e = rw e
 
 -- a step is taken only before the end
-pub step-open : (s : Shown) (x : Call) → stepTaken s x ≡ true → (s.done ≡ false) × (s.clock ≤ clockOf x)
-step-open s (Call.Command asked onOff clock) e = never refl (sym e)
+pub step-open : (s : Shown) (x : Call) → step_taken s x ≡ true → (s.done ≡ false) × (s.clock ≤ clock_of x)
+step-open s (Call.Command asked on_off clock) e = never refl (sym e)
 step-open s (Call.Start task clock) e = never refl (sym e)
-step-open s (Call.Step clock) e = (not-true s.done (and_right (leb s.clock clock && leb clock clockLimit) _ e), takes-late s (Call.Step clock) e)
+step-open s (Call.Step clock) e = (not-true s.done (and_right (leb s.clock clock && leb clock clock_limit) _ e), takes-late s (Call.Step clock) e)
 step-open s (Call.Halt clock) e = never refl (sym e)
 
 -- and leads to the place of its clock
-pub step_is : (f : Fed) (s : Shown) (x : Call) → stepTaken s x ≡ true → followed f s x ≡ shownAt f (clockOf x)
-step_is f s (Call.Command asked onOff clock) e = never refl (sym e)
+pub step_is : (f : Fed) (s : Shown) (x : Call) → step_taken s x ≡ true → followed f s x ≡ shown_at f (clock_of x)
+step_is f s (Call.Command asked on_off clock) e = never refl (sym e)
 step_is f s (Call.Start task clock) e = never refl (sym e)
 step_is f s (Call.Step clock) e = taken f s (Call.Step clock) e
 step_is f s (Call.Halt clock) e = never refl (sym e)
@@ -147,15 +147,15 @@ same-done : (s t : Shown) (b : Bool) → t.done ≡ s.done → (cond b t s).done
 same-done s t true e = e
 same-done s t false e = refl
 
-pub other-is : (f : Fed) (s : Shown) (x : Call) → stepTaken s x ≡ false → (followed f s x).done ≡ s.done
-other-is f s (Call.Command asked onOff clock) e = same-done s (whenTaken f s (Call.Command asked onOff clock)) (takes s (Call.Command asked onOff clock)) refl
-other-is f s (Call.Start task clock) e = same-done s (whenTaken f s (Call.Start task clock)) (takes s (Call.Start task clock)) refl
+pub other-is : (f : Fed) (s : Shown) (x : Call) → step_taken s x ≡ false → (followed f s x).done ≡ s.done
+other-is f s (Call.Command asked on_off clock) e = same-done s (when_taken f s (Call.Command asked on_off clock)) (takes s (Call.Command asked on_off clock)) refl
+other-is f s (Call.Start task clock) e = same-done s (when_taken f s (Call.Start task clock)) (takes s (Call.Start task clock)) refl
 other-is f s (Call.Step clock) e = ap (λ (t : Shown). t.done) (refused f s (Call.Step clock) e)
-other-is f s (Call.Halt clock) e = same-done s (whenTaken f s (Call.Halt clock)) (takes s (Call.Halt clock)) refl
+other-is f s (Call.Halt clock) e = same-done s (when_taken f s (Call.Halt clock)) (takes s (Call.Halt clock)) refl
 
 module _ (f : Fed) (n : Sane f) (s : Shown) (r : Right f s) where
-  taken-right : (x : Call) → takes s x ≡ true → Right f (whenTaken f s x)
-  taken-right (Call.Command asked onOff clock) e = later-right f s clock r (takes-late s (Call.Command asked onOff clock) e)
+  taken-right : (x : Call) → takes s x ≡ true → Right f (when_taken f s x)
+  taken-right (Call.Command asked on_off clock) e = later-right f s clock r (takes-late s (Call.Command asked on_off clock) e)
   taken-right (Call.Start task clock) e = later-right f s clock r (takes-late s (Call.Start task clock) e)
   taken-right (Call.Step clock) e = at_right f n clock (le_trans r.since (takes-late s (Call.Step clock) e))
   taken-right (Call.Halt clock) e = later-right f s clock r (takes-late s (Call.Halt clock) e)
@@ -163,30 +163,30 @@ module _ (f : Fed) (n : Sane f) (s : Shown) (r : Right f s) where
   pub followed-right : (x : Call) → Right f (followed f s x)
   followed-right x = elim (either (takes s x)) [ inl e ↦ rw e (taken-right x e) | inr e ↦ rw e r ]
 
-  taken-on : (x : Call) → takes s x ≡ true → goneOf f s.hue ≤ goneOf f (whenTaken f s x).hue
-  taken-on (Call.Command asked onOff clock) e = le_refl (goneOf f s.hue)
-  taken-on (Call.Start task clock) e = le_refl (goneOf f s.hue)
+  taken-on : (x : Call) → takes s x ≡ true → gone_of f s.hue ≤ gone_of f (when_taken f s x).hue
+  taken-on (Call.Command asked on_off clock) e = le_refl (gone_of f s.hue)
+  taken-on (Call.Start task clock) e = le_refl (gone_of f s.hue)
   taken-on (Call.Step clock) e = let o = step-open s (Call.Step clock) e in at_on f n s clock r o.0 o.1
-  taken-on (Call.Halt clock) e = le_refl (goneOf f s.hue)
+  taken-on (Call.Halt clock) e = le_refl (gone_of f s.hue)
 
   -- over a call the way travelled never shrinks
-  pub followed-on : (x : Call) → goneOf f s.hue ≤ goneOf f (followed f s x).hue
-  followed-on x = elim (either (takes s x)) [ inl e ↦ rw e (taken-on x e) | inr e ↦ rw e (le_refl (goneOf f s.hue)) ]
+  pub followed-on : (x : Call) → gone_of f s.hue ≤ gone_of f (followed f s x).hue
+  followed-on x = elim (either (takes s x)) [ inl e ↦ rw e (taken-on x e) | inr e ↦ rw e (le_refl (gone_of f s.hue)) ]
 
-  at_done : (clock : ℕ) → f.start ≤ clock → 0 < whole_of f → (shownAt f clock).done ≡ leb (f.start + time f.fade) clock
+  at_done : (clock : ℕ) → f.start ≤ clock → 0 < whole_of f → (shown_at f clock).done ≡ leb (f.start + time f.fade) clock
   at_done clock h k =
       done-is f clock
       ∙ rw (ne_eqb (whole_of f) 0 (λ z. omega arith), or-false)
       (leb-same (time f.fade) (clock - f.start) (f.start + time f.fade) clock (λ z. omega arith) (λ z. omega arith))
 
   -- done exactly from a taken step at or after the time on
-  pub followed-done : (x : Call) → (followed f s x).done ≡ (s.done || (stepTaken s x && leb (f.start + time f.fade) (clockOf x)))
+  pub followed-done : (x : Call) → (followed f s x).done ≡ (s.done || (step_taken s x && leb (f.start + time f.fade) (clock_of x)))
   followed-done x =
-      elim (either (stepTaken s x)) [
+      elim (either (step_taken s x)) [
         | inl e ↦
             let o = step-open s x e in
             ap (λ (t : Shown). t.done) (step_is f s x e)
-            ∙ at_done (clockOf x) (le_trans r.since o.1) (r.live o.0).1
+            ∙ at_done (clock_of x) (le_trans r.since o.1) (r.live o.0).1
             ∙ rw (e, o.0)
         | inr e ↦ other-is f s x e ∙ rw (e, or-false)
       ]
@@ -194,10 +194,10 @@ module _ (f : Fed) (n : Sane f) (s : Shown) (r : Right f s) where
 -- a place before the end
 pub record Open (f : Fed) (clock : ℕ) : Type 0 where
   pub early : clock - f.start < time f.fade
-  pub wait : (shownAt f clock).wait ≡ min 100 (time f.fade - (clock - f.start))
+  pub wait : (shown_at f clock).wait ≡ min 100 (time f.fade - (clock - f.start))
 
-pub at_open : (f : Fed) (clock : ℕ) → (shownAt f clock).done ≡ false → Open f clock
-unfolding shownAt
+pub at_open : (f : Fed) (clock : ℕ) → (shown_at f clock).done ≡ false → Open f clock
+unfolding shown_at
 at_open f clock d =
     elim (either (over f (clock - f.start))) [
       | inl e ↦ never (rw e) d
@@ -212,5 +212,5 @@ at_once t c =
       | inr e ↦ lt-leb t (c - c) (omega (arith, positive t e)) ∙ sym e
     ]
 
-pub begins-done : (f : Fed) → (shownAt f f.start).done ≡ (eqb (time f.fade) 0 || eqb (whole_of f) 0)
+pub begins-done : (f : Fed) → (shown_at f f.start).done ≡ (eqb (time f.fade) 0 || eqb (whole_of f) 0)
 begins-done f = done-is f f.start ∙ ap (λ (b : Bool). b || eqb (whole_of f) 0) (at_once (time f.fade) f.start)

@@ -15,35 +15,35 @@ use Rattle.matter.specs.declared.enums.EnhancedColorModeEnum.{EnhancedColorModeE
 use Rattle.matter.specs.declared.enums.MoveModeEnum.{MoveModeEnum}
 use Rattle.matter.specs.declared.enums.StepModeEnum.{StepModeEnum}
 use Rattle.matter.specs.declared.enums.OnOff.{OnOff}
-use Rattle.matter.specs.All.{allTrue}
-use Rattle.matter.specs.Flags.{hasFlag}
+use Rattle.matter.specs.All.{all_true}
+use Rattle.matter.specs.Flags.{has_flag}
 use Rattle.matter.specs.InRange.{InRangeCommand, InRangeRequest}
 use Rattle.matter.specs.Requests.{request}
-use Rattle.hue.specs.Hue.{distance, pathDelta, isTie, movedHue}
-use Rattle.progress.specs.Progress.{permilleOf}
-use Rattle.color.specs.Valid.{colorValid}
-use Rattle.color.specs.Setters.{hueSet}
+use Rattle.hue.specs.Hue.{distance, path_delta, is_tie, moved_hue}
+use Rattle.progress.specs.Progress.{permille_of}
+use Rattle.color.specs.Valid.{color_valid}
+use Rattle.color.specs.Setters.{hue_set}
 use Rattle.tasks.specs.declared.Running.{Running}
 use Rattle.tasks.specs.declared.Task.{Task}
-use Rattle.tasks.specs.Valid.{moveToValid, taskValid, runningValid}
+use Rattle.tasks.specs.Valid.{move_to_valid, task_valid, running_valid}
 use Rattle.lamp.specs.declared.Lamp.{Lamp}
-use Rattle.lamp.specs.Answers.{firstCause}
-use Rattle.lamp.specs.Calls.{hueSaturationStart, started, stepped, startAnswer, stepAnswer, haltAnswer}
-use Rattle.lamp.specs.Valid.{lampValid}
-use Rattle.lamp.specs.Passes.{hueSaturationMoved, timed}
+use Rattle.lamp.specs.Answers.{first_cause}
+use Rattle.lamp.specs.Calls.{hue_saturation_start, started, stepped, start_answer, step_answer, halt_answer}
+use Rattle.lamp.specs.Valid.{lamp_valid}
+use Rattle.lamp.specs.Passes.{hue_saturation_moved, timed}
 use Rattle.lamp.specs.declared.Call.{Call}
 use Rattle.lamp.specs.InRange.{InRangeLamp}
-use Rattle.commands.specs.Commands.{commandEffect}
-use Rattle.commands.specs.Answers.{answer, allowed, commandCause, commandAnswer}
+use Rattle.commands.specs.Commands.{command_effect}
+use Rattle.commands.specs.Answers.{answer, allowed, command_cause, command_answer}
 use Rattle.schedule.specs.Calls.{after, accepts, InRangeCalls, quiet, steps, paced}
-use Rattle.schedule.specs.Schedule.{HueCommand, asRequest}
-use Rattle.schedule.specs.Fades.{Fade, finds, commandCall, ready, startCall, begun, list_of, PremisedButHue, Premised, waitsKept, seen, observations, shown, stepsTaken}
+use Rattle.schedule.specs.Schedule.{HueCommand, as_request}
+use Rattle.schedule.specs.Fades.{Fade, finds, command_call, ready, start_call, begun, list_of, PremisedButHue, Premised, waits_kept, seen, observations, shown, steps_taken}
 
 -- ---- a lamp
 
 -- an idle lamp at this hue, whose clock is 5000
-abbrev pub lampAt : ℕ → Lamp
-lampAt hue =
+abbrev pub lamp_at : ℕ → Lamp
+lamp_at hue =
     record {
       clock = 5000;
       bounds = record { min = 153; max = 500 };
@@ -70,44 +70,44 @@ plain = record { mask = 0; overrides = 0 }
 -- a fade that is given and started at 5000, with nothing before or between
 abbrev pub at5000 : Lamp → HueCommand → List Call → Fade
 at5000 l move calls =
-    record { lamp = l; before = []; move = move; onOff = OnOff.On; clock = 5000; between = []; start = 5000; calls = calls }
+    record { lamp = l; before = []; move = move; on_off = OnOff.On; clock = 5000; between = []; start = 5000; calls = calls }
 
 -- each wait kept: half way round in two tenths
-abbrev pub paceKept : Fade
-paceKept =
-    at5000 (lampAt 0)
+abbrev pub pace_kept : Fade
+pace_kept =
+    at5000 (lamp_at 0)
     (record { enhanced = false; hue = 128; direction = DirectionEnum.Shortest; tenths = 2; options = plain })
     (Call.Step 5100 ∷ Call.Step 5200 ∷ [])
 
 -- to the hue that is there
-abbrev pub noDelta : Fade
-noDelta =
-    at5000 (lampAt 2560)
+abbrev pub no_delta : Fade
+no_delta =
+    at5000 (lamp_at 2560)
     (record { enhanced = false; hue = 10; direction = DirectionEnum.Longest; tenths = 5; options = plain })
     (Call.Step 5100 ∷ [])
 
 -- at once
-abbrev pub noTime : Fade
-noTime =
-    at5000 (lampAt 0)
+abbrev pub no_time : Fade
+no_time =
+    at5000 (lamp_at 0)
     (record { enhanced = false; hue = 10; direction = DirectionEnum.Down; tenths = 0; options = plain })
     (Call.Step 5100 ∷ [])
 
 -- 2000 down from 1000
-abbrev pub pastZero : Fade
-pastZero =
-    at5000 (lampAt 1000)
+abbrev pub past_zero : Fade
+past_zero =
+    at5000 (lamp_at 1000)
     (record { enhanced = true; hue = 64536; direction = DirectionEnum.Down; tenths = 4; options = plain })
     (Call.Step 5100 ∷ Call.Step 5200 ∷ Call.Step 5300 ∷ Call.Step 5400 ∷ [])
 
 -- calls of every kind before, between and after: up past 65,535
-abbrev pub amongOthers : Fade
-amongOthers =
+abbrev pub among_others : Fade
+among_others =
     record {
-      lamp = lampAt 60000;
+      lamp = lamp_at 60000;
       before = Call.Halt 5000 ∷ Call.Step 5000 ∷ [];
       move = record { enhanced = true; hue = 1000; direction = DirectionEnum.Up; tenths = 10; options = plain };
-      onOff = OnOff.On;
+      on_off = OnOff.On;
       clock = 5000;
       between = Call.Command (request (Command.MoveToSaturation 100 20) plain) OnOff.NoHandler 5050 ∷ [];
       start = 5100;
@@ -137,11 +137,11 @@ amongOthers =
     }
 
 abbrev examples : List Fade
-examples = paceKept ∷ noDelta ∷ noTime ∷ pastZero ∷ amongOthers ∷ []
+examples = pace_kept ∷ no_delta ∷ no_time ∷ past_zero ∷ among_others ∷ []
 
 -- ---- they meet the premises
 
-pub in-range-lamp : (hue : ℕ) → hue < 65536 → InRangeLamp (lampAt hue)
+pub in-range-lamp : (hue : ℕ) → hue < 65536 → InRangeLamp (lamp_at hue)
 in-range-lamp hue h =
     record {
       clock = lit< tt;
@@ -149,12 +149,12 @@ in-range-lamp hue h =
       hue = h;
       saturation = lit< tt;
       mireds = lit< tt;
-      hueStamp = lit< tt;
-      saturationStamp = lit< tt;
-      miredsStamp = lit< tt;
-      loopTime = lit< tt;
-      loopStart = lit< tt;
-      loopStored = lit< tt;
+      hue_stamp = lit< tt;
+      saturation_stamp = lit< tt;
+      mireds_stamp = lit< tt;
+      loop_time = lit< tt;
+      loop_start = lit< tt;
+      loop_stored = lit< tt;
       remaining = lit< tt;
       options = lit< tt;
       running = tt;
@@ -164,22 +164,22 @@ pub in-range-plain : (c : Command) → InRangeCommand c → InRangeRequest (requ
 in-range-plain c in_range = record { options = record { mask = lit< tt; overrides = lit< tt }; command = in_range }
 
 -- the premises of a fade: the types, and six tests that compute
-pub meets : (e : Fade) → InRangeLamp e.lamp → InRangeCalls (list_of e) → lampValid e.lamp ≡ true →
-    accepts (finds e) (commandCall e) ≡ true → allowed (finds e) (asRequest e.move) e.onOff ≡ true →
-    accepts (ready e) (startCall e) ≡ true → quiet (begun e).lamp e.calls ≡ true → PremisedButHue e
-meets e inRangeLamp inRangeCalls valid accepted mayExecute started undisturbed =
+pub meets : (e : Fade) → InRangeLamp e.lamp → InRangeCalls (list_of e) → lamp_valid e.lamp ≡ true →
+    accepts (finds e) (command_call e) ≡ true → allowed (finds e) (as_request e.move) e.on_off ≡ true →
+    accepts (ready e) (start_call e) ≡ true → quiet (begun e).lamp e.calls ≡ true → PremisedButHue e
+meets e in_range_lamp in_range_calls valid accepted may_execute started undisturbed =
     record {
       valid = valid;
-      inRangeLamp = inRangeLamp;
-      inRangeCalls = inRangeCalls;
+      in_range_lamp = in_range_lamp;
+      in_range_calls = in_range_calls;
       accepted = accepted;
-      mayExecute = mayExecute;
+      may_execute = may_execute;
       started = started;
       undisturbed = undisturbed;
     }
 
-pub all_meet : Premised paceKept × Premised noDelta × Premised noTime × Premised pastZero × Premised amongOthers
-unfolding after quiet answer commandCause commandAnswer firstCause lampValid allTrue colorValid runningValid moveToValid taskValid commandEffect startAnswer stepAnswer haltAnswer started stepped hueSaturationStart hueSaturationMoved timed hueSet permilleOf pathDelta isTie distance movedHue hasFlag
+pub all_meet : Premised pace_kept × Premised no_delta × Premised no_time × Premised past_zero × Premised among_others
+unfolding after quiet answer command_cause command_answer first_cause lamp_valid all_true color_valid running_valid move_to_valid task_valid command_effect start_answer step_answer halt_answer started stepped hue_saturation_start hue_saturation_moved timed hue_set permille_of path_delta is_tie distance moved_hue has_flag
 all_meet = (
   record {
     others = meets _ (in-range-lamp 0 (lit< tt))
@@ -214,8 +214,8 @@ all_meet = (
 )
 
 -- and each accepted step comes at or after the wait that was asked
-pub all-wait : map waitsKept examples ≡ true ∷ true ∷ true ∷ true ∷ true ∷ []
-unfolding paced after answer commandCause commandAnswer firstCause lampValid allTrue colorValid runningValid moveToValid taskValid commandEffect startAnswer stepAnswer haltAnswer started stepped hueSaturationStart hueSaturationMoved timed hueSet permilleOf pathDelta isTie distance movedHue hasFlag
+pub all-wait : map waits_kept examples ≡ true ∷ true ∷ true ∷ true ∷ true ∷ []
+unfolding paced after answer command_cause command_answer first_cause lamp_valid all_true color_valid running_valid move_to_valid task_valid command_effect start_answer step_answer halt_answer started stepped hue_saturation_start hue_saturation_moved timed hue_set permille_of path_delta is_tie distance moved_hue has_flag
 all-wait = refl
 
 -- ---- what their lamps show, from the start on
@@ -228,10 +228,10 @@ pub all-show : map shown examples ≡
     ∷ (seen 60000 10 false ∷ seen 60653 9 false ∷ seen 60653 9 false ∷ seen 60653 9 false ∷ seen 60653 9 false ∷ seen 60653 9 false
     ∷ seen 60653 9 false ∷ seen 60653 9 false ∷ seen 60653 9 false ∷ seen 60653 9 false ∷ seen 1000 0 true ∷ seen 1000 0 true ∷ [])
     ∷ []
-unfolding observations after answer commandCause commandAnswer firstCause lampValid allTrue colorValid runningValid moveToValid taskValid commandEffect startAnswer stepAnswer haltAnswer started stepped hueSaturationStart hueSaturationMoved timed hueSet permilleOf pathDelta isTie distance movedHue hasFlag
+unfolding observations after answer command_cause command_answer first_cause lamp_valid all_true color_valid running_valid move_to_valid task_valid command_effect start_answer step_answer halt_answer started stepped hue_saturation_start hue_saturation_moved timed hue_set permille_of path_delta is_tie distance moved_hue has_flag
 all-show = refl
 
 -- as many steps as tenths, where each comes as soon as it may
-pub all_take : map stepsTaken examples ≡ 2 ∷ 0 ∷ 0 ∷ 4 ∷ 2 ∷ []
-unfolding steps after answer commandCause commandAnswer firstCause lampValid allTrue colorValid runningValid moveToValid taskValid commandEffect startAnswer stepAnswer haltAnswer started stepped hueSaturationStart hueSaturationMoved timed hueSet permilleOf pathDelta isTie distance movedHue hasFlag
+pub all_take : map steps_taken examples ≡ 2 ∷ 0 ∷ 0 ∷ 4 ∷ 2 ∷ []
+unfolding steps after answer command_cause command_answer first_cause lamp_valid all_true color_valid running_valid move_to_valid task_valid command_effect start_answer step_answer halt_answer started stepped hue_saturation_start hue_saturation_moved timed hue_set permille_of path_delta is_tie distance moved_hue has_flag
 all_take = refl

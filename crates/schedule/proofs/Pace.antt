@@ -12,27 +12,27 @@ use borrow.Author.Tests.{leb-true}
 use Rattle.matter.proofs.Laws.{and_left, and_right}
 use Rattle.lamp.specs.declared.Lamp.{Lamp}
 use Rattle.lamp.specs.declared.Call.{Call}
-use Rattle.commands.specs.Answers.{answer, clockOf}
-use Rattle.schedule.specs.Calls.{next, after, acceptedStep, isStep, quiet, steps, reached, paced}
-use Rattle.schedule.specs.Schedule.{time, Fed, Shown, followed, scheduledFrom}
+use Rattle.commands.specs.Answers.{answer, clock_of}
+use Rattle.schedule.specs.Calls.{next, after, accepted_step, is_step, quiet, steps, reached, paced}
+use Rattle.schedule.specs.Schedule.{time, Fed, Shown, followed, scheduled_from}
 use Rattle.schedule.proofs.Tests.{either, never}
-use Rattle.schedule.proofs.Course.{Sane, stepTaken, step-open, step_is, other-is, followed-done, at_open}
+use Rattle.schedule.proofs.Course.{Sane, step_taken, step-open, step_is, other-is, followed-done, at_open}
 use Rattle.schedule.proofs.Fading.{Fading, accepts-takes, fades-on, wait-is}
 use Rattle.schedule.proofs.Lists.{quiet-call}
 
-pub fades-after : {f : Fed} {l : Lamp} {s : Shown} (xs : List Call) → Sane f → Fading f l s → quiet l xs ≡ true → Fading f (after l xs) (scheduledFrom f s xs)
-unfolding after scheduledFrom
+pub fades-after : {f : Fed} {l : Lamp} {s : Shown} (xs : List Call) → Sane f → Fading f l s → quiet l xs ≡ true → Fading f (after l xs) (scheduled_from f s xs)
+unfolding after scheduled_from
 fades-after [] n k q = k
 fades-after {f} {l} {s} (x ∷ xs) n k q = let r = quiet-call l x xs q in fades-after xs n (fades-on k n x r.0) r.1
 
 -- an accepted step is one that the schedule takes
-step_same : {f : Fed} {l : Lamp} {s : Shown} → Fading f l s → (x : Call) → acceptedStep l x ≡ stepTaken s x
-step_same k x = ap (λ (b : Bool). isStep x && b) (accepts-takes k x)
+step_same : {f : Fed} {l : Lamp} {s : Shown} → Fading f l s → (x : Call) → accepted_step l x ≡ step_taken s x
+step_same k x = ap (λ (b : Bool). is_step x && b) (accepts-takes k x)
 
 -- ---- done exactly from the first accepted step at or after the time on
 
-pub done-exactly : {f : Fed} {l : Lamp} {s : Shown} (xs : List Call) → Sane f → Fading f l s → quiet l xs ≡ true → (scheduledFrom f s xs).done ≡ (s.done || reached (f.start + time f.fade) l xs)
-unfolding scheduledFrom reached
+pub done-exactly : {f : Fed} {l : Lamp} {s : Shown} (xs : List Call) → Sane f → Fading f l s → quiet l xs ≡ true → (scheduled_from f s xs).done ≡ (s.done || reached (f.start + time f.fade) l xs)
+unfolding scheduled_from reached
 done-exactly {f} {l} {s} [] n k q = sym (or-false s.done)
 done-exactly {f} {l} {s} (x ∷ xs) n k q =
     let r = quiet-call l x xs q in
@@ -45,11 +45,11 @@ done-exactly {f} {l} {s} (x ∷ xs) n k q =
 abbrev pub left : Bool → ℕ
 left b = cond b 0 1
 
-no_step : {f : Fed} {l : Lamp} {s : Shown} → Fading f l s → (x : Call) → s.done ≡ true → acceptedStep l x ≡ false
-no_step {f} {l} {s} k x d = elim (either (acceptedStep l x)) [ inl e ↦ never d (step-open s x (sym (step_same k x) ∙ e)).0 | inr e ↦ e ]
+no_step : {f : Fed} {l : Lamp} {s : Shown} → Fading f l s → (x : Call) → s.done ≡ true → accepted_step l x ≡ false
+no_step {f} {l} {s} k x d = elim (either (accepted_step l x)) [ inl e ↦ never d (step-open s x (sym (step_same k x) ∙ e)).0 | inr e ↦ e ]
 
-pub done-stays : {f : Fed} {l : Lamp} {s : Shown} (xs : List Call) → Sane f → Fading f l s → quiet l xs ≡ true → s.done ≡ true → steps l xs + left (scheduledFrom f s xs).done ≡ 0
-unfolding steps scheduledFrom
+pub done-stays : {f : Fed} {l : Lamp} {s : Shown} (xs : List Call) → Sane f → Fading f l s → quiet l xs ≡ true → s.done ≡ true → steps l xs + left (scheduled_from f s xs).done ≡ 0
+unfolding steps scheduled_from
 done-stays [] n k q d = rw d
 done-stays {f} {l} {s} (x ∷ xs) n k q d =
     let r = quiet-call l x xs q in
@@ -57,16 +57,16 @@ done-stays {f} {l} {s} (x ∷ xs) n k q d =
     let o = other-is f s x (sym (step_same k x) ∙ e) in
     rw e (done-stays xs n (fades-on k n x r.0) r.1 (o ∙ d))
 
-pub pace-kept : {f : Fed} {l : Lamp} {s : Shown} (due m : ℕ) (xs : List Call) → Sane f → Fading f l s → quiet l xs ≡ true → s.done ≡ false → paced due l xs ≡ true → f.start + time f.fade ≤ due + 100 * m → steps l xs + left (scheduledFrom f s xs).done ≤ m + 1
-unfolding steps scheduledFrom paced
+pub pace-kept : {f : Fed} {l : Lamp} {s : Shown} (due m : ℕ) (xs : List Call) → Sane f → Fading f l s → quiet l xs ≡ true → s.done ≡ false → paced due l xs ≡ true → f.start + time f.fade ≤ due + 100 * m → steps l xs + left (scheduled_from f s xs).done ≤ m + 1
+unfolding steps scheduled_from paced
 pace-kept due m [] n k q o h z = rw o (omega arith)
 pace-kept {f} {l} {s} due m (x ∷ xs) n k q o h z =
     let r = quiet-call l x xs q in
     let k' = fades-on k n x r.0 in
-    elim (either (acceptedStep l x)) [
+    elim (either (accepted_step l x)) [
       | inl e ↦
           let t = sym (step_same k x) ∙ e in
-          let c : ℕ = clockOf x in
+          let c : ℕ = clock_of x in
           let h' : (leb due c && paced (c + (answer l x).wait) (next l x) xs) ≡ true = rw e at h in
           let late : due ≤ c = leb-true due c (and_left (leb due c) _ h') in
           let from : f.start ≤ c = le_trans k.right.since (step-open s x t).1 in

@@ -9,23 +9,23 @@ use Rattle.hue.specs.Hue.{distance}
 use Rattle.tasks.specs.declared.GivenTask.{GivenTask}
 use Rattle.lamp.specs.declared.Lamp.{Lamp}
 use Rattle.lamp.specs.declared.Answer.{Answer}
-use Rattle.lamp.specs.Valid.{lampValid}
+use Rattle.lamp.specs.Valid.{lamp_valid}
 use Rattle.lamp.specs.declared.Call.{Call}
 use Rattle.lamp.specs.InRange.{InRangeLamp}
 use Rattle.commands.specs.Answers.{answer, allowed}
-use Rattle.schedule.specs.Calls.{next, after, accepts, idle, InRangeCalls, quiet, acceptedStep, steps, reached}
+use Rattle.schedule.specs.Calls.{next, after, accepts, idle, InRangeCalls, quiet, accepted_step, steps, reached}
 use Rattle.schedule.specs.Calls.{paced}
-use Rattle.schedule.specs.Schedule.{HueCommand, asRequest, target, deltaFrom, time, task_of, Fed, Shown, takes}
+use Rattle.schedule.specs.Schedule.{HueCommand, as_request, target, delta_from, time, task_of, Fed, Shown, takes}
 use Rattle.schedule.specs.Schedule.{scheduled}
 
 -- the way travelled, read off a hue: how far it is from the one found, on the side of the way's sign
 abbrev pub travelled : Fed → Lamp → ℕ
 travelled f l =
-    cond (le_z (pos 0) (deltaFrom f.fade f.found)) (distance f.found l.color.hue)
+    cond (le_z (pos 0) (delta_from f.fade f.found)) (distance f.found l.color.hue)
     (distance l.color.hue f.found)
 
-abbrev pub wholeDelta : Fed → ℕ
-wholeDelta f = nat_abs (deltaFrom f.fade f.found)
+abbrev pub whole_delta : Fed → ℕ
+whole_delta f = nat_abs (delta_from f.fade f.found)
 
 -- the lamp shows what the schedule says
 pub record Agrees (l : Lamp) (s : Shown) : Type 0 where
@@ -39,13 +39,13 @@ pub record Keeps (a : Answer) (f : Fed) (ys : List Call) : Type 0 where
   pub agrees : Agrees (after a.lamp ys) (scheduled f ys)
   -- (d) "done exactly at the first accepted step at or after its time, or at its start if time or way is zero"
   pub done : idle (after a.lamp ys)
-      ≡ (eqb (time f.fade) 0 || eqb (wholeDelta f) 0 || reached (f.start + time f.fade) a.lamp ys)
+      ≡ (eqb (time f.fade) 0 || eqb (whole_delta f) 0 || reached (f.start + time f.fade) a.lamp ys)
   -- (e) "Where each accepted step also comes at or after the wait [..] asked, at most d steps are accepted after the
   -- start of a fade of d tenths, and once d are, it is done"
   pub pace : paced (f.start + a.wait) a.lamp ys ≡ true →
       (steps a.lamp ys ≤ f.fade.tenths) × (steps a.lamp ys ≡ f.fade.tenths → idle (after a.lamp ys) ≡ true)
   -- (f) "no hue lies off the chosen arc"
-  pub arc : travelled f (after a.lamp ys) ≤ wholeDelta f
+  pub arc : travelled f (after a.lamp ys) ≤ whole_delta f
   -- (g) "At done, the hue is the target and the remaining time 0"
   pub end : idle (after a.lamp ys) ≡ true →
       ((after a.lamp ys).color.hue ≡ target f.fade) × ((after a.lamp ys).remaining.tenths ≡ 0)
@@ -55,7 +55,7 @@ pub record KeepsAt (a : Answer) (f : Fed) (ys : List Call) (x : Call) : Type 0 w
   -- (b) it is accepted exactly when the schedule takes it
   pub accepted : accepts (after a.lamp ys) x ≡ takes (scheduled f ys) x
   -- (c) an accepted step asks for the schedule's wait
-  pub wait : acceptedStep (after a.lamp ys) x ≡ true →
+  pub wait : accepted_step (after a.lamp ys) x ≡ true →
       (answer (after a.lamp ys) x).wait ≡ (scheduled f (ys ++ (x ∷ []))).wait
   -- (f) "the way travelled never shrinks"
   pub grows : travelled f (after a.lamp ys) ≤ travelled f (after a.lamp (ys ++ (x ∷ [])))
@@ -65,7 +65,7 @@ pub record KeptFade (a : Answer) (f : Fed) (calls : List Call) : Type 0 where
   -- (c) the start asks for the schedule's wait
   pub wait : a.wait ≡ (scheduled f []).wait
   pub everywhere : (ys zs : List Call) → calls ≡ ys ++ zs → Keeps a f ys
-  pub everyCall : (ys : List Call) (x : Call) (zs : List Call) → calls ≡ ys ++ (x ∷ zs) → KeepsAt a f ys x
+  pub every_call : (ys : List Call) (x : Call) (zs : List Call) → calls ≡ ys ++ (x ∷ zs) → KeepsAt a f ys x
 
 -- what the schedule of a fade is fed: the command, the hue that it found, and the clock of the start
 abbrev pub fed : HueCommand → Lamp → ℕ → Fed
@@ -77,8 +77,8 @@ fed h l clock =
     }
 
 -- a move to a hue, as a call, and a start of the task that it gives on the lamp `l`
-abbrev pub moveTo : HueCommand → OnOff → ℕ → Call
-moveTo h onOff clock = Call.Command (asRequest h) onOff clock
+abbrev pub move_to : HueCommand → OnOff → ℕ → Call
+move_to h on_off clock = Call.Command (as_request h) on_off clock
 
 abbrev pub start_of : HueCommand → Lamp → ℕ → Call
 start_of h l clock = Call.Start (task_of h l.color.hue) clock
@@ -97,20 +97,20 @@ abbrev pub FadeFrom : HueCommand → Lamp → Lamp → ℕ → List Call → Typ
 FadeFrom h l now at calls = Premises h l now at calls → KeptFade (answer now (start_of h l at)) (fed h l at) calls
 
 -- a move to a hue on the lamp `l`, and the calls that follow it
-pub record Kept (l : Lamp) (h : HueCommand) (onOff : OnOff) (clock : ℕ) (rest : List Call) : Type 0 where
+pub record Kept (l : Lamp) (h : HueCommand) (on_off : OnOff) (clock : ℕ) (rest : List Call) : Type 0 where
   -- (a) it gives a task of its way and time
-  pub task : (answer l (moveTo h onOff clock)).task ≡ GivenTask.Given (task_of h l.color.hue)
+  pub task : (answer l (move_to h on_off clock)).task ≡ GivenTask.Given (task_of h l.color.hue)
   -- every start of that task that follows, after the calls `between`
   pub fades : (between calls : List Call) (at : ℕ) → rest ≡ between ++ (start_of h l at ∷ calls) →
-      FadeFrom h l (after (next l (moveTo h onOff clock)) between) at calls
+      FadeFrom h l (after (next l (move_to h on_off clock)) between) at calls
 
 -- every move to a hue in the list, on the lamp that the calls before it left, that is accepted and may execute
 abbrev pub Everywhere : Lamp → List Call → Type 0
 Everywhere l calls =
-    (before rest : List Call) (h : HueCommand) (onOff : OnOff) (clock : ℕ) →
-    calls ≡ before ++ (moveTo h onOff clock ∷ rest) → accepts (after l before) (moveTo h onOff clock) ≡ true →
-    allowed (after l before) (asRequest h) onOff ≡ true → Kept (after l before) h onOff clock rest
+    (before rest : List Call) (h : HueCommand) (on_off : OnOff) (clock : ℕ) →
+    calls ≡ before ++ (move_to h on_off clock ∷ rest) → accepts (after l before) (move_to h on_off clock) ≡ true →
+    allowed (after l before) (as_request h) on_off ≡ true → Kept (after l before) h on_off clock rest
 
 -- the claim: from any valid lamp, for every list of calls
 abbrev pub Claim : Type 0
-Claim = (l : Lamp) (calls : List Call) → lampValid l ≡ true → InRangeLamp l → InRangeCalls calls → Everywhere l calls
+Claim = (l : Lamp) (calls : List Call) → lamp_valid l ≡ true → InRangeLamp l → InRangeCalls calls → Everywhere l calls

@@ -4,20 +4,20 @@ use Rattle.std.specs.Prelude.{ℕ, ◌+◌, Bool, true, List, [], ◌∷◌, ◌
 use Rattle.matter.specs.declared.enums.OnOff.{OnOff}
 use Rattle.lamp.specs.declared.Lamp.{Lamp}
 use Rattle.lamp.specs.declared.Answer.{Answer}
-use Rattle.lamp.specs.Valid.{lampValid}
+use Rattle.lamp.specs.Valid.{lamp_valid}
 use Rattle.lamp.specs.declared.Call.{Call}
 use Rattle.lamp.specs.InRange.{InRangeLamp}
 use Rattle.commands.specs.Answers.{answer, allowed}
 use Rattle.schedule.specs.Calls.{next, after, accepts, idle, InRangeCalls, quiet, steps, paced}
-use Rattle.schedule.specs.Schedule.{HueCommand, asRequest}
-use Rattle.schedule.specs.Claim.{moveTo, start_of}
+use Rattle.schedule.specs.Schedule.{HueCommand, as_request}
+use Rattle.schedule.specs.Claim.{move_to, start_of}
 
 pub record Fade : Type 0 where
   pub lamp : Lamp
   pub before : List Call
   -- the command, and the on or off and the clock that it is given with
   pub move : HueCommand
-  pub onOff : OnOff
+  pub on_off : OnOff
   pub clock : ℕ
   pub between : List Call
   -- the clock of the start
@@ -33,38 +33,38 @@ finds e = after e.lamp e.before
 abbrev pub found : Fade → ℕ
 found e = (finds e).color.hue
 
-abbrev pub commandCall : Fade → Call
-commandCall e = moveTo e.move e.onOff e.clock
+abbrev pub command_call : Fade → Call
+command_call e = move_to e.move e.on_off e.clock
 
 -- the lamp that the start finds
 abbrev pub ready : Fade → Lamp
-ready e = after (next (finds e) (commandCall e)) e.between
+ready e = after (next (finds e) (command_call e)) e.between
 
-abbrev pub startCall : Fade → Call
-startCall e = start_of e.move (finds e) e.start
+abbrev pub start_call : Fade → Call
+start_call e = start_of e.move (finds e) e.start
 
 -- the answer to the start, and the lamp after the calls `ys` that follow it
 abbrev pub begun : Fade → Answer
-begun e = answer (ready e) (startCall e)
+begun e = answer (ready e) (start_call e)
 
 abbrev pub later : Fade → List Call → Lamp
 later e ys = after (begun e).lamp ys
 
 -- the whole list
 abbrev pub list_of : Fade → List Call
-list_of e = e.before ++ (commandCall e ∷ (e.between ++ (startCall e ∷ e.calls)))
+list_of e = e.before ++ (command_call e ∷ (e.between ++ (start_call e ∷ e.calls)))
 
 -- ---- the claim's premises
 
 -- but for the hue at the start: lamp valid, lamp and calls in range, the command accepted and may execute, the start
 -- accepted, and no other accepted start, halt or colour-loop command after it
 pub record PremisedButHue (e : Fade) : Type 0 where
-  pub valid : lampValid e.lamp ≡ true
-  pub inRangeLamp : InRangeLamp e.lamp
-  pub inRangeCalls : InRangeCalls (list_of e)
-  pub accepted : accepts (finds e) (commandCall e) ≡ true
-  pub mayExecute : allowed (finds e) (asRequest e.move) e.onOff ≡ true
-  pub started : accepts (ready e) (startCall e) ≡ true
+  pub valid : lamp_valid e.lamp ≡ true
+  pub in_range_lamp : InRangeLamp e.lamp
+  pub in_range_calls : InRangeCalls (list_of e)
+  pub accepted : accepts (finds e) (command_call e) ≡ true
+  pub may_execute : allowed (finds e) (as_request e.move) e.on_off ≡ true
+  pub started : accepts (ready e) (start_call e) ≡ true
   pub undisturbed : quiet (begun e).lamp e.calls ≡ true
 
 -- all of them: at the start the hue is as the command found it
@@ -73,8 +73,8 @@ pub record Premised (e : Fade) : Type 0 where
   pub hue : (ready e).color.hue ≡ found e
 
 -- whether each accepted step comes at or after the wait that its start or last accepted step asked
-abbrev pub waitsKept : Fade → Bool
-waitsKept e = paced (e.start + (begun e).wait) (begun e).lamp e.calls
+abbrev pub waits_kept : Fade → Bool
+waits_kept e = paced (e.start + (begun e).wait) (begun e).lamp e.calls
 
 -- ---- what its lamp shows
 
@@ -99,5 +99,5 @@ abbrev pub shown : Fade → List Observation
 shown e = observations (begun e).lamp e.calls
 
 -- how many steps are accepted after the start
-abbrev pub stepsTaken : Fade → ℕ
-stepsTaken e = steps (begun e).lamp e.calls
+abbrev pub steps_taken : Fade → ℕ
+steps_taken e = steps (begun e).lamp e.calls

@@ -7,16 +7,16 @@ use Rattle.matter.specs.declared.commands.CommandOptions.{CommandOptions}
 use Rattle.matter.specs.declared.commands.Request.{Request}
 use Rattle.matter.specs.Requests.{request}
 use Rattle.matter.specs.declared.enums.DirectionEnum.{DirectionEnum}
-use Rattle.matter.specs.Limits.{clockLimit}
-use Rattle.hue.specs.Hue.{pathDelta, movedHue}
-use Rattle.progress.specs.Progress.{permilleOf, part_of, tenthsOf}
+use Rattle.matter.specs.Limits.{clock_limit}
+use Rattle.hue.specs.Hue.{path_delta, moved_hue}
+use Rattle.progress.specs.Progress.{permille_of, part_of, tenths_of}
 use Rattle.tasks.specs.declared.HueDelta.{HueDelta}
 use Rattle.tasks.specs.declared.TargetSaturation.{TargetSaturation}
 use Rattle.tasks.specs.declared.Task.{Task}
-use Rattle.tasks.specs.Valid.{taskValid}
+use Rattle.tasks.specs.Valid.{task_valid}
 use Rattle.lamp.specs.declared.Call.{Call}
 use Rattle.commands.specs.Commands.{checks}
-use Rattle.commands.specs.Answers.{clockOf}
+use Rattle.commands.specs.Answers.{clock_of}
 
 -- a move to a hue, plain or enhanced, without saturation
 pub record HueCommand : Type 0 where
@@ -26,8 +26,8 @@ pub record HueCommand : Type 0 where
   pub tenths : ℕ
   pub options : CommandOptions
 
-abbrev pub asRequest : HueCommand → Request
-asRequest h =
+abbrev pub as_request : HueCommand → Request
+as_request h =
     request
     (cond h.enhanced (Command.EnhancedMoveToHue h.hue h.direction h.tenths)
     (Command.MoveToHue h.hue h.direction h.tenths))
@@ -38,8 +38,8 @@ abbrev pub target : HueCommand → ℕ
 target h = cond h.enhanced h.hue (h.hue * 256)
 
 -- "Way: leaf 1's answer from the hue found to the target"
-abbrev pub deltaFrom : HueCommand → ℕ → ℤ
-deltaFrom h found = pathDelta found (target h) h.direction
+abbrev pub delta_from : HueCommand → ℕ → ℤ
+delta_from h found = path_delta found (target h) h.direction
 
 -- "Time: tenths × 100"
 abbrev pub time : HueCommand → ℕ
@@ -50,7 +50,7 @@ abbrev pub task_of : HueCommand → ℕ → Task
 task_of h found =
     Task.HueSaturationMoveTo
     (record {
-      delta = HueDelta.By (deltaFrom h found);
+      delta = HueDelta.By (delta_from h found);
       saturation = TargetSaturation.Keep;
       ms = time h;
       enhanced = h.enhanced;
@@ -73,19 +73,19 @@ pub record Shown : Type 0 where
 
 -- "With e at or past the time, or way 0, it is done"
 abbrev pub over : Fed → ℕ → Bool
-over f e = leb (time f.fade) e || eqb (nat_abs (deltaFrom f.fade f.found)) 0
+over f e = leb (time f.fade) e || eqb (nat_abs (delta_from f.fade f.found)) 0
 
 -- "At the accepted start and each accepted step, at elapsed e, its hue is the hue found plus the part [..], wrapped,
 -- its remaining time is time − e in tenths, rounded up, and its wait is time − e, at most 100"; done: "target, 0, 0,
 -- idle"
-unfoldable pub shownAt : Fed → ℕ → Shown
-shownAt f clock =
+unfoldable pub shown_at : Fed → ℕ → Shown
+shown_at f clock =
     let e : ℕ = clock - f.start in
     cond (over f e) (record { clock = clock; hue = target f.fade; remaining = 0; wait = 0; done = true })
     (record {
       clock = clock;
-      hue = movedHue f.found (part_of (deltaFrom f.fade f.found) (permilleOf e (time f.fade)));
-      remaining = tenthsOf (time f.fade - e);
+      hue = moved_hue f.found (part_of (delta_from f.fade f.found) (permille_of e (time f.fade)));
+      remaining = tenths_of (time f.fade - e);
       wait = min 100 (time f.fade - e);
       done = false;
     })
@@ -93,31 +93,31 @@ shownAt f clock =
 -- "a call is accepted where it meets no cause below, the clock being the last accepted call's and the lamp idle once
 -- done": the clock, and what the call itself can be refused for
 abbrev pub own : Call → Bool → Bool
-own (Call.Command r onOff clock) done = (checks r.command).stop || eqb (checks r.command).cause 0
-own (Call.Start task clock) done = taskValid task
+own (Call.Command r on_off clock) done = (checks r.command).stop || eqb (checks r.command).cause 0
+own (Call.Start task clock) done = task_valid task
 own (Call.Step clock) done = not done
 own (Call.Halt clock) done = true
 
 abbrev pub takes : Shown → Call → Bool
-takes s x = (leb s.clock (clockOf x) && leb (clockOf x) clockLimit) && own x s.done
+takes s x = (leb s.clock (clock_of x) && leb (clock_of x) clock_limit) && own x s.done
 
 -- "No other call moves it": an accepted step shows the fade at its clock, another accepted call only sets the clock
-abbrev pub whenTaken : Fed → Shown → Call → Shown
-whenTaken f s (Call.Command r onOff clock) =
+abbrev pub when_taken : Fed → Shown → Call → Shown
+when_taken f s (Call.Command r on_off clock) =
     record { clock = clock; hue = s.hue; remaining = s.remaining; wait = s.wait; done = s.done }
-whenTaken f s (Call.Start task clock) =
+when_taken f s (Call.Start task clock) =
     record { clock = clock; hue = s.hue; remaining = s.remaining; wait = s.wait; done = s.done }
-whenTaken f s (Call.Step clock) = shownAt f clock
-whenTaken f s (Call.Halt clock) =
+when_taken f s (Call.Step clock) = shown_at f clock
+when_taken f s (Call.Halt clock) =
     record { clock = clock; hue = s.hue; remaining = s.remaining; wait = s.wait; done = s.done }
 
 abbrev pub followed : Fed → Shown → Call → Shown
-followed f s x = cond (takes s x) (whenTaken f s x) s
+followed f s x = cond (takes s x) (when_taken f s x) s
 
 -- the schedule after a list of calls that follow the start
-unfoldable pub scheduledFrom : Fed → Shown → List Call → Shown
-scheduledFrom f s [] = s
-scheduledFrom f s (x ∷ xs) = scheduledFrom f (followed f s x) xs
+unfoldable pub scheduled_from : Fed → Shown → List Call → Shown
+scheduled_from f s [] = s
+scheduled_from f s (x ∷ xs) = scheduled_from f (followed f s x) xs
 
 abbrev pub scheduled : Fed → List Call → Shown
-scheduled f xs = scheduledFrom f (shownAt f f.start) xs
+scheduled f xs = scheduled_from f (shown_at f f.start) xs

@@ -14,10 +14,10 @@ runs (Running.ColorTemperatureMove run) = true
 runs (Running.ColorLoop direction hue seconds start) = true
 
 -- the colour loop's record of its four numbers
-abbrev pub loopRun : ColorLoopDirectionEnum → ℕ → ℕ → ℕ → ColorLoopRun
-loopRun direction hue seconds start =
+abbrev pub loop_run : ColorLoopDirectionEnum → ℕ → ℕ → ℕ → ColorLoopRun
+loop_run direction hue seconds start =
     record { start = start; hue = hue; task = record { direction = direction; seconds = seconds } }
 
 -- and as what runs
-abbrev pub loopRunning : ColorLoopRun → Running
-loopRunning run = Running.ColorLoop run.task.direction run.hue run.task.seconds run.start
+abbrev pub loop_running : ColorLoopRun → Running
+loop_running run = Running.ColorLoop run.task.direction run.hue run.task.seconds run.start

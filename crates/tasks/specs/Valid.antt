@@ -3,8 +3,8 @@
 use Rattle.std.specs.Prelude.{ℕ, ◌%◌, Bool, true, false, not, ◌&&◌, ◌||◌, [], ◌∷◌, leb, ltb, eqb, ℤ, pos, neg_ℤ, nat_abs}
 use Rattle.std.specs.Int.Signed.{le_z}
 use Rattle.matter.specs.declared.enums.MoveModeEnum.{MoveModeEnum}
-use Rattle.matter.specs.All.{allTrue}
-use Rattle.matter.specs.Limits.{saturationLimit}
+use Rattle.matter.specs.All.{all_true}
+use Rattle.matter.specs.Limits.{saturation_limit}
 use Rattle.matter.specs.declared.limits.Bounds.{Bounds}
 use Rattle.tasks.specs.declared.HueDelta.{HueDelta}
 use Rattle.tasks.specs.declared.TargetSaturation.{TargetSaturation}
@@ -15,30 +15,30 @@ use Rattle.tasks.specs.declared.Task.{Task}
 use Rattle.tasks.specs.declared.Running.{Running}
 
 -- "time not a multiple of 100 ms or above 6,553,500"
-abbrev pub timeValid : ℕ → Bool
-timeValid ms = eqb (ms % 100) 0 && leb ms 6_553_500
+abbrev pub time_valid : ℕ → Bool
+time_valid ms = eqb (ms % 100) 0 && leb ms 6_553_500
 
 -- an integer within ±65,535
 abbrev pub small : ℤ → Bool
 small z = le_z (neg_ℤ (pos 65535)) z && le_z z (pos 65535)
 
 -- "way beyond ±65,535"
-abbrev pub deltaValid : HueDelta → Bool
-deltaValid HueDelta.Keep = true
-deltaValid (HueDelta.By way) = small way
+abbrev pub delta_valid : HueDelta → Bool
+delta_valid HueDelta.Keep = true
+delta_valid (HueDelta.By way) = small way
 
-abbrev pub deltaGiven : HueDelta → Bool
-deltaGiven HueDelta.Keep = false
-deltaGiven (HueDelta.By way) = true
+abbrev pub delta_given : HueDelta → Bool
+delta_given HueDelta.Keep = false
+delta_given (HueDelta.By way) = true
 
 -- "saturation above 254"
-abbrev pub saturationValid : TargetSaturation → Bool
-saturationValid TargetSaturation.Keep = true
-saturationValid (TargetSaturation.To saturation) = leb saturation saturationLimit
+abbrev pub saturation_valid : TargetSaturation → Bool
+saturation_valid TargetSaturation.Keep = true
+saturation_valid (TargetSaturation.To saturation) = leb saturation saturation_limit
 
-abbrev pub saturationGiven : TargetSaturation → Bool
-saturationGiven TargetSaturation.Keep = false
-saturationGiven (TargetSaturation.To saturation) = true
+abbrev pub saturation_given : TargetSaturation → Bool
+saturation_given TargetSaturation.Keep = false
+saturation_given (TargetSaturation.To saturation) = true
 
 -- "Stop as a move's direction"
 abbrev pub moves : MoveModeEnum → Bool
@@ -47,58 +47,58 @@ moves MoveModeEnum.Up = true
 moves MoveModeEnum.Down = true
 
 -- "rate 0", "mired rate beyond ±65,535"
-abbrev pub rateValid : ℤ → Bool
-rateValid rate = not (eqb (nat_abs rate) 0) && small rate
+abbrev pub rate_valid : ℤ → Bool
+rate_valid rate = not (eqb (nat_abs rate) 0) && small rate
 
 -- a move-to; the last test is "neither hue nor saturation"
-unfoldable pub moveToValid : HueSaturationMoveTo → Bool
-moveToValid t =
-    allTrue (timeValid t.ms ∷ deltaValid t.delta ∷ saturationValid t.saturation
-    ∷ (deltaGiven t.delta || saturationGiven t.saturation) ∷ [])
+unfoldable pub move_to_valid : HueSaturationMoveTo → Bool
+move_to_valid t =
+    all_true (time_valid t.ms ∷ delta_valid t.delta ∷ saturation_valid t.saturation
+    ∷ (delta_given t.delta || saturation_given t.saturation) ∷ [])
 
 -- not: "rate 0", "hue rate above 65,535", "Stop as a move's direction"
-unfoldable pub hueMoveValid : HueMove → Bool
-hueMoveValid t = allTrue (ltb 0 t.rate ∷ leb t.rate 65535 ∷ moves t.direction ∷ [])
+unfoldable pub hue_move_valid : HueMove → Bool
+hue_move_valid t = all_true (ltb 0 t.rate ∷ leb t.rate 65535 ∷ moves t.direction ∷ [])
 
 -- not: "rate 0", "saturation rate above 255", "Stop as a move's direction"
-unfoldable pub saturationMoveValid : SaturationMove → Bool
-saturationMoveValid t = allTrue (ltb 0 t.rate ∷ leb t.rate 255 ∷ moves t.direction ∷ [])
+unfoldable pub saturation_move_valid : SaturationMove → Bool
+saturation_move_valid t = all_true (ltb 0 t.rate ∷ leb t.rate 255 ∷ moves t.direction ∷ [])
 
 -- a valid task, not "the Stop task itself"
-unfoldable pub taskValid : Task → Bool
-taskValid (Task.HueSaturationMoveTo t) = moveToValid t
-taskValid (Task.HueMove t) = hueMoveValid t
-taskValid (Task.SaturationMove t) = saturationMoveValid t
-taskValid (Task.ColorTemperatureMoveTo t) = timeValid t.ms
-taskValid (Task.ColorTemperatureMove t) = rateValid t.rate
-taskValid (Task.ColorLoop t) = true
-taskValid Task.Stop = false
+unfoldable pub task_valid : Task → Bool
+task_valid (Task.HueSaturationMoveTo t) = move_to_valid t
+task_valid (Task.HueMove t) = hue_move_valid t
+task_valid (Task.SaturationMove t) = saturation_move_valid t
+task_valid (Task.ColorTemperatureMoveTo t) = time_valid t.ms
+task_valid (Task.ColorTemperatureMove t) = rate_valid t.rate
+task_valid (Task.ColorLoop t) = true
+task_valid Task.Stop = false
 
 -- not "outside the bounds"
-abbrev pub withinBounds : Bounds → ℕ → Bool
-withinBounds bounds mireds = leb bounds.min mireds && leb mireds bounds.max
+abbrev pub within_bounds : Bounds → ℕ → Bool
+within_bounds bounds mireds = leb bounds.min mireds && leb mireds bounds.max
 
 -- a running record at the lamp's clock and bounds: not one "whose task is out of form, whose move-to time is 0, whose
 -- saved start numbers break these rules, whose clock is after the lamp's, whose lo is not below hi, or whose kept mired
 -- target, lo or hi lies outside the bounds"
-unfoldable pub runningValid : Running → Bounds → ℕ → Bool
-runningValid Running.Idle bounds clock = true
-runningValid (Running.HueSaturationMoveTo run) bounds clock =
-    allTrue (moveToValid run.task ∷ ltb 0 run.task.ms ∷ leb run.saturation saturationLimit
+unfoldable pub running_valid : Running → Bounds → ℕ → Bool
+running_valid Running.Idle bounds clock = true
+running_valid (Running.HueSaturationMoveTo run) bounds clock =
+    all_true (move_to_valid run.task ∷ ltb 0 run.task.ms ∷ leb run.saturation saturation_limit
     ∷ leb run.start clock ∷ [])
-runningValid (Running.HueMove run) bounds clock = allTrue (hueMoveValid run.task ∷ leb run.start clock ∷ [])
-runningValid (Running.SaturationMove run) bounds clock =
-    allTrue (saturationMoveValid run.task ∷ leb run.saturation saturationLimit ∷ leb run.start clock ∷ [])
-runningValid (Running.ColorTemperatureMoveTo run) bounds clock =
-    allTrue
-    (timeValid run.task.ms ∷ ltb 0 run.task.ms ∷ withinBounds bounds run.mireds
-    ∷ withinBounds bounds run.task.target
+running_valid (Running.HueMove run) bounds clock = all_true (hue_move_valid run.task ∷ leb run.start clock ∷ [])
+running_valid (Running.SaturationMove run) bounds clock =
+    all_true (saturation_move_valid run.task ∷ leb run.saturation saturation_limit ∷ leb run.start clock ∷ [])
+running_valid (Running.ColorTemperatureMoveTo run) bounds clock =
+    all_true
+    (time_valid run.task.ms ∷ ltb 0 run.task.ms ∷ within_bounds bounds run.mireds
+    ∷ within_bounds bounds run.task.target
     ∷ leb run.start clock
     ∷ [])
-runningValid (Running.ColorTemperatureMove run) bounds clock =
-    allTrue
-    (rateValid run.rate ∷ withinBounds bounds run.mireds ∷ ltb run.lo run.hi
-    ∷ withinBounds bounds run.lo ∷ withinBounds bounds run.hi
+running_valid (Running.ColorTemperatureMove run) bounds clock =
+    all_true
+    (rate_valid run.rate ∷ within_bounds bounds run.mireds ∷ ltb run.lo run.hi
+    ∷ within_bounds bounds run.lo ∷ within_bounds bounds run.hi
     ∷ leb run.start clock
     ∷ [])
-runningValid (Running.ColorLoop direction hue seconds start) bounds clock = leb start clock
+running_valid (Running.ColorLoop direction hue seconds start) bounds clock = leb start clock

@@ -2,20 +2,20 @@
 // running record of "Lamp out of form".
 // Carried over from project-chip/rs-matter, commit 43f61585a4 (Apache-2.0, see NOTICE), and changed.
 ghost use Rattle.std.specs.Prelude.{◌≡◌};
-ghost use Rattle.tasks.specs.Valid.{timeValid, deltaValid, deltaGiven, saturationValid, saturationGiven, moves, withinBounds, rateValid, moveToValid, hueMoveValid, saturationMoveValid, taskValid, runningValid};
+ghost use Rattle.tasks.specs.Valid.{time_valid, delta_valid, delta_given, saturation_valid, saturation_given, moves, within_bounds, rate_valid, move_to_valid, hue_move_valid, saturation_move_valid, task_valid, running_valid};
 ghost use Rattle.tasks.specs.Runs.{runs};
 
 use matter::{Bounds, ColorLoopDirectionEnum, MoveModeEnum};
 
 // The signed way of the hue, where a task moves it (hue_delta, an Option<i32>, in the source).
-#[derive(Drop)]
+#[derive(Clone, Copy)]
 pub enum HueDelta {
     Keep,
     By(i64),
 }
 
 // The saturation a task moves to, where it moves it (target_saturation, an Option<u8>, in the source).
-#[derive(Drop)]
+#[derive(Clone, Copy)]
 pub enum TargetSaturation {
     Keep,
     To(u8),
@@ -23,7 +23,7 @@ pub enum TargetSaturation {
 
 // To a hue, a saturation or both: the way of the hue, the time in milliseconds, the target, and whether the hue is reported
 // as an enhanced one.
-#[derive(Drop)]
+#[derive(Clone, Copy)]
 pub struct HueSaturationMoveTo {
     pub delta: HueDelta,
     pub ms: u32,
@@ -32,7 +32,7 @@ pub struct HueSaturationMoveTo {
 }
 
 // The hue at a rate, in enhanced units a second.
-#[derive(Drop)]
+#[derive(Clone, Copy)]
 pub struct HueMove {
     pub rate: u32,
     pub direction: MoveModeEnum,
@@ -40,21 +40,21 @@ pub struct HueMove {
 }
 
 // The saturation at a rate, in units a second.
-#[derive(Drop)]
+#[derive(Clone, Copy)]
 pub struct SaturationMove {
     pub rate: u32,
     pub direction: MoveModeEnum,
 }
 
 // To a target in mireds, in a time in milliseconds.
-#[derive(Drop)]
+#[derive(Clone, Copy)]
 pub struct ColorTemperatureMoveTo {
     pub ms: u32,
     pub target: u16,
 }
 
 // The mireds at a signed rate a second, between the caller's limits.
-#[derive(Drop)]
+#[derive(Clone, Copy)]
 pub struct ColorTemperatureMove {
     pub rate: i64,
     pub min: u16,
@@ -62,13 +62,13 @@ pub struct ColorTemperatureMove {
 }
 
 // The colour loop: a turn in so many seconds.
-#[derive(Drop)]
+#[derive(Clone, Copy)]
 pub struct ColorLoop {
     pub direction: ColorLoopDirectionEnum,
     pub seconds: u16,
 }
 
-#[derive(Drop)]
+#[derive(Clone, Copy)]
 pub enum Task {
     HueSaturationMoveTo(HueSaturationMoveTo),
     HueMove(HueMove),
@@ -80,7 +80,7 @@ pub enum Task {
 }
 
 // What runs: the clock at its start, the numbers found there, and the task.
-#[derive(Drop)]
+#[derive(Clone, Copy)]
 pub struct HueSaturationRun {
     pub start: u64,
     pub hue: u16,
@@ -88,21 +88,21 @@ pub struct HueSaturationRun {
     pub task: HueSaturationMoveTo,
 }
 
-#[derive(Drop)]
+#[derive(Clone, Copy)]
 pub struct HueRun {
     pub start: u64,
     pub hue: u16,
     pub task: HueMove,
 }
 
-#[derive(Drop)]
+#[derive(Clone, Copy)]
 pub struct SaturationRun {
     pub start: u64,
     pub saturation: u8,
     pub task: SaturationMove,
 }
 
-#[derive(Drop)]
+#[derive(Clone, Copy)]
 pub struct ColorTemperatureToRun {
     pub start: u64,
     pub mireds: u16,
@@ -110,7 +110,7 @@ pub struct ColorTemperatureToRun {
 }
 
 // The limits are worked out at the start: `lo` and `hi`.
-#[derive(Drop)]
+#[derive(Clone, Copy)]
 pub struct ColorTemperatureRun {
     pub start: u64,
     pub mireds: u16,
@@ -119,7 +119,7 @@ pub struct ColorTemperatureRun {
     pub rate: i64,
 }
 
-#[derive(Drop)]
+#[derive(Clone, Copy)]
 pub struct ColorLoopRun {
     pub start: u64,
     pub hue: u16,
@@ -128,7 +128,7 @@ pub struct ColorLoopRun {
 
 // The loop's four numbers stand in the variant itself: they fill the bytes between the tag and a record's clock, so that no
 // copy of a lamp carries a gap (docs/SPEED.md).
-#[derive(Drop)]
+#[derive(Clone, Copy)]
 pub enum Running {
     Idle,
     HueSaturationMoveTo(HueSaturationRun),
@@ -146,20 +146,20 @@ pub enum Running {
 
 // Whole tenths of a second, of which there are at most 65,535.
 fn is_valid_time(ms: u32) -> bool
-    ensures { result ≡ timeValid ms }
+    ensures { result ≡ time_valid ms }
 {
     (ms % 100 == 0) & (ms <= 6553500)
 }
 
 // A signed rate of mireds that moves, within 65,535.
 fn is_valid_rate(rate: i64) -> bool
-    ensures { result ≡ rateValid rate }
+    ensures { result ≡ rate_valid rate }
 {
     ((rate < 0) | (0 < rate)) & ((-65535 <= rate) & (rate <= 65535))
 }
 
 fn within_bounds(bounds: Bounds, mireds: u16) -> bool
-    ensures { result ≡ withinBounds bounds mireds }
+    ensures { result ≡ within_bounds bounds mireds }
 {
     (bounds.min <= mireds) & (mireds <= bounds.max)
 }
@@ -177,7 +177,7 @@ fn moving(direction: MoveModeEnum) -> bool
 
 impl HueDelta {
     fn given(self) -> bool
-        ensures { result ≡ deltaGiven self }
+        ensures { result ≡ delta_given self }
     {
         match self {
             HueDelta::Keep => false,
@@ -186,7 +186,7 @@ impl HueDelta {
     }
 
     fn is_valid(self) -> bool
-        ensures { result ≡ deltaValid self }
+        ensures { result ≡ delta_valid self }
     {
         match self {
             HueDelta::Keep => true,
@@ -197,7 +197,7 @@ impl HueDelta {
 
 impl TargetSaturation {
     fn given(self) -> bool
-        ensures { result ≡ saturationGiven self }
+        ensures { result ≡ saturation_given self }
     {
         match self {
             TargetSaturation::Keep => false,
@@ -206,7 +206,7 @@ impl TargetSaturation {
     }
 
     fn is_valid(self) -> bool
-        ensures { result ≡ saturationValid self }
+        ensures { result ≡ saturation_valid self }
     {
         match self {
             TargetSaturation::Keep => true,
@@ -217,7 +217,7 @@ impl TargetSaturation {
 
 impl HueSaturationMoveTo {
     fn is_valid(self) -> bool
-        ensures { result ≡ moveToValid self }
+        ensures { result ≡ move_to_valid self }
     {
         let delta = self.delta;
         let saturation = self.saturation;
@@ -230,7 +230,7 @@ impl HueSaturationMoveTo {
 
 impl HueMove {
     fn is_valid(self) -> bool
-        ensures { result ≡ hueMoveValid self }
+        ensures { result ≡ hue_move_valid self }
     {
         let direction = self.direction;
         (0 < self.rate) & (self.rate <= 65535) & moving(direction)
@@ -239,7 +239,7 @@ impl HueMove {
 
 impl SaturationMove {
     fn is_valid(self) -> bool
-        ensures { result ≡ saturationMoveValid self }
+        ensures { result ≡ saturation_move_valid self }
     {
         let direction = self.direction;
         (0 < self.rate) & (self.rate <= 255) & moving(direction)
@@ -248,7 +248,7 @@ impl SaturationMove {
 
 impl Task {
     pub fn is_valid(self) -> bool
-        ensures { result ≡ taskValid self }
+        ensures { result ≡ task_valid self }
     {
         match self {
             Task::HueSaturationMoveTo(t) => t.is_valid(),
@@ -280,7 +280,7 @@ impl Running {
 
     // Whether a lamp with these bounds and this clock can be valid with this record.
     pub fn is_valid(self, bounds: Bounds, clock: u64) -> bool
-        ensures { result ≡ runningValid self bounds clock }
+        ensures { result ≡ running_valid self bounds clock }
     {
         match self {
             Running::Idle => true,
@@ -318,7 +318,7 @@ impl Running {
 }
 
 // The task that an answer gives, where it gives one.
-#[derive(Drop)]
+#[derive(Clone, Copy)]
 pub enum GivenTask {
     Nothing,
     Given(Task),

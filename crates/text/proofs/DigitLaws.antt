@@ -12,45 +12,45 @@ use lib.IntN.{ℤ, pos, negsuc, nat_abs}
 use lib.ListN.{length, length-append}
 use lib.Signed.{lt_z}
 use Rattle.text.specs.declared.digits.Grown.{Grown}
-use Rattle.text.specs.Digits.{isDigit, digitsAlone, valueFrom, value, grown, decimalIn, decimal, signedDecimal}
+use Rattle.text.specs.Digits.{is_digit, digits_alone, value_from, value, grown, decimal_in, decimal, signed_decimal}
 use Rattle.text.proofs.WriteLaws.{side}
 
 -- ---- values
 
-pub value-next : (v : ℕ) (w : List ℕ) (b : ℕ) → valueFrom v (w ++ (b ∷ [])) ≡ valueFrom v w * 10 + (b - 48)
+pub value-next : (v : ℕ) (w : List ℕ) (b : ℕ) → value_from v (w ++ (b ∷ [])) ≡ value_from v w * 10 + (b - 48)
 value-next v [] b = refl
 value-next v (x ∷ w) b = value-next (v * 10 + (x - 48)) w b
 
-pub value-join : (v : ℕ) (w u : List ℕ) → valueFrom v (w ++ u) ≡ valueFrom (valueFrom v w) u
+pub value-join : (v : ℕ) (w u : List ℕ) → value_from v (w ++ u) ≡ value_from (value_from v w) u
 value-join v [] u = refl
 value-join v (x ∷ w) u = value-join (v * 10 + (x - 48)) w u
 
-pub value_grows : (v : ℕ) (w : List ℕ) → v ≤ valueFrom v w
+pub value_grows : (v : ℕ) (w : List ℕ) → v ≤ value_from v w
 value_grows v [] = omega arith
 value_grows v (x ∷ w) = omega (arith, value_grows (v * 10 + (x - 48)) w)
 
 -- ---- a number with one digit more
 
 -- what is refused is no digit, or spoils the number for whatever follows
-pub grown-refused : (v b most : ℕ) (w : List ℕ) → grown v b most ≡ Grown.Refused → (digitsAlone (b ∷ w) && leb (valueFrom v (b ∷ w)) most) ≡ false
+pub grown-refused : (v b most : ℕ) (w : List ℕ) → grown v b most ≡ Grown.Refused → (digits_alone (b ∷ w) && leb (value_from v (b ∷ w)) most) ≡ false
 unfolding grown
-grown-refused v b most w e = by_tests (isDigit b) (leb (v * 10 + (b - 48)) most) refl refl e
+grown-refused v b most w e = by_tests (is_digit b) (leb (v * 10 + (b - 48)) most) refl refl e
   where
-    by_tests : (t u : Bool) → isDigit b ≡ t → leb (v * 10 + (b - 48)) most ≡ u → cond (t && u) (Grown.To (v * 10 + (b - 48))) Grown.Refused ≡ Grown.Refused
-        → (digitsAlone (b ∷ w) && leb (valueFrom v (b ∷ w)) most) ≡ false
+    by_tests : (t u : Bool) → is_digit b ≡ t → leb (v * 10 + (b - 48)) most ≡ u → cond (t && u) (Grown.To (v * 10 + (b - 48))) Grown.Refused ≡ Grown.Refused
+        → (digits_alone (b ∷ w) && leb (value_from v (b ∷ w)) most) ≡ false
     by_tests false u f g e = simp f
     by_tests true false f g e =
-        ap (λ (t : Bool). digitsAlone (b ∷ w) && t)
-        (lt-leb (valueFrom v (b ∷ w)) most (omega (arith, leb-false (v * 10 + (b - 48)) most g, value_grows (v * 10 + (b - 48)) w)))
-        ∙ and-false (digitsAlone (b ∷ w))
+        ap (λ (t : Bool). digits_alone (b ∷ w) && t)
+        (lt-leb (value_from v (b ∷ w)) most (omega (arith, leb-false (v * 10 + (b - 48)) most g, value_grows (v * 10 + (b - 48)) w)))
+        ∙ and-false (digits_alone (b ∷ w))
     by_tests true true f g e = let z : ◌≡◌ {A = ℕ} 0 1 = cc in absurd (omega arith)
 
-pub grown-to : (v b most n : ℕ) → grown v b most ≡ Grown.To n → (isDigit b ≡ true) × (n ≡ v * 10 + (b - 48)) × (n ≤ most)
+pub grown-to : (v b most n : ℕ) → grown v b most ≡ Grown.To n → (is_digit b ≡ true) × (n ≡ v * 10 + (b - 48)) × (n ≤ most)
 unfolding grown
-grown-to v b most n e = by_tests (isDigit b) (leb (v * 10 + (b - 48)) most) refl refl e
+grown-to v b most n e = by_tests (is_digit b) (leb (v * 10 + (b - 48)) most) refl refl e
   where
-    by_tests : (t u : Bool) → isDigit b ≡ t → leb (v * 10 + (b - 48)) most ≡ u → cond (t && u) (Grown.To (v * 10 + (b - 48))) Grown.Refused ≡ Grown.To n
-        → (isDigit b ≡ true) × (n ≡ v * 10 + (b - 48)) × (n ≤ most)
+    by_tests : (t u : Bool) → is_digit b ≡ t → leb (v * 10 + (b - 48)) most ≡ u → cond (t && u) (Grown.To (v * 10 + (b - 48))) Grown.Refused ≡ Grown.To n
+        → (is_digit b ≡ true) × (n ≡ v * 10 + (b - 48)) × (n ≤ most)
     by_tests false u f g e = let z : ◌≡◌ {A = ℕ} 0 1 = cc in absurd (omega arith)
     by_tests true false f g e = let z : ◌≡◌ {A = ℕ} 0 1 = cc in absurd (omega arith)
     by_tests true true f g e =
@@ -63,19 +63,19 @@ digits-short : (b : Bool) (ds : List ℕ) (d k : ℕ) → length ds ≤ k → le
 digits-short true ds d k h = omega arith
 digits-short false ds d k h = simp length-append (omega arith)
 
-decimalIn-short : (k n : ℕ) → length (decimalIn k n) ≤ k
-unfolding decimalIn
-decimalIn-short zero n = omega arith
-decimalIn-short (suc k) n = digits-short (ltb n 10) (decimalIn k (n / 10)) _ k (decimalIn-short k (n / 10))
+decimal_in-short : (k n : ℕ) → length (decimal_in k n) ≤ k
+unfolding decimal_in
+decimal_in-short zero n = omega arith
+decimal_in-short (suc k) n = digits-short (ltb n 10) (decimal_in k (n / 10)) _ k (decimal_in-short k (n / 10))
 
 -- a number takes at most 20 places
 pub decimal-short : (n : ℕ) → length (decimal n) ≤ 20
 unfolding decimal
-decimal-short n = decimalIn-short 20 n
+decimal-short n = decimal_in-short 20 n
 
 -- below 10, a number is one digit
 pub decimal-one : (n : ℕ) → n < 10 → decimal n ≡ (48 + n % 10) ∷ []
-unfolding decimal decimalIn
+unfolding decimal decimal_in
 decimal-one n h = simp (lt-ltb n 10 h)
 
 -- a tenth takes a digit less
@@ -85,35 +85,35 @@ tenth-below k n h =
     omega arith
 
 -- where k digits hold a number, one more adds nothing
-decimalIn-enough : (k n : ℕ) → n < 10 ^ suc k → decimalIn (suc k) n ≡ decimalIn (suc (suc k)) n
-unfolding decimalIn
-decimalIn-enough zero n h = simp (lt-ltb n 10 h)
-decimalIn-enough (suc k) n h =
-    ap (λ (ds : List ℕ). cond (ltb n 10) [] ds ++ ((48 + n % 10) ∷ [])) (decimalIn-enough k (n / 10) (tenth-below (suc k) n h))
+decimal_in-enough : (k n : ℕ) → n < 10 ^ suc k → decimal_in (suc k) n ≡ decimal_in (suc (suc k)) n
+unfolding decimal_in
+decimal_in-enough zero n h = simp (lt-ltb n 10 h)
+decimal_in-enough (suc k) n h =
+    ap (λ (ds : List ℕ). cond (ltb n 10) [] ds ++ ((48 + n % 10) ∷ [])) (decimal_in-enough k (n / 10) (tenth-below (suc k) n h))
 
 -- from 10 on, it is its tenth and the last digit
 pub decimal-more : (n : ℕ) → 10 ≤ n → n < 10 ^ 20 → decimal n ≡ decimal (n / 10) ++ ((48 + n % 10) ∷ [])
-unfolding decimal decimalIn
-decimal-more n from fits = simp (le-ltb n 10 from) (ap (λ (ds : List ℕ). ds ++ ((48 + n % 10) ∷ [])) (decimalIn-enough 18 (n / 10) (omega arith)))
+unfolding decimal decimal_in
+decimal-more n from fits = simp (le-ltb n 10 from) (ap (λ (ds : List ℕ). ds ++ ((48 + n % 10) ∷ [])) (decimal_in-enough 18 (n / 10) (omega arith)))
 
-value-decimalIn : (k n : ℕ) → n < 10 ^ k → value (decimalIn k n) ≡ n
-unfolding decimalIn
-value-decimalIn zero n h = omega arith
-value-decimalIn (suc k) n h =
-    let tenth : value (decimalIn k (n / 10)) ≡ n / 10 = value-decimalIn k (n / 10) (tenth-below k n h) in
-    ⊎_elim (λ below. simp (lt-ltb n 10 below) (omega arith)) (λ from. simp (le-ltb n 10 from, value-next 0 (decimalIn k (n / 10)) (48 + n % 10), tenth) (omega arith)) (side n 10)
+value-decimal_in : (k n : ℕ) → n < 10 ^ k → value (decimal_in k n) ≡ n
+unfolding decimal_in
+value-decimal_in zero n h = omega arith
+value-decimal_in (suc k) n h =
+    let tenth : value (decimal_in k (n / 10)) ≡ n / 10 = value-decimal_in k (n / 10) (tenth-below k n h) in
+    ⊎_elim (λ below. simp (lt-ltb n 10 below) (omega arith)) (λ from. simp (le-ltb n 10 from, value-next 0 (decimal_in k (n / 10)) (48 + n % 10), tenth) (omega arith)) (side n 10)
 
 -- the digits of a number read back
 pub value-decimal : (n : ℕ) → n < 10 ^ 20 → value (decimal n) ≡ n
 unfolding decimal
-value-decimal n h = value-decimalIn 20 n h
+value-decimal n h = value-decimal_in 20 n h
 
 -- ---- signed numbers
 
-pub signed_below : (z : ℤ) → lt_z z (pos 0) ≡ true → signedDecimal z ≡ 45 ∷ decimal (nat_abs z)
+pub signed_below : (z : ℤ) → lt_z z (pos 0) ≡ true → signed_decimal z ≡ 45 ∷ decimal (nat_abs z)
 signed_below (pos n) e = absurd (omega (arith, ltb-true n 0 e))
 signed_below (negsuc n) e = refl
 
-pub signed_above : (z : ℤ) → lt_z z (pos 0) ≡ false → signedDecimal z ≡ decimal (nat_abs z)
+pub signed_above : (z : ℤ) → lt_z z (pos 0) ≡ false → signed_decimal z ≡ decimal (nat_abs z)
 signed_above (pos n) e = refl
 signed_above (negsuc n) e = absurd (false≢true (sym e))

@@ -4,8 +4,8 @@ use mathlib.Core.Bool.{Bool, true, false}
 use mathlib.Core.List.{List, ◌∷◌}
 use mathlib.Core.Path.{◌≡◌, ◌∙◌}
 use Rattle.text.specs.Ascii.{ascii}
-use Rattle.text.specs.Words.{isWord, start_of, end_of}
-use Rattle.text.specs.Readers.{Read, Reads, Reader, Row, named, unknown, byName}
+use Rattle.text.specs.Words.{is_word, start_of, end_of}
+use Rattle.text.specs.Readers.{Read, Reads, Reader, Row, named, unknown, by_name}
 
 -- what is read is what these rows read
 pub record Left {A : Type 0} (whole : Read A) (rows : List (Row A)) (other : Reader A) (line : List ℕ) (name at : ℕ)
@@ -14,7 +14,7 @@ pub record Left {A : Type 0} (whole : Read A) (rows : List (Row A)) (other : Rea
 
 module _ {A : Type 0} {whole : Read A} {other : Reader A} {line : List ℕ} {name at : ℕ} where
   module _ {row : Row A} {rows : List (Row A)} {found : Bool} (left : Left whole (row ∷ rows) other line name at)
-      (test : found ≡ isWord line name (ascii row.name)) where
+      (test : found ≡ is_word line name (ascii row.name)) where
     pub pass : found ≡ false → Left whole rows other line name at
     pass h = record { same = left.same ∙ rw (← test, h) }
 
@@ -28,5 +28,5 @@ module _ {A : Type 0} {whole : Read A} {other : Reader A} {line : List ℕ} {nam
 
 -- at first all are left
 pub whole-table : {A : Type 0} (rows : List (Row A)) (x : A) (line : List ℕ) (at name end : ℕ) → name ≡ start_of line at →
-    end ≡ end_of line name → Left (byName rows x line at) rows (unknown x) line name end
+    end ≡ end_of line name → Left (by_name rows x line at) rows (unknown x) line name end
 whole-table rows x line at name end n e = record { same = rw (e, n) }

@@ -10,7 +10,7 @@ use borrow.Author.Tests.{eq-eqb, eqb-true}
 use lib.Dec.{eqb}
 use lib.ListN.{length, get_or, drop, drop_of_length-le, get_or-eq_default}
 use Rattle.bytes.specs.Bytes.{index_after, index_of}
-use Rattle.text.specs.Digits.{notEmpty}
+use Rattle.text.specs.Digits.{not_empty}
 use Rattle.text.specs.Words.{up_to, word_at, in_word, same}
 use Rattle.text.proofs.WriteLaws.{side}
 
@@ -30,10 +30,10 @@ index_is x (b ∷ s) = by-test (eqb b x) (index_is x s)
     by-test true e = refl
     by-test false e = ap suc e
 
-pub upTo-short : (x : ℕ) (s : List ℕ) → length (up_to x s) ≤ length s
+pub up_to-short : (x : ℕ) (s : List ℕ) → length (up_to x s) ≤ length s
 unfolding up_to
-upTo-short x [] = omega arith
-upTo-short x (b ∷ s) = by-test (eqb b x) (upTo-short x s)
+up_to-short x [] = omega arith
+up_to-short x (b ∷ s) = by-test (eqb b x) (up_to-short x s)
   where
     by-test : (t : Bool) → length (up_to x s) ≤ length s → length (cond t [] (b ∷ up_to x s)) ≤ suc (length s)
     by-test true h = omega arith
@@ -75,7 +75,7 @@ word-here line at e = ⊎_elim (λ h. (h, next h (eqb (get_or line at 0) 32) ref
 pub word_over : (line : List ℕ) (at : ℕ) → in_word line at ≡ false → word_at line at ≡ []
 word_over line at e = empty (word_at line at) e
   where
-    empty : (w : List ℕ) → notEmpty w ≡ false → w ≡ []
+    empty : (w : List ℕ) → not_empty w ≡ false → w ≡ []
     empty [] e = refl
     empty (b ∷ w) e = absurd (false≢true (sym e))
 
@@ -85,7 +85,7 @@ minus-inside line at e = ⊎_elim (λ h. h) (λ h. absurd (false≢true (rw (get
 
 -- ---- words that are the same
 
-pub same_end : (w : List ℕ) → not (notEmpty w) ≡ same w []
+pub same_end : (w : List ℕ) → not (not_empty w) ≡ same w []
 unfolding same
 same_end [] = refl
 same_end (b ∷ w) = refl

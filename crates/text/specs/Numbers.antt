@@ -9,44 +9,44 @@ use Rattle.text.specs.declared.numbers.SignedRead.{SignedRead}
 use Rattle.text.specs.Digits.{is_number, value}
 use Rattle.text.specs.Words.{lost, word_at, start_of, end_of}
 
-abbrev pub noNumber : Read64
-noNumber = record { value = 0; at = lost }
+abbrev pub no_number : Read64
+no_number = record { value = 0; at = lost }
 
 -- the word that begins at a place, as a number of at most `most`
-unfoldable pub numberFrom : List ℕ → ℕ → ℕ → Read64
-numberFrom line from most =
+unfoldable pub number_from : List ℕ → ℕ → ℕ → Read64
+number_from line from most =
     cond (is_number most (word_at line from))
     (record { value = value (word_at line from); at = end_of line from })
-    noNumber
+    no_number
 
 -- the next word
-abbrev pub numberRead : List ℕ → ℕ → ℕ → Read64
-numberRead line at most = numberFrom line (start_of line at) most
+abbrev pub number_read : List ℕ → ℕ → ℕ → Read64
+number_read line at most = number_from line (start_of line at) most
 
-abbrev pub flagRead : List ℕ → ℕ → FlagRead
-flagRead line at = record { value = eqb (numberRead line at 1).value 1; at = (numberRead line at 1).at }
+abbrev pub flag_read : List ℕ → ℕ → FlagRead
+flag_read line at = record { value = eqb (number_read line at 1).value 1; at = (number_read line at 1).at }
 
 abbrev pub read8 : List ℕ → ℕ → Read8
-read8 line at = record { value = (numberRead line at 255).value; at = (numberRead line at 255).at }
+read8 line at = record { value = (number_read line at 255).value; at = (number_read line at 255).at }
 
 abbrev pub read16 : List ℕ → ℕ → Read16
-read16 line at = record { value = (numberRead line at 65535).value; at = (numberRead line at 65535).at }
+read16 line at = record { value = (number_read line at 65535).value; at = (number_read line at 65535).at }
 
 abbrev pub read32 : List ℕ → ℕ → Read32
-read32 line at = record { value = (numberRead line at 4294967295).value; at = (numberRead line at 4294967295).at }
+read32 line at = record { value = (number_read line at 4294967295).value; at = (number_read line at 4294967295).at }
 
 abbrev pub read64 : List ℕ → ℕ → Read64
-read64 line at = numberRead line at 18446744073709551615
+read64 line at = number_read line at 18446744073709551615
 
 abbrev pub negated : Read64 → SignedRead
 negated n = record { value = neg_ℤ (pos n.value); at = n.at }
 
-abbrev pub notNegated : Read64 → SignedRead
-notNegated n = record { value = pos n.value; at = n.at }
+abbrev pub not_negated : Read64 → SignedRead
+not_negated n = record { value = pos n.value; at = n.at }
 
 -- the next word, with a minus or without
-unfoldable pub signedRead : List ℕ → ℕ → SignedRead
-signedRead line at =
+unfoldable pub signed_read : List ℕ → ℕ → SignedRead
+signed_read line at =
     cond (eqb (get_or line (start_of line at) 0) 45)
-    (negated (numberFrom line (start_of line at + 1) 9223372036854775808))
-    (notNegated (numberFrom line (start_of line at) 9223372036854775807))
+    (negated (number_from line (start_of line at + 1) 9223372036854775808))
+    (not_negated (number_from line (start_of line at) 9223372036854775807))

@@ -3,8 +3,8 @@
 use Rattle.std.specs.Prelude.{ℕ, Bool, cond, List, [], ◌∷◌, ◌≡◌, ℤ}
 use Prim.Native.String.{String}
 use Rattle.text.specs.Ascii.{ascii}
-use Rattle.text.specs.Words.{lost, isWord, start_of, end_of}
-use Rattle.text.specs.Numbers.{read8, read16, read32, read64, flagRead, signedRead}
+use Rattle.text.specs.Words.{lost, is_word, start_of, end_of}
+use Rattle.text.specs.Numbers.{read8, read16, read32, read64, flag_read, signed_read}
 
 -- a value, and where its last word ended
 pub record Read (A : Type 0) : Type 0 where
@@ -43,10 +43,10 @@ abbrev pub number64 : Reader ℕ
 number64 line at = record { value = (read64 line at).value; at = (read64 line at).at }
 
 abbrev pub flag : Reader Bool
-flag line at = record { value = (flagRead line at).value; at = (flagRead line at).at }
+flag line at = record { value = (flag_read line at).value; at = (flag_read line at).at }
 
 abbrev pub signed : Reader ℤ
-signed line at = record { value = (signedRead line at).value; at = (signedRead line at).at }
+signed line at = record { value = (signed_read line at).value; at = (signed_read line at).at }
 
 -- a row of a table: a name, and what is read behind it
 pub record Row (A : Type 0) : Type 0 where
@@ -61,18 +61,18 @@ abbrev pub ◌means◌ : {A : Type 0} → String → Reader A → Row A
 abbrev pub named : {A : Type 0} → List (Row A) → Reader A → List ℕ → ℕ → ℕ → Read A
 named [] other line name at = other line at
 named (r ∷ rows) other line name at =
-    cond (isWord line name (ascii r.name)) (r.reads line at) (named rows other line name at)
+    cond (is_word line name (ascii r.name)) (r.reads line at) (named rows other line name at)
 
 -- no row has the name
 abbrev pub unknown : {A : Type 0} → A → Reader A
 unknown x line at = record { value = x; at = lost }
 
 -- by the next word, which is a name
-abbrev pub byName : {A : Type 0} → List (Row A) → A → Reader A
-byName rows x line at = named rows (unknown x) line (start_of line at) (end_of line (start_of line at))
+abbrev pub by_name : {A : Type 0} → List (Row A) → A → Reader A
+by_name rows x line at = named rows (unknown x) line (start_of line at) (end_of line (start_of line at))
 
 -- `-` for a value, or else what a reader reads
-abbrev pub orDash : {A : Type 0} → A → Reader A → Reader A
-orDash x reads line at =
-    cond (isWord line (start_of line at) (ascii "-")) (record { value = x; at = end_of line (start_of line at) })
+abbrev pub or_dash : {A : Type 0} → A → Reader A → Reader A
+or_dash x reads line at =
+    cond (is_word line (start_of line at) (ascii "-")) (record { value = x; at = end_of line (start_of line at) })
     (reads line at)

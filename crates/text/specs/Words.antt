@@ -1,6 +1,6 @@
 -- The words of a line, which single blanks part. A position is where the last word ended.
 use Rattle.std.specs.Prelude.{ℕ, ◌+◌, Bool, true, false, cond, ◌&&◌, List, [], ◌∷◌, eqb, length, get_or, drop}
-use Rattle.text.specs.Digits.{notEmpty}
+use Rattle.text.specs.Digits.{not_empty}
 
 -- the position at which nothing can be read
 abbrev pub lost : ℕ
@@ -12,8 +12,8 @@ up_to x [] = []
 up_to x (b ∷ bs) = cond (eqb b x) [] (b ∷ up_to x bs)
 
 -- the place of the first such byte from a place on
-abbrev pub findFrom : List ℕ → ℕ → ℕ → ℕ
-findFrom s from x = from + length (up_to x (drop from s))
+abbrev pub find_from : List ℕ → ℕ → ℕ → ℕ
+find_from s from x = from + length (up_to x (drop from s))
 
 -- the word that begins at a place: the bytes up to the next blank
 abbrev pub word_at : List ℕ → ℕ → List ℕ
@@ -21,7 +21,7 @@ word_at line from = up_to 32 (drop from line)
 
 -- a byte of a word is at a place
 abbrev pub in_word : List ℕ → ℕ → Bool
-in_word line at = notEmpty (word_at line at)
+in_word line at = not_empty (word_at line at)
 
 -- where the next word begins: behind a blank
 abbrev pub start_of : List ℕ → ℕ → ℕ
@@ -37,5 +37,5 @@ same [] (y ∷ ys) = false
 same (x ∷ xs) [] = false
 same (x ∷ xs) (y ∷ ys) = eqb x y && same xs ys
 
-abbrev pub isWord : List ℕ → ℕ → List ℕ → Bool
-isWord line from text = same (word_at line from) text
+abbrev pub is_word : List ℕ → ℕ → List ℕ → Bool
+is_word line from text = same (word_at line from) text

@@ -1,9 +1,9 @@
 // Digits: a decimal number that grows byte by byte, and hexadecimal digits.
 ghost use Rattle.std.specs.Prelude.{◌≡◌, ◌<◌};
-ghost use Rattle.text.specs.Digits.{grown, isHexDigit, hexValue, hexDigit};
+ghost use Rattle.text.specs.Digits.{grown, is_hex_digit, hex_value, hex_digit};
 
 // A number with one digit more. Refused: a byte that is no digit, or a number that is too large.
-#[derive(Drop)]
+#[derive(Clone, Copy)]
 pub enum Grown {
     To(u64),
     Refused,
@@ -29,14 +29,14 @@ pub fn with_digit(value: u64, byte: u8, most: u64) -> Grown
 }
 
 pub fn is_hex_digit(byte: u8) -> bool
-    ensures { result ≡ isHexDigit byte }
+    ensures { result ≡ is_hex_digit byte }
 {
     ((b'0' <= byte) & (byte <= b'9')) | ((b'a' <= byte) & (byte <= b'f'))
 }
 
 // A hexadecimal digit's number; 0 for any other byte.
 pub fn hex_value(byte: u8) -> u8
-    ensures { (result ≡ hexValue byte) × (result < 16) }
+    ensures { (result ≡ hex_value byte) × (result < 16) }
 {
     if byte < b'0' {
         return 0;
@@ -55,7 +55,7 @@ pub fn hex_value(byte: u8) -> u8
 
 // The digit of the last four bits of a number.
 pub fn hex_digit(number: u8) -> u8
-    ensures { result ≡ hexDigit number }
+    ensures { result ≡ hex_digit number }
 {
     let digit = number % 16;
     if digit < 10 {

@@ -1,6 +1,6 @@
 // Numbers that are the words of a line, each within its width.
 ghost use Rattle.std.specs.Prelude.{◌≡◌, ◌≤◌, eqb, pos, neg_ℤ, get_or};
-ghost use Rattle.text.specs.Numbers.{noNumber, numberFrom, numberRead, flagRead, read8, read16, read32, read64, signedRead};
+ghost use Rattle.text.specs.Numbers.{no_number, number_from, number_read, flag_read, read8, read16, read32, read64, signed_read};
 
 use crate::digits::{Grown, with_digit};
 use crate::words::{LOST, in_word, start};
@@ -19,51 +19,51 @@ const MOST_SIGNED: u64 = 9223372036854775807;
 const LEAST_SIGNED: u64 = 9223372036854775808;
 
 // What was read, and where it ended.
-#[derive(Drop)]
+#[derive(Clone, Copy)]
 pub struct FlagRead {
     pub value: bool,
     pub at: usize,
 }
 
-#[derive(Drop)]
+#[derive(Clone, Copy)]
 pub struct Read8 {
     pub value: u8,
     pub at: usize,
 }
 
-#[derive(Drop)]
+#[derive(Clone, Copy)]
 pub struct Read16 {
     pub value: u16,
     pub at: usize,
 }
 
-#[derive(Drop)]
+#[derive(Clone, Copy)]
 pub struct Read32 {
     pub value: u32,
     pub at: usize,
 }
 
-#[derive(Drop)]
+#[derive(Clone, Copy)]
 pub struct Read64 {
     pub value: u64,
     pub at: usize,
 }
 
-#[derive(Drop)]
+#[derive(Clone, Copy)]
 pub struct SignedRead {
     pub value: i64,
     pub at: usize,
 }
 
 fn refused() -> Read64
-    ensures { result ≡ noNumber }
+    ensures { result ≡ no_number }
 {
     Read64 { value: 0, at: LOST }
 }
 
 // The word that begins at `from`, as a number of at most `most`.
 fn number_from(line: &[u8], from: usize, most: u64) -> Read64
-    ensures { (result ≡ numberFrom line.now from most) × (result.value ≤ most) }
+    ensures { (result ≡ number_from line.now from most) × (result.value ≤ most) }
 {
     let mut at = from;
     let mut value: u64 = 0;
@@ -82,13 +82,13 @@ fn number_from(line: &[u8], from: usize, most: u64) -> Read64
 
 // The next word, as a number of at most `most`.
 pub fn number(line: &[u8], at: usize, most: u64) -> Read64
-    ensures { (result ≡ numberRead line.now at most) × (result.value ≤ most) }
+    ensures { (result ≡ number_read line.now at most) × (result.value ≤ most) }
 {
     number_from(line, start(line, at), most)
 }
 
 pub fn flag(line: &[u8], at: usize) -> FlagRead
-    ensures { result ≡ flagRead line.now at }
+    ensures { result ≡ flag_read line.now at }
 {
     let n = number(line, at, 1);
     FlagRead {
@@ -155,7 +155,7 @@ fn is_minus(line: &[u8], at: usize) -> bool
 
 // The next word, as a number with or without a minus.
 pub fn signed(line: &[u8], at: usize) -> SignedRead
-    ensures { result ≡ signedRead line.now at }
+    ensures { result ≡ signed_read line.now at }
 {
     let from = start(line, at);
     if is_minus(line, from) {

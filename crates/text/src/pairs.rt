@@ -1,8 +1,8 @@
 // Bytes that are a word of a line: two hexadecimal digits each, small letters.
 ghost use Rattle.std.specs.Prelude.{◌≡◌, true, ◌&&◌, ◌+◌, ◌*◌, ◌<◌, length, get_or};
-ghost use Rattle.text.specs.Digits.{isHexDigit, hexValue};
+ghost use Rattle.text.specs.Digits.{is_hex_digit, hex_value};
 ghost use Rattle.text.specs.Words.{word_at};
-ghost use Rattle.text.specs.Pairs.{isPairs, bytes_of, noBytes, bytesTaken, bytesRead};
+ghost use Rattle.text.specs.Pairs.{isPairs, bytes_of, no_bytes, bytes_taken, bytes_read};
 ghost use Rattle.text.specs.Written.{pasted, Written};
 
 use crate::digits::{hex_value, is_hex_digit};
@@ -10,7 +10,7 @@ use crate::words::{LOST, end, in_word, start};
 use crate::writer;
 
 // How many bytes were read, and where their word ended.
-#[derive(Drop)]
+#[derive(Clone, Copy)]
 pub struct BytesRead {
     pub count: usize,
     pub at: usize,
@@ -19,7 +19,7 @@ pub struct BytesRead {
 // Whether two digits are at `at`.
 fn is_pair(line: &[u8], at: usize) -> bool
     requires { at < length line.now }
-    ensures { result ≡ (isHexDigit (get_or line.now at 0) && isHexDigit (get_or line.now (at + 1) 0)) }
+    ensures { result ≡ (is_hex_digit (get_or line.now at 0) && is_hex_digit (get_or line.now (at + 1) 0)) }
 {
     if line.len() - at < 2 {
         return false;
@@ -30,7 +30,7 @@ fn is_pair(line: &[u8], at: usize) -> bool
 // The byte of the two digits at `at`.
 fn pair(line: &[u8], at: usize) -> u8
     requires { at + 1 < length line.now }
-    ensures { result ≡ hexValue (get_or line.now at 0) * 16 + hexValue (get_or line.now (at + 1) 0) }
+    ensures { result ≡ hex_value (get_or line.now at 0) * 16 + hex_value (get_or line.now (at + 1) 0) }
 {
     hex_value(line[at]) * 16 + hex_value(line[at + 1])
 }
@@ -64,15 +64,15 @@ fn take_pairs(line: &[u8], from: usize, out: &mut [u8]) -> usize
 }
 
 fn refused() -> BytesRead
-    ensures { result ≡ noBytes }
+    ensures { result ≡ no_bytes }
 {
     BytesRead { count: 0, at: LOST }
 }
 
 // The bytes of the next word, to the start of `out`. A word of another form, or of more bytes than fit, gives none.
 pub fn bytes(line: &[u8], at: usize, out: &mut [u8]) -> BytesRead
-    ensures value { result ≡ bytesRead line.now at (length out.old) }
-    ensures out_after { out.new ≡ pasted out.old 0 (bytesTaken line.now at (length out.old)) }
+    ensures value { result ≡ bytes_read line.now at (length out.old) }
+    ensures out_after { out.new ≡ pasted out.old 0 (bytes_taken line.now at (length out.old)) }
 {
     let from = start(line, at);
     if !in_word(line, from) {

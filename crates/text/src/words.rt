@@ -2,13 +2,13 @@
 // as asked gives the position LOST, at which nothing can be read and no line ends. So a row of readings needs one test,
 // at its end.
 ghost use Rattle.std.specs.Prelude.{◌≡◌, ◌≤◌, max, length};
-ghost use Rattle.text.specs.Words.{findFrom, in_word, start_of, end_of, isWord};
+ghost use Rattle.text.specs.Words.{find_from, in_word, start_of, end_of, is_word};
 
 pub const LOST: usize = usize::MAX;
 
 // The place of the next such byte from `from` on; the end where there is none, and `from` behind the end.
 pub fn find(bytes: &[u8], from: usize, byte: u8) -> usize
-    ensures { (result ≡ findFrom bytes.now from byte) × (from ≤ result) × (result ≤ max from (length bytes.now)) }
+    ensures { (result ≡ find_from bytes.now from byte) × (from ≤ result) × (result ≤ max from (length bytes.now)) }
 {
     if bytes.len() <= from {
         return from;
@@ -47,7 +47,7 @@ pub fn end(line: &[u8], from: usize) -> usize
 
 // Whether the word that begins at `from` is `text`.
 pub fn is(line: &[u8], from: usize, text: &[u8]) -> bool
-    ensures { result ≡ isWord line.now from text.now }
+    ensures { result ≡ is_word line.now from text.now }
 {
     let mut at = from;
     let mut i = 0;

@@ -1,8 +1,8 @@
 // Writing into a caller's slice. Each function writes from `at` on and gives the place after what it wrote. What does not
 // fit is left out, so no place need be in the slice.
 ghost use Rattle.std.specs.Prelude.{◌≡◌, [], ◌∷◌, ◌+◌, ◌/◌, ◌%◌, nat_abs};
-ghost use Rattle.text.specs.Digits.{signedDecimal, hexDigit, hexText};
-ghost use Rattle.text.specs.Digits.{decimal as decimalText};
+ghost use Rattle.text.specs.Digits.{signed_decimal, hex_digit, hex_text};
+ghost use Rattle.text.specs.Digits.{decimal as decimal_text};
 ghost use Rattle.text.specs.Written.{Written};
 
 use crate::digits::hex_digit;
@@ -36,7 +36,7 @@ fn last_digit(n: u64) -> u8
 }
 
 pub fn decimal(out: &mut [u8], at: usize, n: u64) -> usize
-    ensures { Written out.old at (decimalText n) out.new result }
+    ensures { Written out.old at (decimal_text n) out.new result }
 {
     if n < 10 {
         byte(out, at, last_digit(n))
@@ -60,7 +60,7 @@ fn size(n: i64) -> u64
 }
 
 pub fn signed(out: &mut [u8], at: usize, n: i64) -> usize
-    ensures { Written out.old at (signedDecimal n) out.new result }
+    ensures { Written out.old at (signed_decimal n) out.new result }
 {
     if n < 0 {
         let next = byte(out, at, b'-');
@@ -70,7 +70,7 @@ pub fn signed(out: &mut [u8], at: usize, n: i64) -> usize
 }
 
 fn hex_byte(out: &mut [u8], at: usize, b: u8) -> usize
-    ensures { Written out.old at (hexDigit (b / 16) ∷ hexDigit b ∷ []) out.new result }
+    ensures { Written out.old at (hex_digit (b / 16) ∷ hex_digit b ∷ []) out.new result }
 {
     let next = byte(out, at, hex_digit(b / 16));
     byte(out, next, hex_digit(b))
@@ -78,7 +78,7 @@ fn hex_byte(out: &mut [u8], at: usize, b: u8) -> usize
 
 // Two hexadecimal digits a byte.
 pub fn hex(out: &mut [u8], at: usize, bytes: &[u8]) -> usize
-    ensures { Written out.old at (hexText bytes.now) out.new result }
+    ensures { Written out.old at (hex_text bytes.now) out.new result }
 {
     let mut end = at;
     let mut i = 0;

@@ -16,25 +16,25 @@ use Rattle.tasks.specs.declared.Task.{Task}
 use Rattle.tasks.specs.Runs.{runs}
 use Rattle.lamp.specs.declared.Lamp.{Lamp}
 use Rattle.lamp.specs.declared.Answer.{Answer}
-use Rattle.lamp.specs.Calls.{stepAnswer, haltAnswer, hueSaturationStart, temperatureToStart, temperatureStart, started as startedOf, stepped, startAnswer}
-use Rattle.worked_examples.specs.Cases.{plain, started, next, listed, idled, bare, loop, upBetween, busy, stepsAt}
+use Rattle.lamp.specs.Calls.{step_answer, halt_answer, hue_saturation_start, temperature_to_start, temperature_start, started as started_of, stepped, start_answer}
+use Rattle.worked_examples.specs.Cases.{plain, started, next, listed, idled, bare, loop, up_between, busy, steps_at}
 use Rattle.worked_examples.proofs.Answers.{now, later}
 use Rattle.worked_examples.proofs.Runs.{Run, run, RunsReported, going, done, hue, enhanced, warmth}
-use Rattle.matter.specs.All.{allTrue}
-use Rattle.matter.specs.Flags.{hasFlag}
-use Rattle.matter.specs.Rules.{defaultColorMode}
+use Rattle.matter.specs.All.{all_true}
+use Rattle.matter.specs.Flags.{has_flag}
+use Rattle.matter.specs.Rules.{default_color_mode}
 use Rattle.notices.specs.Notices.{filled}
-use Rattle.hue.specs.Hue.{distance, pathDelta, isTie, movedHue}
-use Rattle.progress.specs.Progress.{permilleOf, clamp, snapped, loopTurn}
+use Rattle.hue.specs.Hue.{distance, path_delta, is_tie, moved_hue}
+use Rattle.progress.specs.Progress.{permille_of, clamp, snapped, loop_turn}
 use Rattle.remaining_time.specs.RemainingTime.{reported}
-use Rattle.color.specs.Setters.{hueSet, saturationSet, miredsSet}
-use Rattle.color.specs.Valid.{colorValid}
-use Rattle.tasks.specs.Valid.{moveToValid, hueMoveValid, saturationMoveValid, taskValid, runningValid}
-use Rattle.lamp.specs.Answers.{firstCause}
-use Rattle.lamp.specs.Valid.{lampValid}
-use Rattle.lamp.specs.Passes.{huePassed, hueSaturationMoved, loopPassed, saturationPassed, temperaturePassed, temperatureToMoved, timed}
-use Rattle.commands.specs.Commands.{deactivated, activated, loopSet, commandEffect}
-use Rattle.commands.specs.Answers.{commandCause, commandAnswer}
+use Rattle.color.specs.Setters.{hue_set, saturation_set, mireds_set}
+use Rattle.color.specs.Valid.{color_valid}
+use Rattle.tasks.specs.Valid.{move_to_valid, hue_move_valid, saturation_move_valid, task_valid, running_valid}
+use Rattle.lamp.specs.Answers.{first_cause}
+use Rattle.lamp.specs.Valid.{lamp_valid}
+use Rattle.lamp.specs.Passes.{hue_passed, hue_saturation_moved, loop_passed, saturation_passed, temperature_passed, temperature_to_moved, timed}
+use Rattle.commands.specs.Commands.{deactivated, activated, loop_set, command_effect}
+use Rattle.commands.specs.Answers.{command_cause, command_answer}
 
 -- ---- the busy lamp: its hue, saturation and remaining tenths, and that it runs and its loop is active
 
@@ -47,8 +47,8 @@ BusyRuns =
 
 -- ---- transitions on it
 
-abbrev pub busyTransitions : List Run
-busyTransitions =
+abbrev pub busy_transitions : List Run
+busy_transitions =
     -- moves at a rate and the loop: 6 tenths as they were
     run busy (Command.MoveHue MoveModeEnum.Up 10 false) (650 ∷ 1650 ∷ [])
     (going hue 16384 50 250 6 (15 ∷ []) 100
@@ -58,7 +58,7 @@ busyTransitions =
     (going hue 16384 50 250 6 (15 ∷ []) 100
     ∷ going hue 16384 40 250 6 (14 ∷ 15 ∷ []) 100
     ∷ done hue 16384 0 250 6 (4 ∷ 6 ∷ 7 ∷ 14 ∷ 15 ∷ []) ∷ [])
-    ∷ run busy (upBetween 0 0) (650 ∷ 3050 ∷ [])
+    ∷ run busy (up_between 0 0) (650 ∷ 3050 ∷ [])
     (going hue 16384 50 250 6 (16 ∷ []) 100
     ∷ going warmth 16384 50 260 6 (5 ∷ 6 ∷ 7 ∷ 14 ∷ 16 ∷ []) 100
     ∷ done warmth 16384 50 500 6 (5 ∷ 6 ∷ 7 ∷ 14 ∷ 16 ∷ []) ∷ [])
@@ -78,20 +78,20 @@ busyTransitions =
     ∷ []
 
 abbrev pub BusyReported : Type 0
-BusyReported = RunsReported busyTransitions
+BusyReported = RunsReported busy_transitions
 
 -- ---- a halt: the lamp idle at its clock, all else as it was
 
 abbrev pub HaltLeaves : Type 0
 HaltLeaves =
-    haltAnswer busy now ≡ bare 0 (idled (later busy))
+    halt_answer busy now ≡ bare 0 (idled (later busy))
 
 -- ---- the colour loop's action on a lamp that runs, halfway to hue 1280: on from the start hue, on again, off, off
 -- again
 
 abbrev pub moving : Lamp
 moving =
-    (next (started (Command.EnhancedMoveToHue 1280 DirectionEnum.Shortest 2)) (λ (l : Lamp). stepAnswer l 5100)).lamp
+    (next (started (Command.EnhancedMoveToHue 1280 DirectionEnum.Shortest 2)) (λ (l : Lamp). step_answer l 5100)).lamp
 
 abbrev pub acted : ColorLoopActionEnum → Lamp → Answer
 acted action l =
@@ -100,11 +100,11 @@ acted action l =
 abbrev pub on : Answer
 on = acted ColorLoopActionEnum.ActivateFromColorLoopStartEnhancedHue moving
 
-abbrev pub onAgain : Answer
-onAgain = acted ColorLoopActionEnum.ActivateFromEnhancedCurrentHue on.lamp
+abbrev pub on_again : Answer
+on_again = acted ColorLoopActionEnum.ActivateFromEnhancedCurrentHue on.lamp
 
 abbrev pub off : Answer
-off = acted ColorLoopActionEnum.Deactivate onAgain.lamp
+off = acted ColorLoopActionEnum.Deactivate on_again.lamp
 
 -- notices, task, hue, stored hue, whether active; what runs and the remaining tenths
 abbrev pub Left : Type 0
@@ -130,7 +130,7 @@ turns = GivenTask.Given (Task.ColorLoop (record { direction = ColorLoopDirection
 
 abbrev pub LoopLeaves : Type 0
 LoopLeaves =
-    map left (on ∷ onAgain ∷ off ∷ acted ColorLoopActionEnum.Deactivate off.lamp ∷ [])
+    map left (on ∷ on_again ∷ off ∷ acted ColorLoopActionEnum.Deactivate off.lamp ∷ [])
     ≡ (leaves (13 ∷ 12 ∷ 8 ∷ 2 ∷ 3 ∷ 6 ∷ 7 ∷ 14 ∷ 15 ∷ 17 ∷ []) turns 8960 true
     ∷ leaves (13 ∷ 2 ∷ 3 ∷ 6 ∷ 7 ∷ 14 ∷ 15 ∷ 17 ∷ []) turns 8960 true
     ∷ leaves (13 ∷ 17 ∷ 8 ∷ 13 ∷ 2 ∷ 3 ∷ 6 ∷ 7 ∷ 14 ∷ 15 ∷ []) (GivenTask.Given Task.Stop) 640 false
@@ -140,17 +140,17 @@ LoopLeaves =
 -- ---- by computation
 
 busy-runs : BusyRuns
-unfolding hasFlag defaultColorMode allTrue colorValid moveToValid taskValid runningValid lampValid firstCause clamp distance pathDelta isTie movedHue permilleOf reported filled hueSet saturationSet hueSaturationMoved timed hueSaturationStart startedOf stepped startAnswer stepAnswer activated loopSet commandEffect commandCause commandAnswer next
+unfolding has_flag default_color_mode all_true color_valid move_to_valid task_valid running_valid lamp_valid first_cause clamp distance path_delta is_tie moved_hue permille_of reported filled hue_set saturation_set hue_saturation_moved timed hue_saturation_start started_of stepped start_answer step_answer activated loop_set command_effect command_cause command_answer next
 busy-runs = refl
 
 busy-reported : BusyReported
-unfolding hasFlag defaultColorMode allTrue colorValid moveToValid hueMoveValid saturationMoveValid taskValid runningValid lampValid firstCause clamp distance pathDelta isTie movedHue permilleOf snapped loopTurn reported filled hueSet saturationSet miredsSet hueSaturationMoved timed huePassed saturationPassed temperatureToMoved temperaturePassed loopPassed hueSaturationStart temperatureToStart temperatureStart startedOf stepped startAnswer stepAnswer activated loopSet commandEffect commandCause commandAnswer next stepsAt
+unfolding has_flag default_color_mode all_true color_valid move_to_valid hue_move_valid saturation_move_valid task_valid running_valid lamp_valid first_cause clamp distance path_delta is_tie moved_hue permille_of snapped loop_turn reported filled hue_set saturation_set mireds_set hue_saturation_moved timed hue_passed saturation_passed temperature_to_moved temperature_passed loop_passed hue_saturation_start temperature_to_start temperature_start started_of stepped start_answer step_answer activated loop_set command_effect command_cause command_answer next steps_at
 busy-reported = refl
 
 halt-leaves : HaltLeaves
-unfolding hasFlag defaultColorMode allTrue colorValid moveToValid taskValid runningValid lampValid firstCause clamp distance pathDelta isTie movedHue permilleOf reported filled hueSet saturationSet hueSaturationMoved timed hueSaturationStart startedOf stepped startAnswer stepAnswer activated loopSet commandEffect commandCause commandAnswer next haltAnswer
+unfolding has_flag default_color_mode all_true color_valid move_to_valid task_valid running_valid lamp_valid first_cause clamp distance path_delta is_tie moved_hue permille_of reported filled hue_set saturation_set hue_saturation_moved timed hue_saturation_start started_of stepped start_answer step_answer activated loop_set command_effect command_cause command_answer next halt_answer
 halt-leaves = refl
 
 loop-leaves : LoopLeaves
-unfolding hasFlag defaultColorMode allTrue colorValid moveToValid taskValid runningValid lampValid firstCause clamp distance pathDelta isTie movedHue permilleOf reported filled hueSet saturationSet hueSaturationMoved timed hueSaturationStart startedOf stepped startAnswer stepAnswer activated loopSet commandEffect commandCause commandAnswer next deactivated
+unfolding has_flag default_color_mode all_true color_valid move_to_valid task_valid running_valid lamp_valid first_cause clamp distance path_delta is_tie moved_hue permille_of reported filled hue_set saturation_set hue_saturation_moved timed hue_saturation_start started_of stepped start_answer step_answer activated loop_set command_effect command_cause command_answer next deactivated
 loop-leaves = refl

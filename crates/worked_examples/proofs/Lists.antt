@@ -10,34 +10,34 @@ use Rattle.matter.specs.declared.enums.ColorLoopDirectionEnum.{ColorLoopDirectio
 use Rattle.matter.specs.declared.commands.Command.{Command}
 use Rattle.matter.specs.declared.enums.DirectionEnum.{DirectionEnum}
 use Rattle.matter.specs.declared.enums.OnOff.{OnOff}
-use Rattle.progress.specs.Progress.{snapped, permilleOf, clamp}
+use Rattle.progress.specs.Progress.{snapped, permille_of, clamp}
 use Rattle.tasks.specs.declared.GivenTask.{GivenTask}
 use Rattle.tasks.specs.declared.HueDelta.{HueDelta}
 use Rattle.tasks.specs.declared.TargetSaturation.{TargetSaturation}
 use Rattle.tasks.specs.declared.Task.{Task}
 use Rattle.lamp.specs.declared.Lamp.{Lamp}
 use Rattle.lamp.specs.declared.Answer.{Answer}
-use Rattle.lamp.specs.Calls.{startAnswer, hueSaturationStart, started, stepped, stepAnswer}
-use Rattle.worked_examples.specs.Cases.{lamp, plain, given, answers, listed, next, stepsAt}
-use Rattle.matter.specs.All.{allTrue}
-use Rattle.matter.specs.Flags.{hasFlag}
-use Rattle.matter.specs.Rules.{defaultColorMode}
+use Rattle.lamp.specs.Calls.{start_answer, hue_saturation_start, started, stepped, step_answer}
+use Rattle.worked_examples.specs.Cases.{lamp, plain, given, answers, listed, next, steps_at}
+use Rattle.matter.specs.All.{all_true}
+use Rattle.matter.specs.Flags.{has_flag}
+use Rattle.matter.specs.Rules.{default_color_mode}
 use Rattle.notices.specs.Notices.{filled}
-use Rattle.hue.specs.Hue.{distance, pathDelta, isTie, movedHue}
+use Rattle.hue.specs.Hue.{distance, path_delta, is_tie, moved_hue}
 use Rattle.remaining_time.specs.RemainingTime.{reported}
-use Rattle.color.specs.Setters.{hueSet, saturationSet}
-use Rattle.color.specs.Valid.{colorValid}
-use Rattle.tasks.specs.Valid.{moveToValid, taskValid, runningValid}
-use Rattle.lamp.specs.Answers.{firstCause}
-use Rattle.lamp.specs.Valid.{lampValid}
-use Rattle.lamp.specs.Passes.{hueSaturationMoved, timed}
-use Rattle.commands.specs.Commands.{deactivated, activated, loopSet, commandEffect}
-use Rattle.commands.specs.Answers.{commandCause, commandAnswer}
+use Rattle.color.specs.Setters.{hue_set, saturation_set}
+use Rattle.color.specs.Valid.{color_valid}
+use Rattle.tasks.specs.Valid.{move_to_valid, task_valid, running_valid}
+use Rattle.lamp.specs.Answers.{first_cause}
+use Rattle.lamp.specs.Valid.{lamp_valid}
+use Rattle.lamp.specs.Passes.{hue_saturation_moved, timed}
+use Rattle.commands.specs.Commands.{deactivated, activated, loop_set, command_effect}
+use Rattle.commands.specs.Answers.{command_cause, command_answer}
 
 -- a move-to of a way, with a saturation or without, started on a lamp at clock 5000; and on the lamp of the cases
-abbrev pub begunOn : Lamp → HueDelta → TargetSaturation → ℕ → Bool → Answer
-begunOn l delta saturation ms enhanced =
-    startAnswer l (Task.HueSaturationMoveTo (record {
+abbrev pub begun_on : Lamp → HueDelta → TargetSaturation → ℕ → Bool → Answer
+begun_on l delta saturation ms enhanced =
+    start_answer l (Task.HueSaturationMoveTo (record {
       delta = delta;
       saturation = saturation;
       ms = ms;
@@ -45,7 +45,7 @@ begunOn l delta saturation ms enhanced =
     })) 5000
 
 abbrev pub begun : HueDelta → TargetSaturation → ℕ → Bool → Answer
-begun delta saturation ms enhanced = begunOn lamp delta saturation ms enhanced
+begun delta saturation ms enhanced = begun_on lamp delta saturation ms enhanced
 
 -- ---- `fade` on `128 0 2 5000`: "15", "13 2 6 7 14 15", "13 2 6 7 14 15 1"
 
@@ -79,23 +79,23 @@ StartReported =
 
 -- ---- time 0 with remaining 5: way 1 in 500 ms was started before
 
-abbrev pub fiveLeft : Lamp
-fiveLeft = (begun (HueDelta.By (pos 1)) TargetSaturation.Keep 500 false).lamp
+abbrev pub five_left : Lamp
+five_left = (begun (HueDelta.By (pos 1)) TargetSaturation.Keep 500 false).lamp
 
 abbrev pub AtOnceReported : Type 0
 AtOnceReported =
-    (fiveLeft.remaining.tenths ≡ 5)
-    × (listed (begunOn fiveLeft (HueDelta.By (pos 1)) TargetSaturation.Keep 0 false)
+    (five_left.remaining.tenths ≡ 5)
+    × (listed (begun_on five_left (HueDelta.By (pos 1)) TargetSaturation.Keep 0 false)
     ≡ (1 ∷ 13 ∷ 2 ∷ 6 ∷ 7 ∷ 14 ∷ 15 ∷ []))
 
 -- ---- the colour loop: on with all flags, on again, off, off again; and with no flag
 
-abbrev pub loopFlags : ℕ → ColorLoopActionEnum → Lamp → Answer
-loopFlags flags action l =
+abbrev pub loop_flags : ℕ → ColorLoopActionEnum → Lamp → Answer
+loop_flags flags action l =
     plain l (Command.ColorLoopSet flags action ColorLoopDirectionEnum.Increment 30 100) OnOff.On 5000
 
 abbrev pub looped : ColorLoopActionEnum → Lamp → Answer
-looped action l = loopFlags 15 action l
+looped action l = loop_flags 15 action l
 
 abbrev pub on : Answer
 on = looped ColorLoopActionEnum.ActivateFromColorLoopStartEnhancedHue lamp
@@ -117,7 +117,7 @@ LoopReported =
 
 abbrev pub NoFlagReported : Type 0
 NoFlagReported =
-    listed (loopFlags 0 ColorLoopActionEnum.ActivateFromEnhancedCurrentHue lamp) ≡ (13 ∷ [])
+    listed (loop_flags 0 ColorLoopActionEnum.ActivateFromEnhancedCurrentHue lamp) ≡ (13 ∷ [])
 
 -- ---- the snap at its numbers: a turn's part of 65,152 and more goes up, one of 384 and less goes down, but in the
 -- first turn
@@ -129,31 +129,31 @@ SnapAt =
 -- ---- by computation
 
 fade-command : FadeCommand
-unfolding hasFlag defaultColorMode allTrue colorValid runningValid lampValid firstCause clamp distance pathDelta isTie commandEffect commandCause commandAnswer
+unfolding has_flag default_color_mode all_true color_valid running_valid lamp_valid first_cause clamp distance path_delta is_tie command_effect command_cause command_answer
 fade-command = refl
 
 fade-reported : FadeReported
-unfolding hasFlag defaultColorMode allTrue colorValid moveToValid taskValid runningValid lampValid firstCause clamp distance pathDelta isTie movedHue permilleOf reported filled hueSet hueSaturationMoved timed hueSaturationStart started stepped startAnswer stepAnswer commandEffect commandCause commandAnswer next stepsAt
+unfolding has_flag default_color_mode all_true color_valid move_to_valid task_valid running_valid lamp_valid first_cause clamp distance path_delta is_tie moved_hue permille_of reported filled hue_set hue_saturation_moved timed hue_saturation_start started stepped start_answer step_answer command_effect command_cause command_answer next steps_at
 fade-reported = refl
 
 fade-waits : FadeWaits
-unfolding hasFlag defaultColorMode allTrue colorValid moveToValid taskValid runningValid lampValid firstCause clamp distance pathDelta isTie movedHue permilleOf reported filled hueSet hueSaturationMoved timed hueSaturationStart started stepped startAnswer stepAnswer commandEffect commandCause commandAnswer next stepsAt
+unfolding has_flag default_color_mode all_true color_valid move_to_valid task_valid running_valid lamp_valid first_cause clamp distance path_delta is_tie moved_hue permille_of reported filled hue_set hue_saturation_moved timed hue_saturation_start started stepped start_answer step_answer command_effect command_cause command_answer next steps_at
 fade-waits = refl
 
 start-reported : StartReported
-unfolding hasFlag defaultColorMode allTrue colorValid moveToValid taskValid runningValid lampValid firstCause clamp movedHue permilleOf reported filled hueSet saturationSet hueSaturationMoved timed hueSaturationStart started stepped startAnswer stepAnswer
+unfolding has_flag default_color_mode all_true color_valid move_to_valid task_valid running_valid lamp_valid first_cause clamp moved_hue permille_of reported filled hue_set saturation_set hue_saturation_moved timed hue_saturation_start started stepped start_answer step_answer
 start-reported = refl
 
 at-once-reported : AtOnceReported
-unfolding hasFlag defaultColorMode allTrue colorValid moveToValid taskValid runningValid lampValid firstCause clamp movedHue permilleOf reported filled hueSet hueSaturationMoved timed hueSaturationStart started stepped startAnswer stepAnswer
+unfolding has_flag default_color_mode all_true color_valid move_to_valid task_valid running_valid lamp_valid first_cause clamp moved_hue permille_of reported filled hue_set hue_saturation_moved timed hue_saturation_start started stepped start_answer step_answer
 at-once-reported = (refl, refl)
 
 loop-reported : LoopReported
-unfolding hasFlag defaultColorMode allTrue colorValid runningValid lampValid firstCause clamp filled hueSet deactivated activated loopSet commandEffect commandCause commandAnswer
+unfolding has_flag default_color_mode all_true color_valid running_valid lamp_valid first_cause clamp filled hue_set deactivated activated loop_set command_effect command_cause command_answer
 loop-reported = refl
 
 no-flag-reported : NoFlagReported
-unfolding hasFlag defaultColorMode allTrue colorValid runningValid lampValid firstCause clamp filled loopSet commandEffect commandCause commandAnswer
+unfolding has_flag default_color_mode all_true color_valid running_valid lamp_valid first_cause clamp filled loop_set command_effect command_cause command_answer
 no-flag-reported = refl
 
 snap-at : SnapAt

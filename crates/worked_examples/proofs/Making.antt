@@ -8,8 +8,8 @@ use Rattle.tasks.specs.declared.Running.{Running}
 use Rattle.lamp.specs.declared.Made.{Made}
 use Rattle.lamp.specs.Making.{making}
 use Rattle.worked_examples.proofs.Runs.{Modes, xy, hue, warmth}
-use Rattle.matter.specs.Flags.{hasFlag}
-use Rattle.matter.specs.Rules.{defaultColorMode}
+use Rattle.matter.specs.Flags.{has_flag}
+use Rattle.matter.specs.Rules.{default_color_mode}
 use Rattle.progress.specs.Progress.{clamp}
 
 -- bounds, features, options and clock; what is made
@@ -91,5 +91,5 @@ MakingReported =
 -- ---- by computation
 
 making-reported : MakingReported
-unfolding hasFlag defaultColorMode clamp making
+unfolding has_flag default_color_mode clamp making
 making-reported = refl

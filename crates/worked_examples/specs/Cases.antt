@@ -4,14 +4,14 @@ use Rattle.std.specs.Prelude.{ℕ, ◌+◌, ◌<◌, Bool, true, false, not, con
 use Rattle.matter.specs.declared.enums.ColorLoopActionEnum.{ColorLoopActionEnum}
 use Rattle.matter.specs.declared.enums.ColorLoopDirectionEnum.{ColorLoopDirectionEnum}
 use Rattle.matter.specs.declared.commands.Command.{Command}
-use Rattle.matter.specs.Requests.{request, noOptions}
+use Rattle.matter.specs.Requests.{request, no_options}
 use Rattle.matter.specs.declared.enums.DirectionEnum.{DirectionEnum}
 use Rattle.matter.specs.declared.enums.MoveModeEnum.{MoveModeEnum}
 use Rattle.matter.specs.declared.enums.OnOff.{OnOff}
-use Rattle.matter.specs.Causes.{accepted, invalidTask}
+use Rattle.matter.specs.Causes.{accepted, invalid_task}
 use Rattle.hue.specs.declared.HuePath.{HuePath}
-use Rattle.hue.specs.Hue.{huePath}
-use Rattle.progress.specs.Progress.{permilleOf, part_of, tenthsOf}
+use Rattle.hue.specs.Hue.{hue_path}
+use Rattle.progress.specs.Progress.{permille_of, part_of, tenths_of}
 use Rattle.remaining_time.specs.RemainingTime.{reported}
 use Rattle.tasks.specs.declared.GivenTask.{GivenTask}
 use Rattle.tasks.specs.declared.Running.{Running}
@@ -19,19 +19,19 @@ use Rattle.tasks.specs.Runs.{runs}
 use Rattle.lamp.specs.declared.Lamp.{Lamp}
 use Rattle.lamp.specs.declared.Answer.{Answer}
 use Rattle.lamp.specs.Answers.{refusal}
-use Rattle.lamp.specs.Making.{freshLamp}
-use Rattle.lamp.specs.Calls.{startAnswer, stepAnswer}
-use Rattle.commands.specs.Answers.{commandAnswer}
+use Rattle.lamp.specs.Making.{fresh_lamp}
+use Rattle.lamp.specs.Calls.{start_answer, step_answer}
+use Rattle.commands.specs.Answers.{command_answer}
 
 -- ---- the lamp and its calls
 
 -- "bounds 153 and 500, clock 5000, hue 0, mireds 250, on, XY mode"
 abbrev pub lamp : Lamp
-lamp = freshLamp (record { min = 153; max = 500 }) 31 0 5000
+lamp = fresh_lamp (record { min = 153; max = 500 }) 31 0 5000
 
 -- a command with neither option bit
 abbrev pub plain : Lamp → Command → OnOff → ℕ → Answer
-plain l c onOff clock = commandAnswer l (request c noOptions) onOff clock
+plain l c on_off clock = command_answer l (request c no_options) on_off clock
 
 -- a command to a lamp that is on, at the lamp's clock
 abbrev pub given : Lamp → Command → Answer
@@ -44,35 +44,35 @@ next a call = cond (eqb a.number accepted) (call a.lamp) a
 
 -- a start of the task that was given; where none was, no start is accepted
 abbrev start_of : GivenTask → Lamp → Answer
-start_of GivenTask.Nothing l = refusal l invalidTask
-start_of (GivenTask.Given task) l = startAnswer l task l.clock
+start_of GivenTask.Nothing l = refusal l invalid_task
+start_of (GivenTask.Given task) l = start_answer l task l.clock
 
 -- a command to a lamp, and its task started
-abbrev pub startedOn : Lamp → Command → Answer
-startedOn l c = next (given l c) (start_of (given l c).task)
+abbrev pub started_on : Lamp → Command → Answer
+started_on l c = next (given l c) (start_of (given l c).task)
 
 abbrev pub started : Command → Answer
-started c = startedOn lamp c
+started c = started_on lamp c
 
 -- behind a start, a step at each of these times after 5000, in turn
-unfoldable pub stepsAt : Answer → List ℕ → List Answer
-stepsAt a [] = []
-stepsAt a (elapsed ∷ later) =
-    let stepped : Answer = next a (λ (l : Lamp). stepAnswer l (5000 + elapsed)) in
-    stepped ∷ stepsAt stepped later
+unfoldable pub steps_at : Answer → List ℕ → List Answer
+steps_at a [] = []
+steps_at a (elapsed ∷ later) =
+    let stepped : Answer = next a (λ (l : Lamp). step_answer l (5000 + elapsed)) in
+    stepped ∷ steps_at stepped later
 
 -- the answers to the start and to the steps
-abbrev pub answersOn : Lamp → Command → List ℕ → List Answer
-answersOn l c times = startedOn l c ∷ stepsAt (startedOn l c) times
+abbrev pub answers_on : Lamp → Command → List ℕ → List Answer
+answers_on l c times = started_on l c ∷ steps_at (started_on l c) times
 
 abbrev pub answers : Command → List ℕ → List Answer
-answers c times = answersOn lamp c times
+answers c times = answers_on lamp c times
 
 -- moves to hue 128 in so many tenths, one behind the other: the answer to the last start
 unfoldable pub fades : Answer → List ℕ → Answer
 fades a [] = a
 fades a (tenths ∷ later) =
-    fades (next a (λ (l : Lamp). startedOn l (Command.MoveToHue 128 DirectionEnum.Shortest tenths))) later
+    fades (next a (λ (l : Lamp). started_on l (Command.MoveToHue 128 DirectionEnum.Shortest tenths))) later
 
 -- ---- what is seen of an answer
 
@@ -84,18 +84,18 @@ abbrev pub idle : Answer → Bool
 idle a = not (runs a.lamp.running)
 
 -- its number, and a number of the lamp or the notices
-abbrev hueSeen : Answer → ℕ × ℕ
-hueSeen a = (a.number, a.lamp.color.hue)
+abbrev hue_seen : Answer → ℕ × ℕ
+hue_seen a = (a.number, a.lamp.color.hue)
 
-abbrev tenthsSeen : Answer → ℕ × ℕ
-tenthsSeen a = (a.number, a.lamp.remaining.tenths)
+abbrev tenths_seen : Answer → ℕ × ℕ
+tenths_seen a = (a.number, a.lamp.remaining.tenths)
 
-abbrev listSeen : Answer → ℕ × List ℕ
-listSeen a = (a.number, listed a)
+abbrev list_seen : Answer → ℕ × List ℕ
+list_seen a = (a.number, listed a)
 
 -- and whether the lamp is idle
-abbrev miredsSeen : Answer → ℕ × ℕ × Bool
-miredsSeen a = (a.number, a.lamp.color.mireds, idle a)
+abbrev mireds_seen : Answer → ℕ × ℕ × Bool
+mireds_seen a = (a.number, a.lamp.color.mireds, idle a)
 
 -- the lamp idle, all else as it was
 abbrev pub idled : Lamp → Lamp
@@ -134,9 +134,9 @@ pub data Case : Type 0 where
   -- from one hue to another, in a direction: the way, and whether it is a tie
   way : ℕ → ℕ → DirectionEnum → ℤ → Bool → Case
   -- "equal hues, any direction: 0"; document 02, A.6: and no tie
-  equalHues : Case
+  equal_hues : Case
   -- a plain move to a hue: the number of the answer
-  moveToHue : ℕ → ℕ → Case
+  move_to_hue : ℕ → ℕ → Case
   -- a way, its time and the time elapsed: permille and part
   progress : ℤ → ℕ → ℕ → ℕ → ℤ → Case
   -- a command: the hue at its start, and at the times of steps
@@ -148,15 +148,15 @@ pub data Case : Type 0 where
   -- the old tenths and the new, and whether a transition starts: whether it is reported
   remaining : ℕ → ℕ → Bool → Bool → Case
   -- fades of so many tenths, started one behind the other: the notices of the last start
-  startReports : List ℕ → List ℕ → Case
+  start_reports : List ℕ → List ℕ → Case
   -- milliseconds: tenths
   tenths : ℕ → ℕ → Case
   -- a command to a lamp, started: nothing changes, and the lamp is idle
   stays : Lamp → Command → Case
 
 -- permille and part of a way, by the sums alone
-abbrev progressOf : ℤ → ℕ → ℕ → ℕ × ℤ
-progressOf w time elapsed = (permilleOf elapsed time, part_of w (permilleOf elapsed time))
+abbrev progress_of : ℤ → ℕ → ℕ → ℕ × ℤ
+progress_of w time elapsed = (permille_of elapsed time, part_of w (permille_of elapsed time))
 
 -- the answer of the distances
 abbrev path : ℤ → Bool → HuePath
@@ -164,21 +164,21 @@ path delta tie = record { delta = delta; is_tie = tie }
 
 -- what a case says of the definitions
 abbrev pub Holds : Case → Type 0
-Holds (way from to direction answer tie) = huePath from to direction ≡ path answer tie
-Holds equalHues = (hue : ℕ) (direction : DirectionEnum) → hue < 65536 → huePath hue hue direction ≡ path (pos 0) false
-Holds (moveToHue hue number) = (given lamp (Command.MoveToHue hue DirectionEnum.Shortest 10)).number ≡ number
-Holds (progress w time elapsed permille part) = progressOf w time elapsed ≡ (permille, part)
+Holds (way from to direction answer tie) = hue_path from to direction ≡ path answer tie
+Holds equal_hues = (hue : ℕ) (direction : DirectionEnum) → hue < 65536 → hue_path hue hue direction ≡ path (pos 0) false
+Holds (move_to_hue hue number) = (given lamp (Command.MoveToHue hue DirectionEnum.Shortest 10)).number ≡ number
+Holds (progress w time elapsed permille part) = progress_of w time elapsed ≡ (permille, part)
 Holds (hues c start points) =
-    map hueSeen (answers c (map (λ (p : Point). p.0) points)) ≡ ((0, start) ∷ map (λ (p : Point). (0, p.1)) points)
+    map hue_seen (answers c (map (λ (p : Point). p.0) points)) ≡ ((0, start) ∷ map (λ (p : Point). (0, p.1)) points)
 Holds (mireds c start points) =
-    map miredsSeen (answers c (map (λ (p : EndPoint). p.0) points))
+    map mireds_seen (answers c (map (λ (p : EndPoint). p.0) points))
     ≡ ((0, start.0, start.1) ∷ map (λ (p : EndPoint). (0, p.1, p.2)) points)
 Holds (left c start points) =
-    map tenthsSeen (answers c (map (λ (p : Point). p.0) points)) ≡ ((0, start) ∷ map (λ (p : Point). (0, p.1)) points)
+    map tenths_seen (answers c (map (λ (p : Point). p.0) points)) ≡ ((0, start) ∷ map (λ (p : Point). (0, p.1)) points)
 Holds (remaining old new start answer) = reported old new start ≡ answer
-Holds (startReports times list) = listSeen (fades (bare 0 lamp) times) ≡ (0, list)
-Holds (tenths ms answer) = tenthsOf ms ≡ answer
-Holds (stays l c) = startedOn l c ≡ bare 0 (idled l)
+Holds (start_reports times list) = list_seen (fades (bare 0 lamp) times) ≡ (0, list)
+Holds (tenths ms answer) = tenths_of ms ≡ answer
+Holds (stays l c) = started_on l c ≡ bare 0 (idled l)
 
 -- every case of a list holds
 abbrev pub Each : List Case → Type 0
@@ -190,16 +190,16 @@ abbrev pub loop : ColorLoopDirectionEnum → Command
 loop direction = Command.ColorLoopSet 7 ColorLoopActionEnum.ActivateFromEnhancedCurrentHue direction 1 0
 
 -- mireds up at 100 a second between two limits
-abbrev pub upBetween : ℕ → ℕ → Command
-upBetween min max = Command.MoveColorTemperature MoveModeEnum.Up 100 min max
+abbrev pub up_between : ℕ → ℕ → Command
+up_between min max = Command.MoveColorTemperature MoveModeEnum.Up 100 min max
 
 -- a lamp whose loop is active, halfway through a move of hue and saturation (`BusyRuns` in Busy)
 abbrev pub busy : Lamp
 busy =
     (next
-    (startedOn (given lamp (loop ColorLoopDirectionEnum.Decrement)).lamp
+    (started_on (given lamp (loop ColorLoopDirectionEnum.Decrement)).lamp
     (Command.MoveToHueAndSaturation 128 100 11 false 0))
-    (λ (l : Lamp). stepAnswer l 5550)).lamp
+    (λ (l : Lamp). step_answer l 5550)).lamp
 
 abbrev pub cases : List Case
 cases =
@@ -207,10 +207,10 @@ cases =
     way 0 32768 DirectionEnum.Shortest (pos 32768) true
     ∷ way 0 32768 DirectionEnum.Longest (neg_ℤ (pos 32768)) true
     -- K3
-    ∷ equalHues
+    ∷ equal_hues
     -- K4
-    ∷ moveToHue 254 0
-    ∷ moveToHue 255 1
+    ∷ move_to_hue 254 0
+    ∷ move_to_hue 255 1
     -- K5: in 70 tenths from 0 up to 65,280
     ∷ progress (pos 65280) 7000 3000 428 (pos 27939)
     ∷ hues (Command.EnhancedMoveToHue 65280 DirectionEnum.Up 70) 0 ((3000, 27939) ∷ [])
@@ -220,14 +220,14 @@ cases =
     -- K7: the first two at a start or not
     ∷ remaining 0 10 false false
     ∷ remaining 0 10 true false
-    ∷ startReports (10 ∷ []) (15 ∷ [])
+    ∷ start_reports (10 ∷ []) (15 ∷ [])
     ∷ remaining 0 11 false true
     ∷ remaining 0 11 true true
-    ∷ startReports (11 ∷ []) (1 ∷ 15 ∷ [])
+    ∷ start_reports (11 ∷ []) (1 ∷ 15 ∷ [])
     ∷ remaining 50 60 true false
-    ∷ startReports (50 ∷ 60 ∷ []) (15 ∷ [])
+    ∷ start_reports (50 ∷ 60 ∷ []) (15 ∷ [])
     ∷ remaining 50 61 true true
-    ∷ startReports (50 ∷ 61 ∷ []) (1 ∷ 15 ∷ [])
+    ∷ start_reports (50 ∷ 61 ∷ []) (1 ∷ 15 ∷ [])
     -- K8: of 40 tenths, after 1 ms
     ∷ tenths 3999 40
     ∷ left (Command.MoveToHue 128 DirectionEnum.Shortest 40) 40 ((1, 40) ∷ [])
@@ -237,9 +237,9 @@ cases =
     -- K10
     ∷ hues (loop ColorLoopDirectionEnum.Decrement) 0 ((1, 65471) ∷ [])
     -- K11
-    ∷ mireds (upBetween 0 200) (200, true) []
-    ∷ stays lamp (upBetween 500 0)
-    ∷ stays busy (upBetween 500 0)
+    ∷ mireds (up_between 0 200) (200, true) []
+    ∷ stays lamp (up_between 500 0)
+    ∷ stays busy (up_between 500 0)
     -- K12
-    ∷ mireds (upBetween 0 0) (250, false) ((100, 260, false) ∷ (2500, 500, true) ∷ [])
+    ∷ mireds (up_between 0 0) (250, false) ((100, 260, false) ∷ (2500, 500, true) ∷ [])
     ∷ []

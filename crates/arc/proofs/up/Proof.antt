@@ -6,7 +6,7 @@ use mir.Syntax.{w32}
 use mir.Val.{to_z, of_z}
 use borrow.Author.Rules.{rules}
 use Rattle.hue.specs.declared.HuePath.{HuePath}
-use Rattle.hue.specs.Hue.{distance, pathDelta}
+use Rattle.hue.specs.Hue.{distance, path_delta}
 use Rattle.hue.proofs.Laws.{distance-small}
 use Rattle.arc.proofs.up.Statement.{statement}
 use Rattle.arc.proofs.up.Tie as tie
@@ -18,7 +18,7 @@ module _ (c : tie.After-struct-told) where
 
   read : to_z w32 (of_z w32 c.before.before.hue-path-delta.result.delta)
       ≡ pos (distance c.before.before.before.args.from c.before.before.before.args.to)
-  unfolding pathDelta
+  unfolding path_delta
   read = plain ∙ ap (λ (p : HuePath). p.delta) c.before.before.hue-path-delta.ensures
 
 hue-path-delta-requires : tie.Need-hue-path-delta-requires

@@ -1,5 +1,5 @@
 -- Each command by what its function promises.
-use Rattle.commands.specs.Commands.{commandEffect}
+use Rattle.commands.specs.Commands.{command_effect}
 use borrow.Author.Rules.{rules}
 use Rattle.commands.proofs.execute.Statement.{statement}
 use Rattle.commands.proofs.execute.Tie as tie
@@ -104,63 +104,63 @@ given-requires : tie.Need-given-requires
 given-requires c κs = search rules
 
 returns : tie.Need-returns
-unfolding commandEffect
+unfolding command_effect
 returns c = simp (c.to-plain-hue.ensures, c.before.before.command.given.1)
 
 returns-2 : tie.Need-returns-2
-unfolding commandEffect
+unfolding command_effect
 returns-2 c = simp (c.move-hue.ensures, c.before.enhanced-rate.ensures, c.before.before.before.command2.given.1)
 
 returns-3 : tie.Need-returns-3
-unfolding commandEffect
+unfolding command_effect
 returns-3 c = simp (c.step-hue.ensures, c.before.stored-hue.ensures, c.before.before.before.command3.given.1)
 
 returns-4 : tie.Need-returns-4
-unfolding commandEffect
+unfolding command_effect
 returns-4 c = simp (c.to-saturation.ensures, c.before.before.command4.given.1)
 
 returns-5 : tie.Need-returns-5
-unfolding commandEffect
+unfolding command_effect
 returns-5 c = simp (c.move-saturation.ensures, c.before.before.command5.given.1)
 
 returns-6 : tie.Need-returns-6
-unfolding commandEffect
+unfolding command_effect
 returns-6 c = simp (c.step-saturation.ensures, c.before.before.command6.given.1)
 
 returns-7 : tie.Need-returns-7
-unfolding commandEffect
+unfolding command_effect
 returns-7 c = simp (c.to_Both.ensures, c.before.before.command7.given.1)
 
 returns-8 : tie.Need-returns-8
-unfolding commandEffect
+unfolding command_effect
 returns-8 c = simp (c.to-hue.ensures, c.before.before.command8.given.1)
 
 returns-9 : tie.Need-returns-9
-unfolding commandEffect
+unfolding command_effect
 returns-9 c = simp (c.move-hue2.ensures, c.before.before.command9.given.1)
 
 returns-10 : tie.Need-returns-10
-unfolding commandEffect
+unfolding command_effect
 returns-10 c = simp (c.step-hue2.ensures, c.before.before.command10.given.1)
 
 returns-11 : tie.Need-returns-11
-unfolding commandEffect
+unfolding command_effect
 returns-11 c = simp (c.to-mireds.ensures, c.before.before.command11.given.1)
 
 returns-12 : tie.Need-returns-12
-unfolding commandEffect
+unfolding command_effect
 returns-12 c = simp (c.move-mireds.ensures, c.before.before.command12.given.1)
 
 returns-13 : tie.Need-returns-13
-unfolding commandEffect
+unfolding command_effect
 returns-13 c = simp (c.step-mireds.ensures, c.before.before.command13.given.1)
 
 returns-14 : tie.Need-returns-14
-unfolding commandEffect
+unfolding command_effect
 returns-14 c = simp (c.set-loop.ensures, c.before.before.command14.given.1)
 
 returns-15 : tie.Need-returns-15
-unfolding commandEffect
+unfolding command_effect
 returns-15 c = simp (c.given.ensures, c.before.enum_told.given.1)
 
 pub execute-spec : {M : Type 1} → statement M

@@ -6,9 +6,9 @@ use mathlib.Core.List.{List}
 use lib.ListN.{length}
 use Rattle.lamp.specs.declared.Lamp.{Lamp}
 use Rattle.lamp.specs.declared.Answer.{Answer}
-use Rattle.exports.specs.Lamps.{lampOf, lampKnown}
-use Rattle.exports.specs.Calls.{unreadable, callKnown, sent}
-use Rattle.exports.specs.Exported.{Answered, unreadableLamp, noRoom, away, answered, taken}
+use Rattle.exports.specs.Lamps.{lamp_of, lamp_known}
+use Rattle.exports.specs.Calls.{unreadable, call_known, sent}
+use Rattle.exports.specs.Exported.{Answered, unreadable_lamp, no_room, away, answered, taken}
 use borrow.Author.Tests.{eq-eqb, ne_eqb}
 use borrow.Author.Rules.{rules}
 use Rattle.exports.proofs.yemkruos_call.Statement.{statement}
@@ -17,23 +17,23 @@ use Rattle.exports.proofs.yemkruos_call.Tie as tie
 -- ---- the definition's cases
 
 module _ (w call answer : List ℕ) where
-  no-lamp : (length w ≡ 28 → ⊥) → answered w call answer ≡ away unreadableLamp w answer
+  no-lamp : (length w ≡ 28 → ⊥) → answered w call answer ≡ away unreadable_lamp w answer
   unfolding answered
   no-lamp m = simp (ne_eqb _ _ m)
 
-  no_room : length w ≡ 28 → (length answer ≡ 25 → ⊥) → answered w call answer ≡ away noRoom w answer
+  no_room : length w ≡ 28 → (length answer ≡ 25 → ⊥) → answered w call answer ≡ away no_room w answer
   unfolding answered
   no_room m n = simp (eq-eqb _ _ m, ne_eqb _ _ n)
 
-  unknown-lamp : length w ≡ 28 → length answer ≡ 25 → not (lampKnown w) ≡ true → answered w call answer ≡ away unreadableLamp w answer
+  unknown-lamp : length w ≡ 28 → length answer ≡ 25 → not (lamp_known w) ≡ true → answered w call answer ≡ away unreadable_lamp w answer
   unfolding answered
   unknown-lamp m n k = simp (eq-eqb _ _ m, eq-eqb _ _ n, k)
 
-  unknown-call : length w ≡ 28 → length answer ≡ 25 → not (lampKnown w) ≡ false → not (callKnown call) ≡ true → answered w call answer ≡ away unreadable w answer
+  unknown-call : length w ≡ 28 → length answer ≡ 25 → not (lamp_known w) ≡ false → not (call_known call) ≡ true → answered w call answer ≡ away unreadable w answer
   unfolding answered
   unknown-call m n k h = simp (eq-eqb _ _ m, eq-eqb _ _ n, k, h)
 
-  taken_is : (l : Lamp) (r : Answer) → length w ≡ 28 → length answer ≡ 25 → not (lampKnown w) ≡ false → not (callKnown call) ≡ false → l ≡ lampOf w → r ≡ sent l call → answered w call answer ≡ taken r
+  taken_is : (l : Lamp) (r : Answer) → length w ≡ 28 → length answer ≡ 25 → not (lamp_known w) ≡ false → not (call_known call) ≡ false → l ≡ lamp_of w → r ≡ sent l call → answered w call answer ≡ taken r
   unfolding answered
   taken_is l r m n k h e f = rw (f, e) (simp (eq-eqb _ _ m, eq-eqb _ _ n, k, h))
 

@@ -6,7 +6,7 @@ use lib.ListN.{length}
 use Rattle.matter.specs.declared.limits.Bounds.{Bounds}
 use Rattle.lamp.specs.declared.Made.{Made}
 use Rattle.lamp.specs.Making.{making}
-use Rattle.exports.specs.Exported.{Left, unreadableLamp, laid, made}
+use Rattle.exports.specs.Exported.{Left, unreadable_lamp, laid, made}
 use borrow.Author.Tests.{eq-eqb, ne_eqb}
 use borrow.Author.Rules.{rules}
 use Rattle.exports.proofs.yemkruos_new.Statement.{statement}
@@ -15,7 +15,7 @@ use Rattle.exports.proofs.yemkruos_new.Tie as tie
 -- ---- the definition's cases
 
 module _ (w : List ℕ) (bounds : Bounds) (features options clock : ℕ) where
-  no-lamp : (length w ≡ 28 → ⊥) → made w bounds features options clock ≡ record { number = unreadableLamp; lamp = w }
+  no-lamp : (length w ≡ 28 → ⊥) → made w bounds features options clock ≡ record { number = unreadable_lamp; lamp = w }
   unfolding made
   no-lamp m = simp (ne_eqb _ _ m)
 

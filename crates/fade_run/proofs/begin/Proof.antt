@@ -1,5 +1,5 @@
 -- The making, which is refused or gives the lamp that the command is sent to.
-use Rattle.fade_run.specs.Run.{afterMaking}
+use Rattle.fade_run.specs.Run.{after_making}
 use mathlib.Core.Path.{sym, ap, ◌∙◌}
 use borrow.Author.Rules.{rules}
 use Rattle.fade_run.proofs.begin.Statement.{statement}
@@ -21,14 +21,14 @@ returns : tie.Need-returns
 returns c =
     let at_new = c.before.before.before in
     let at-start = at_new.before in
-    ap (afterMaking at-start.args.wanted.tenths at-start.args.wanted) (sym c.before.number.given.1 ∙ at_new.new.ensures.0)
+    ap (after_making at-start.args.wanted.tenths at-start.args.wanted) (sym c.before.number.given.1 ∙ at_new.new.ensures.0)
 
 returns-2 : tie.Need-returns-2
 returns-2 c =
     let at-lamp = c.before.before in
     let at_new = at-lamp.before.before in
     let at-start = at_new.before in
-    c.command.ensures ∙ ap (afterMaking at-start.args.wanted.tenths at-start.args.wanted) (sym at-lamp.lamp.given.1 ∙ at_new.new.ensures.0)
+    c.command.ensures ∙ ap (after_making at-start.args.wanted.tenths at-start.args.wanted) (sym at-lamp.lamp.given.1 ∙ at_new.new.ensures.0)
 
 pub begin-spec : {M : Type 1} → statement M
 begin-spec =

@@ -2,7 +2,7 @@
 use Rattle.std.proofs.Common.{w32, rules}
 use mir.ValLaws.{to_z-of_z}
 use borrow.Author.Rules.{sfits_of}
-use Rattle.hue.specs.Hue.{pathDelta, isTie}
+use Rattle.hue.specs.Hue.{path_delta, is_tie}
 use Rattle.hue.proofs.hue_path_delta.Statement.{statement}
 use Rattle.hue.proofs.hue_path_delta.Tie as tie
 
@@ -19,7 +19,7 @@ is-tie-requires : tie.Need-is-tie-requires
 is-tie-requires c κs = search rules
 
 returns : tie.Need-returns
-unfolding pathDelta isTie
+unfolding path_delta is_tie
 returns c =
     rw
     (to_z-of_z w32 _ (sfits_of c.before.chosen-delta.type-inv), c.before.chosen-delta.ensures, c.is-tie.ensures, c.before.before.distance-up2.ensures, c.before.before.before.distance-up.ensures)

@@ -4,7 +4,7 @@ use denote.Enum.Declared.{tag_of}
 use types.Run.{OneOf, miss}
 use Rattle.matter.specs.declared.enums.DirectionEnum.{DirectionEnum}
 use Rattle.matter.specs.contracts.enums.DirectionEnum.{the_type}
-use Rattle.hue.specs.Hue.{bothHalf, tied}
+use Rattle.hue.specs.Hue.{both_half, tied}
 use Rattle.hue.proofs.is_tie.Statement.{statement}
 use Rattle.hue.proofs.is_tie.Tie as tie
 
@@ -15,7 +15,7 @@ module _ (up down : ℕ) where
   never DirectionEnum.Up k = refl
   never DirectionEnum.Down k = refl
 
-  both : (d : DirectionEnum) → OneOf (0 ∷ 1 ∷ []) (tag_of the_type d) → tied d up down ≡ bothHalf up down
+  both : (d : DirectionEnum) → OneOf (0 ∷ 1 ∷ []) (tag_of the_type d) → tied d up down ≡ both_half up down
   both DirectionEnum.Shortest k = refl
   both DirectionEnum.Longest k = refl
   both DirectionEnum.Up k = absurd (miss (0 ∷ 1 ∷ []) 2 tt k)

@@ -5,8 +5,8 @@ use lib.IntN.{+ℤ_idl}
 use lib.Signed.{le_z, rem_z}
 use mir.ValLaws.{to_z-of_z}
 use Rattle.integers.proofs.Sizes.{small, abs_neg, abs-rem, quot_fits}
-use Rattle.integers.proofs.Signs.{is-nonNeg, neg-nonNeg, is-size, is-negated}
-use Rattle.hue.specs.Hue.{movedHue}
+use Rattle.integers.proofs.Signs.{is-non_neg, neg-non_neg, is-size, is-negated}
+use Rattle.hue.specs.Hue.{moved_hue}
 use Rattle.hue.proofs.Laws.{moved_up, moved_down, moved-turns}
 use Rattle.hue.proofs.moved_hue.Statement.{statement}
 use Rattle.hue.proofs.moved_hue.Tie as tie
@@ -35,21 +35,21 @@ up-taken c = rw (read c.before) at c.if1.true
 down-taken : (c : tie.Else1) → le_z (pos 0) (turn c.before) ≡ false
 down-taken c = rw (read c.before) at c.if1.false
 
-up : (c : tie.Then1) → movedHue c.before.args.start c.before.args.part ≡ (c.before.args.start + nat_abs (turn c.before)) % 65536
+up : (c : tie.Then1) → moved_hue c.before.args.start c.before.args.part ≡ (c.before.args.start + nat_abs (turn c.before)) % 65536
 up c =
     let s = c.before.args.start in
-    sym (moved-turns s c.before.args.part) ∙ ap (movedHue s) (is-size (turn c.before) (up-taken c)) ∙ moved_up s (nat_abs (turn c.before))
+    sym (moved-turns s c.before.args.part) ∙ ap (moved_hue s) (is-size (turn c.before) (up-taken c)) ∙ moved_up s (nat_abs (turn c.before))
 
-down : (c : tie.Else1) → movedHue c.before.args.start c.before.args.part ≡ (c.before.args.start + (65536 - nat_abs (turn c.before) % 65536)) % 65536
+down : (c : tie.Else1) → moved_hue c.before.args.start c.before.args.part ≡ (c.before.args.start + (65536 - nat_abs (turn c.before) % 65536)) % 65536
 down c =
     let s = c.before.args.start in
-    sym (moved-turns s c.before.args.part) ∙ ap (movedHue s) (is-negated (turn c.before) (down-taken c)) ∙ moved_down s (nat_abs (turn c.before))
+    sym (moved-turns s c.before.args.part) ∙ ap (moved_hue s) (is-negated (turn c.before) (down-taken c)) ∙ moved_down s (nat_abs (turn c.before))
 
 rem-turn : tie.Need-nonzero-rem-turn
 rem-turn c = rw (to_z-of_z w64 _ c.ranges.part) (omega arith, quot_fits _ c.ranges.part)
 
 cast-wrapping-add-u16 : tie.Need-overflow-cast-wrapping-add-u16
-cast-wrapping-add-u16 c = rw (read c.before) (is-nonNeg (turn c.before) (up-taken c), omega (arith, turn-size c.before))
+cast-wrapping-add-u16 c = rw (read c.before) (is-non_neg (turn c.before) (up-taken c), omega (arith, turn-size c.before))
 
 wrapping-add-u16-requires : tie.Need-wrapping-add-u16-requires
 wrapping-add-u16-requires c κs = search rules
@@ -60,7 +60,7 @@ sub-wrapping-sub-u16 c = rw (read c.before, +ℤ_idl) (negated c.before)
 cast-wrapping-sub-u16 : tie.Need-overflow-cast-wrapping-sub-u16
 cast-wrapping-sub-u16 c =
     rw (read c.before, +ℤ_idl, to_z-of_z w64 _ (negated c.before))
-    (neg-nonNeg (turn c.before) (down-taken c), rw abs_neg (omega (arith, turn-size c.before)))
+    (neg-non_neg (turn c.before) (down-taken c), rw abs_neg (omega (arith, turn-size c.before)))
 
 wrapping-sub-u16-requires : tie.Need-wrapping-sub-u16-requires
 wrapping-sub-u16-requires c κs = search rules

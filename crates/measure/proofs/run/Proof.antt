@@ -5,7 +5,7 @@ use Rattle.lamp.specs.declared.Answer.{Answer}
 use Rattle.measure.specs.declared.Ran.{Ran}
 use Rattle.measure.specs.declared.sums.Sums.{Sums}
 use Rattle.exports.specs.Calls.{sent}
-use Rattle.measure.specs.Sums.{answerAdded}
+use Rattle.measure.specs.Sums.{answer_added}
 use Rattle.measure.specs.Runs.{ran, call_at}
 use Rattle.measure.proofs.run.Statement.{statement}
 use Rattle.measure.proofs.run.Tie as tie
@@ -16,7 +16,7 @@ module _ (l : Lamp) (calls : List ℕ) (i : ℕ) (now : Lamp) (a : Answer) (e : 
   unfolding ran
   next-lamp = rw (add-one i, f, e)
 
-  next-sums : (s t : Sums) → s ≡ (ran l calls i).sums → t ≡ answerAdded s a → t ≡ (ran l calls (i + 1)).sums
+  next-sums : (s t : Sums) → s ≡ (ran l calls i).sums → t ≡ answer_added s a → t ≡ (ran l calls (i + 1)).sums
   unfolding ran
   next-sums s t g h = rw (add-one i, h, f, e, g)
 

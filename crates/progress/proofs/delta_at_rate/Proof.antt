@@ -10,7 +10,7 @@ use mir.ValLaws.{to_z-of_z}
 use mir.Facts.{to_z_pos}
 use borrow.Author.Rules.{rules, sfits_of}
 use Rattle.integers.proofs.Sizes.{small, abs-mul, quot_fits}
-use Rattle.matter.specs.Limits.{clockLimit}
+use Rattle.matter.specs.Limits.{clock_limit}
 use Rattle.progress.specs.Progress.{limited}
 use Rattle.progress.proofs.Laws.{limited-size}
 use Rattle.progress.proofs.delta_at_rate.Statement.{statement}
@@ -37,7 +37,7 @@ cast-result c = search rules
 mul-result : tie.Need-overflow-mul-result
 mul-result c =
     rw (rate c, time c)
-    (small w64 _ (rw abs-mul (omega (arith, mul-le-mul {m₁ = c.within-limit.result} {m₂ = clockLimit} (limited-size c.before.before.args.rate) (omega (arith, c.within-limit.ensures))))))
+    (small w64 _ (rw abs-mul (omega (arith, mul-le-mul {m₁ = c.within-limit.result} {m₂ = clock_limit} (limited-size c.before.before.args.rate) (omega (arith, c.within-limit.ensures))))))
 
 div-result : tie.Need-nonzero-div-result
 div-result c = (omega arith, rw (to_z-of_z w64 _ (mul-result c)) (quot_fits _ (mul-result c)))

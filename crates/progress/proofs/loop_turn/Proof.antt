@@ -5,7 +5,7 @@ use Prim.Native.Nat.{ℕ, ◌*◌, ◌/◌, ◌^◌, ◌≤◌}
 use native.Mathlib.Nat.{div-le_self}
 use native.Mathlib.Omega.{arith}
 use borrow.Author.Rules.{rules}
-use Rattle.progress.specs.Progress.{snapped, loopTurn}
+use Rattle.progress.specs.Progress.{snapped, loop_turn}
 use Rattle.progress.proofs.Laws.{loop-takes-time, snapped-above, snapped-below, snapped-kept}
 use Rattle.progress.proofs.loop_turn.Statement.{statement}
 use Rattle.progress.proofs.loop_turn.Tie as tie
@@ -16,8 +16,8 @@ raw c = 65536 * c.before.within-limit.result / c.loop-ms.result
 raw-small : (c : tie.After-loop-ms) → raw c ≤ 2 ^ 56
 raw-small c = omega (arith, div-le_self (65536 * c.before.within-limit.result) c.loop-ms.result)
 
-turn : (c : tie.After-loop-ms) → loopTurn c.before.before.args.elapsed c.before.before.args.seconds ≡ snapped (raw c)
-unfolding loopTurn
+turn : (c : tie.After-loop-ms) → loop_turn c.before.before.args.elapsed c.before.before.args.seconds ≡ snapped (raw c)
+unfolding loop_turn
 turn c = rw (← c.before.within-limit.ensures, ← c.loop-ms.ensures)
 
 within-limit-requires : tie.Need-within-limit-requires

@@ -5,12 +5,12 @@ use lib.IntN.{pos, ◌+ℤ◌}
 use mir.Syntax.{w64}
 use mir.ValLaws.{to_z-of_z}
 use borrow.Author.Rules.{rules}
-use Rattle.progress.specs.Progress.{clampedSum}
+use Rattle.progress.specs.Progress.{clamped_sum}
 use Rattle.progress.proofs.Laws.{clamp-within}
 use Rattle.progress.proofs.moved_saturation.Statement.{statement}
 use Rattle.progress.proofs.moved_saturation.Tie as tie
 
-is : (c : tie.After-clamped-sum) → c.clamped-sum.result ≡ clampedSum 0 254 c.before.args.start c.before.args.part
+is : (c : tie.After-clamped-sum) → c.clamped-sum.result ≡ clamped_sum 0 254 c.before.args.start c.before.args.part
 is c = rw (c.clamped-sum.ensures, to_z-of_z w64 _ c.before.ranges.part)
 
 clamped-sum-requires : tie.Need-clamped-sum-requires

@@ -1,6 +1,6 @@
 -- The words of the line, one after the other.
 use Rattle.text.proofs.ReadLaws.{reads}
-use Rattle.call_lines.specs.Commands.{colorLoopSetAt}
+use Rattle.call_lines.specs.Commands.{color_loop_set_at}
 use borrow.Author.Rules.{rules}
 use Rattle.call_lines.proofs.invocations.color_loop_set.Statement.{statement}
 use Rattle.call_lines.proofs.invocations.color_loop_set.Tie as tie
@@ -21,7 +21,7 @@ number-16-requires-2 : tie.Need-number-16-requires-2
 number-16-requires-2 c κs = search rules
 
 returns : tie.Need-returns
-unfolding colorLoopSetAt
+unfolding color_loop_set_at
 returns c = reads (simp (c.number-162.ensures, c.before.number-16.ensures, c.before.before.loop-direction.ensures.0, c.before.before.loop-direction.ensures.1, c.before.before.before.loop-action.ensures.0, c.before.before.before.loop-action.ensures.1, c.before.before.before.before.number-8.ensures))
 
 pub color-loop-set-spec : {M : Type 1} → statement M

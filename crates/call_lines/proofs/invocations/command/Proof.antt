@@ -5,7 +5,7 @@ use lib.ListN.{drop}
 use Rattle.matter.specs.declared.commands.Command.{Command}
 use Rattle.text.specs.Readers.{Reader, Row, unknown}
 use Rattle.text.proofs.NamedLaws.{Left, pass, take, rest}
-use Rattle.call_lines.specs.Commands.{commands, otherCommandAt, commandAt}
+use Rattle.call_lines.specs.Commands.{commands, other_command_at, command_at}
 use borrow.Author.Rules.{rules}
 use Rattle.call_lines.proofs.invocations.command.Statement.{statement}
 use Rattle.call_lines.proofs.invocations.command.Tie as tie
@@ -16,11 +16,11 @@ other = unknown Command.StopMoveStep
 -- these rows are left
 abbrev Rows : tie.Start → List (Row Command) → Type 0
 Rows s rows =
-    Left (commandAt s.args.line.now s.args.name s.args.at) rows other
+    Left (command_at s.args.line.now s.args.name s.args.at) rows other
     s.args.line.now s.args.name s.args.at
 
 all : (s : tie.Start) → Rows s commands
-unfolding commandAt
+unfolding command_at
 all s = record { same = refl }
 
 abbrev from1 : tie.Else1 → tie.Start
@@ -167,7 +167,7 @@ other-command-requires : tie.Need-other-command-requires
 other-command-requires c κs = search rules
 
 returns-8 : tie.Need-returns-8
-unfolding otherCommandAt
+unfolding other_command_at
 returns-8 c = rest (past7 c.before) c.other-command.ensures
 
 pub command-spec : {M : Type 1} → statement M

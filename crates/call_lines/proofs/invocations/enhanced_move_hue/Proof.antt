@@ -1,6 +1,6 @@
 -- The words of the line, one after the other.
 use Rattle.text.proofs.ReadLaws.{reads}
-use Rattle.call_lines.specs.Commands.{enhancedMoveHueAt}
+use Rattle.call_lines.specs.Commands.{enhanced_move_hue_at}
 use borrow.Author.Rules.{rules}
 use Rattle.call_lines.proofs.invocations.enhanced_move_hue.Statement.{statement}
 use Rattle.call_lines.proofs.invocations.enhanced_move_hue.Tie as tie
@@ -12,7 +12,7 @@ number-16-requires : tie.Need-number-16-requires
 number-16-requires c κs = search rules
 
 returns : tie.Need-returns
-unfolding enhancedMoveHueAt
+unfolding enhanced_move_hue_at
 returns c = reads (simp (c.number-16.ensures, c.before.move-mode.ensures.0, c.before.move-mode.ensures.1))
 
 pub enhanced-move-hue-spec : {M : Type 1} → statement M

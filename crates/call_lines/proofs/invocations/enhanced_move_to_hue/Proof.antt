@@ -1,6 +1,6 @@
 -- The words of the line, one after the other.
 use Rattle.text.proofs.ReadLaws.{reads}
-use Rattle.call_lines.specs.Commands.{enhancedMoveToHueAt}
+use Rattle.call_lines.specs.Commands.{enhanced_move_to_hue_at}
 use borrow.Author.Rules.{rules}
 use Rattle.call_lines.proofs.invocations.enhanced_move_to_hue.Statement.{statement}
 use Rattle.call_lines.proofs.invocations.enhanced_move_to_hue.Tie as tie
@@ -15,7 +15,7 @@ number-16-requires-2 : tie.Need-number-16-requires-2
 number-16-requires-2 c κs = search rules
 
 returns : tie.Need-returns
-unfolding enhancedMoveToHueAt
+unfolding enhanced_move_to_hue_at
 returns c = reads (simp (c.number-162.ensures, c.before.path-direction.ensures.0, c.before.path-direction.ensures.1, c.before.before.number-16.ensures))
 
 pub enhanced-move-to-hue-spec : {M : Type 1} → statement M

@@ -1,6 +1,6 @@
 -- The words of the line, one after the other.
 use Rattle.text.proofs.ReadLaws.{reads}
-use Rattle.call_lines.specs.Calls.{invokeAt}
+use Rattle.call_lines.specs.Calls.{invoke_at}
 use borrow.Author.Rules.{rules}
 use Rattle.call_lines.proofs.invocations.invoke.Statement.{statement}
 use Rattle.call_lines.proofs.invocations.invoke.Tie as tie
@@ -24,7 +24,7 @@ number-64-requires : tie.Need-number-64-requires
 number-64-requires c κs = search rules
 
 returns : tie.Need-returns
-unfolding invokeAt
+unfolding invoke_at
 returns c = reads (simp (c.number-64.ensures, c.before.before.options.ensures.0, c.before.before.options.ensures.1, c.before.before.before.command.ensures.0, c.before.before.before.command.ensures.1, c.before.before.before.before.on-off.ensures.0, c.before.before.before.before.on-off.ensures.1, c.before.before.before.before.before.end.ensures, c.before.before.before.before.before.before.start.ensures))
 
 pub invoke-spec : {M : Type 1} → statement M

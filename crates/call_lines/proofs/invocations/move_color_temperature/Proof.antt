@@ -1,6 +1,6 @@
 -- The words of the line, one after the other.
 use Rattle.text.proofs.ReadLaws.{reads}
-use Rattle.call_lines.specs.Commands.{moveColorTemperatureAt}
+use Rattle.call_lines.specs.Commands.{move_color_temperature_at}
 use borrow.Author.Rules.{rules}
 use Rattle.call_lines.proofs.invocations.move_color_temperature.Statement.{statement}
 use Rattle.call_lines.proofs.invocations.move_color_temperature.Tie as tie
@@ -18,7 +18,7 @@ number-16-requires-3 : tie.Need-number-16-requires-3
 number-16-requires-3 c κs = search rules
 
 returns : tie.Need-returns
-unfolding moveColorTemperatureAt
+unfolding move_color_temperature_at
 returns c = reads (simp (c.number-163.ensures, c.before.number-162.ensures, c.before.before.number-16.ensures, c.before.before.before.move-mode.ensures.0, c.before.before.before.move-mode.ensures.1))
 
 pub move-color-temperature-spec : {M : Type 1} → statement M

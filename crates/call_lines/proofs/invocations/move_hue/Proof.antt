@@ -1,6 +1,6 @@
 -- The words of the line, one after the other.
 use Rattle.text.proofs.ReadLaws.{reads}
-use Rattle.call_lines.specs.Commands.{moveHueAt}
+use Rattle.call_lines.specs.Commands.{move_hue_at}
 use borrow.Author.Rules.{rules}
 use Rattle.call_lines.proofs.invocations.move_hue.Statement.{statement}
 use Rattle.call_lines.proofs.invocations.move_hue.Tie as tie
@@ -15,7 +15,7 @@ flag-requires : tie.Need-flag-requires
 flag-requires c κs = search rules
 
 returns : tie.Need-returns
-unfolding moveHueAt
+unfolding move_hue_at
 returns c = reads (simp (c.flag.ensures, c.before.number-8.ensures, c.before.before.move-mode.ensures.0, c.before.before.move-mode.ensures.1))
 
 pub move-hue-spec : {M : Type 1} → statement M

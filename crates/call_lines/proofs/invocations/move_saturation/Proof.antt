@@ -1,6 +1,6 @@
 -- The words of the line, one after the other.
 use Rattle.text.proofs.ReadLaws.{reads}
-use Rattle.call_lines.specs.Commands.{moveSaturationAt}
+use Rattle.call_lines.specs.Commands.{move_saturation_at}
 use borrow.Author.Rules.{rules}
 use Rattle.call_lines.proofs.invocations.move_saturation.Statement.{statement}
 use Rattle.call_lines.proofs.invocations.move_saturation.Tie as tie
@@ -12,7 +12,7 @@ number-8-requires : tie.Need-number-8-requires
 number-8-requires c κs = search rules
 
 returns : tie.Need-returns
-unfolding moveSaturationAt
+unfolding move_saturation_at
 returns c = reads (simp (c.number-8.ensures, c.before.move-mode.ensures.0, c.before.move-mode.ensures.1))
 
 pub move-saturation-spec : {M : Type 1} → statement M

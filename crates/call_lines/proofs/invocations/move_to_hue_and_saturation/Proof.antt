@@ -1,6 +1,6 @@
 -- The words of the line, one after the other.
 use Rattle.text.proofs.ReadLaws.{reads}
-use Rattle.call_lines.specs.Commands.{moveToHueAndSaturationAt}
+use Rattle.call_lines.specs.Commands.{move_to_hue_and_saturation_at}
 use borrow.Author.Rules.{rules}
 use Rattle.call_lines.proofs.invocations.move_to_hue_and_saturation.Statement.{statement}
 use Rattle.call_lines.proofs.invocations.move_to_hue_and_saturation.Tie as tie
@@ -21,7 +21,7 @@ number-16-requires-2 : tie.Need-number-16-requires-2
 number-16-requires-2 c κs = search rules
 
 returns : tie.Need-returns
-unfolding moveToHueAndSaturationAt
+unfolding move_to_hue_and_saturation_at
 returns c = reads (simp (c.number-162.ensures, c.before.flag.ensures, c.before.before.number-16.ensures, c.before.before.before.number-82.ensures, c.before.before.before.before.number-8.ensures))
 
 pub move-to-hue-and-saturation-spec : {M : Type 1} → statement M

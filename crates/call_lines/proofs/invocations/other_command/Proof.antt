@@ -5,7 +5,7 @@ use lib.ListN.{drop}
 use Rattle.matter.specs.declared.commands.Command.{Command}
 use Rattle.text.specs.Readers.{Reader, Row, unknown}
 use Rattle.text.proofs.NamedLaws.{Left, pass, take, rest}
-use Rattle.call_lines.specs.Commands.{otherCommands, otherCommandAt}
+use Rattle.call_lines.specs.Commands.{other_commands, other_command_at}
 use borrow.Author.Rules.{rules}
 use Rattle.call_lines.proofs.invocations.other_command.Statement.{statement}
 use Rattle.call_lines.proofs.invocations.other_command.Tie as tie
@@ -16,59 +16,59 @@ other = unknown Command.StopMoveStep
 -- these rows are left
 abbrev Rows : tie.Start → List (Row Command) → Type 0
 Rows s rows =
-    Left (otherCommandAt s.args.line.now s.args.name s.args.at) rows other
+    Left (other_command_at s.args.line.now s.args.name s.args.at) rows other
     s.args.line.now s.args.name s.args.at
 
-all : (s : tie.Start) → Rows s otherCommands
-unfolding otherCommandAt
+all : (s : tie.Start) → Rows s other_commands
+unfolding other_command_at
 all s = record { same = refl }
 
 abbrev from1 : tie.Else1 → tie.Start
 from1 c = c.before.before.before.before
 
-past1 : (c : tie.Else1) → Rows (from1 c) (drop 1 otherCommands)
+past1 : (c : tie.Else1) → Rows (from1 c) (drop 1 other_commands)
 past1 c = pass (all (from1 c)) c.before.is.ensures c.if1.false
 
 abbrev from2 : tie.Else2 → tie.Start
 from2 c = from1 c.before.before.before
 
-past2 : (c : tie.Else2) → Rows (from2 c) (drop 2 otherCommands)
+past2 : (c : tie.Else2) → Rows (from2 c) (drop 2 other_commands)
 past2 c = pass (past1 c.before.before.before) c.before.is2.ensures c.if2.false
 
 abbrev from3 : tie.Else3 → tie.Start
 from3 c = from2 c.before.before.before
 
-past3 : (c : tie.Else3) → Rows (from3 c) (drop 3 otherCommands)
+past3 : (c : tie.Else3) → Rows (from3 c) (drop 3 other_commands)
 past3 c = pass (past2 c.before.before.before) c.before.is3.ensures c.if3.false
 
 abbrev from4 : tie.Else4 → tie.Start
 from4 c = from3 c.before.before.before
 
-past4 : (c : tie.Else4) → Rows (from4 c) (drop 4 otherCommands)
+past4 : (c : tie.Else4) → Rows (from4 c) (drop 4 other_commands)
 past4 c = pass (past3 c.before.before.before) c.before.is4.ensures c.if4.false
 
 abbrev from5 : tie.Else5 → tie.Start
 from5 c = from4 c.before.before.before
 
-past5 : (c : tie.Else5) → Rows (from5 c) (drop 5 otherCommands)
+past5 : (c : tie.Else5) → Rows (from5 c) (drop 5 other_commands)
 past5 c = pass (past4 c.before.before.before) c.before.is5.ensures c.if5.false
 
 abbrev from6 : tie.Else6 → tie.Start
 from6 c = from5 c.before.before.before
 
-past6 : (c : tie.Else6) → Rows (from6 c) (drop 6 otherCommands)
+past6 : (c : tie.Else6) → Rows (from6 c) (drop 6 other_commands)
 past6 c = pass (past5 c.before.before.before) c.before.is6.ensures c.if6.false
 
 abbrev from7 : tie.Else7 → tie.Start
 from7 c = from6 c.before.before.before
 
-past7 : (c : tie.Else7) → Rows (from7 c) (drop 7 otherCommands)
+past7 : (c : tie.Else7) → Rows (from7 c) (drop 7 other_commands)
 past7 c = pass (past6 c.before.before.before) c.before.is7.ensures c.if7.false
 
 abbrev from8 : tie.Else8 → tie.Start
 from8 c = from7 c.before.before.before
 
-past8 : (c : tie.Else8) → Rows (from8 c) (drop 8 otherCommands)
+past8 : (c : tie.Else8) → Rows (from8 c) (drop 8 other_commands)
 past8 c = pass (past7 c.before.before.before) c.before.is8.ensures c.if8.false
 
 slice-aggregate-is : tie.Need-slice-aggregate-is

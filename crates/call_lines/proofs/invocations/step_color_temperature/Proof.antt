@@ -1,6 +1,6 @@
 -- The words of the line, one after the other.
 use Rattle.text.proofs.ReadLaws.{reads}
-use Rattle.call_lines.specs.Commands.{stepColorTemperatureAt}
+use Rattle.call_lines.specs.Commands.{step_color_temperature_at}
 use borrow.Author.Rules.{rules}
 use Rattle.call_lines.proofs.invocations.step_color_temperature.Statement.{statement}
 use Rattle.call_lines.proofs.invocations.step_color_temperature.Tie as tie
@@ -21,7 +21,7 @@ number-16-requires-4 : tie.Need-number-16-requires-4
 number-16-requires-4 c κs = search rules
 
 returns : tie.Need-returns
-unfolding stepColorTemperatureAt
+unfolding step_color_temperature_at
 returns c = reads (simp (c.number-164.ensures, c.before.number-163.ensures, c.before.before.number-162.ensures, c.before.before.before.number-16.ensures, c.before.before.before.before.step-mode.ensures.0, c.before.before.before.before.step-mode.ensures.1))
 
 pub step-color-temperature-spec : {M : Type 1} → statement M

@@ -1,5 +1,5 @@
 -- Each case is answered by its own function.
-use Rattle.call_lines.specs.Leaves.{leafText}
+use Rattle.call_lines.specs.Leaves.{leaf_text}
 use borrow.Author.Rules.{rules}
 use Rattle.call_lines.proofs.leaves.ask.Statement.{statement}
 use Rattle.call_lines.proofs.leaves.ask.Tie as tie
@@ -38,35 +38,35 @@ same_length : tie.Need-same-length
 same_length c = search rules
 
 returns : tie.Need-returns
-unfolding leafText
+unfolding leaf_text
 returns c = let made = c.before.before in rw made.before.before.before.leaf.given.1 made.delta.ensures
 
 same-length-2 : tie.Need-same-length-2
 same-length-2 c = search rules
 
 returns-2 : tie.Need-returns-2
-unfolding leafText
+unfolding leaf_text
 returns-2 c = let made = c.before.before in rw made.before.before.before.leaf2.given.1 made.remaining.ensures
 
 same-length-3 : tie.Need-same-length-3
 same-length-3 c = search rules
 
 returns-3 : tie.Need-returns-3
-unfolding leafText
+unfolding leaf_text
 returns-3 c = let made = c.before.before in rw made.before.before.before.leaf3.given.1 made.may-execute.ensures
 
 same-length-4 : tie.Need-same-length-4
 same-length-4 c = search rules
 
 returns-4 : tie.Need-returns-4
-unfolding leafText
+unfolding leaf_text
 returns-4 c = let made = c.before.before in rw made.before.before.before.leaf4.given.1 made.Mode-of.ensures
 
 same-length-5 : tie.Need-same-length-5
 same-length-5 c = search rules
 
 returns-5 : tie.Need-returns-5
-unfolding leafText
+unfolding leaf_text
 returns-5 c = let made = c.before.before in rw made.before.before.before.leaf5.given.1 made.current-hue.ensures
 
 pub ask-spec : {M : Type 1} → statement M

@@ -6,11 +6,11 @@ use mir.Syntax.{w32, w64}
 use mir.Val.{SFits}
 use Rattle.integers.proofs.Sizes.{wider}
 use Rattle.hue.specs.declared.HuePath.{HuePath}
-use Rattle.hue.specs.Hue.{huePath}
-use Rattle.text.specs.Digits.{signedDecimal}
+use Rattle.hue.specs.Hue.{hue_path}
+use Rattle.text.specs.Digits.{signed_decimal}
 use Rattle.text.specs.Ascii.{ascii}
 use Rattle.text.proofs.WriteLaws.{written-more}
-use Rattle.call_lines.specs.Leaves.{bitText, deltaText}
+use Rattle.call_lines.specs.Leaves.{bit_text, delta_text}
 use borrow.Author.Rules.{rules}
 use Rattle.call_lines.proofs.leaves.delta.Statement.{statement}
 use Rattle.call_lines.proofs.leaves.delta.Tie as tie
@@ -36,7 +36,7 @@ same_length : tie.Need-same-length
 same_length c = search rules
 
 returns : tie.Need-returns
-unfolding deltaText
+unfolding delta_text
 returns c =
     let tie = c.before.before in
     let blank = tie.before.before.before.before in
@@ -46,10 +46,10 @@ returns c =
     let asked = start.args.asked in
     let found = path.hue-path-delta.result in
     let fits : SFits w32 found.delta = search rules in
-    let same : huePath asked.current asked.target asked.direction ≡ found = sym path.hue-path-delta.ensures in
+    let same : hue_path asked.current asked.target asked.direction ≡ found = sym path.hue-path-delta.ensures in
     rw (ap (λ (p : HuePath). p.delta) same, ap (λ (p : HuePath). p.is_tie) same)
-    (written-more start.args.out.now start.args.at (signedDecimal found.delta ++ ascii " ") (bitText found.is_tie)
-    (written-more start.args.out.now start.args.at (signedDecimal found.delta) (ascii " ") (rw (to_z-of_z w32 _ fits, to_z-of_z w64 _ (wider fits)) at number.signed.ensures) blank.byte.ensures)
+    (written-more start.args.out.now start.args.at (signed_decimal found.delta ++ ascii " ") (bit_text found.is_tie)
+    (written-more start.args.out.now start.args.at (signed_decimal found.delta) (ascii " ") (rw (to_z-of_z w32 _ fits, to_z-of_z w64 _ (wider fits)) at number.signed.ensures) blank.byte.ensures)
     tie.bit.ensures)
 
 pub delta-spec : {M : Type 1} → statement M

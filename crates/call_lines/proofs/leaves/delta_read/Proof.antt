@@ -1,6 +1,6 @@
 -- The words of the line, one after the other.
 use Rattle.text.proofs.ReadLaws.{reads}
-use Rattle.call_lines.specs.Leaves.{deltaAskedAt}
+use Rattle.call_lines.specs.Leaves.{delta_asked_at}
 use borrow.Author.Rules.{rules}
 use Rattle.call_lines.proofs.leaves.delta_read.Statement.{statement}
 use Rattle.call_lines.proofs.leaves.delta_read.Tie as tie
@@ -15,7 +15,7 @@ path-direction-requires : tie.Need-path-direction-requires
 path-direction-requires c κs = search rules
 
 returns : tie.Need-returns
-unfolding deltaAskedAt
+unfolding delta_asked_at
 returns c = reads (simp (c.path-direction.ensures.0, c.path-direction.ensures.1, c.before.number-162.ensures, c.before.before.number-16.ensures))
 
 pub delta-read-spec : {M : Type 1} → statement M

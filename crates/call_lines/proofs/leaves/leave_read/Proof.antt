@@ -1,6 +1,6 @@
 -- The words of the line, one after the other.
 use Rattle.text.proofs.ReadLaws.{reads}
-use Rattle.call_lines.specs.Leaves.{leaveAskedAt}
+use Rattle.call_lines.specs.Leaves.{leave_asked_at}
 use borrow.Author.Rules.{rules}
 use Rattle.call_lines.proofs.leaves.leave_read.Statement.{statement}
 use Rattle.call_lines.proofs.leaves.leave_read.Tie as tie
@@ -15,7 +15,7 @@ options-requires : tie.Need-options-requires
 options-requires c κs = search rules
 
 returns : tie.Need-returns
-unfolding leaveAskedAt
+unfolding leave_asked_at
 returns c = reads (simp (c.before.options.ensures.0, c.before.options.ensures.1, c.before.before.number-8.ensures, c.before.before.before.on-off.ensures.0, c.before.before.before.on-off.ensures.1))
 
 pub leave-read-spec : {M : Type 1} → statement M

@@ -6,7 +6,7 @@ use Rattle.matter.specs.declared.enums.EnhancedColorModeEnum.{EnhancedColorModeE
 use Rattle.text.specs.Readers.{Reader, Row, unknown}
 use Rattle.text.proofs.NamedLaws.{Left, pass, take, rest, whole-table}
 use Rattle.call_lines.specs.declared.leaves.Leaf.{Leaf}
-use Rattle.call_lines.specs.Leaves.{leaves, leafAt}
+use Rattle.call_lines.specs.Leaves.{leaves, leaf_at}
 use borrow.Author.Rules.{rules}
 use Rattle.call_lines.proofs.leaves.read.Statement.{statement}
 use Rattle.call_lines.proofs.leaves.read.Tie as tie
@@ -17,11 +17,11 @@ other = unknown (Leaf.ModeOf EnhancedColorModeEnum.CurrentXAndCurrentY)
 -- these rows are left
 abbrev Rows : tie.After-end → List (Row Leaf) → Type 0
 Rows s rows =
-    Left (leafAt s.before.before.before.args.line.now s.before.before.before.args.at) rows other
+    Left (leaf_at s.before.before.before.args.line.now s.before.before.before.args.at) rows other
     s.before.before.before.args.line.now s.before.start.result s.end.result
 
 all : (s : tie.After-end) → Rows s leaves
-unfolding leafAt
+unfolding leaf_at
 all s = whole-table _ _ _ _ _ _ s.before.start.ensures s.end.ensures
 
 abbrev from1 : tie.Else1 → tie.After-end

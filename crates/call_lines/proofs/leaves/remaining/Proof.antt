@@ -2,11 +2,11 @@
 use mathlib.Core.Path.{◌≡◌, sym, ap}
 use mathlib.Core.List.{◌++◌}
 use Rattle.remaining_time.specs.declared.Written.{Written}
-use Rattle.remaining_time.specs.RemainingTime.{writtenQuietly}
+use Rattle.remaining_time.specs.RemainingTime.{written_quietly}
 use Rattle.text.specs.Digits as digits
 use Rattle.text.specs.Ascii.{ascii}
 use Rattle.text.proofs.WriteLaws.{written-more}
-use Rattle.call_lines.specs.Leaves.{bitText, remainingText}
+use Rattle.call_lines.specs.Leaves.{bit_text, remaining_text}
 use borrow.Author.Rules.{rules}
 use Rattle.call_lines.proofs.leaves.remaining.Statement.{statement}
 use Rattle.call_lines.proofs.leaves.remaining.Tie as tie
@@ -30,7 +30,7 @@ same_length : tie.Need-same-length
 same_length c = search rules
 
 returns : tie.Need-returns
-unfolding remainingText
+unfolding remaining_text
 returns c =
     let number = c.before.before in
     let blank = number.before.before.before.before.before in
@@ -39,10 +39,10 @@ returns c =
     let start = write.before.before in
     let written = write.write-remaining-time-quietly.result in
     let asked = start.args.asked in
-    let same : writtenQuietly (record { tenths = asked.old }) asked.ms asked.is_start ≡ written = sym write.write-remaining-time-quietly.ensures in
+    let same : written_quietly (record { tenths = asked.old }) asked.ms asked.is_start ≡ written = sym write.write-remaining-time-quietly.ensures in
     rw (ap (λ (w : Written). w.reported) same, ap (λ (w : Written). w.remaining.tenths) same)
-    (written-more start.args.out.now start.args.at (bitText written.reported ++ ascii " ") (digits.decimal written.remaining.tenths)
-    (written-more start.args.out.now start.args.at (bitText written.reported) (ascii " ") told.bit.ensures blank.byte.ensures)
+    (written-more start.args.out.now start.args.at (bit_text written.reported ++ ascii " ") (digits.decimal written.remaining.tenths)
+    (written-more start.args.out.now start.args.at (bit_text written.reported) (ascii " ") told.bit.ensures blank.byte.ensures)
     number.decimal.ensures)
 
 pub remaining-spec : {M : Type 1} → statement M

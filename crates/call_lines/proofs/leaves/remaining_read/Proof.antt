@@ -1,6 +1,6 @@
 -- The words of the line, one after the other.
 use Rattle.text.proofs.ReadLaws.{reads}
-use Rattle.call_lines.specs.Leaves.{remainingAskedAt}
+use Rattle.call_lines.specs.Leaves.{remaining_asked_at}
 use borrow.Author.Rules.{rules}
 use Rattle.call_lines.proofs.leaves.remaining_read.Statement.{statement}
 use Rattle.call_lines.proofs.leaves.remaining_read.Tie as tie
@@ -15,7 +15,7 @@ flag-requires : tie.Need-flag-requires
 flag-requires c κs = search rules
 
 returns : tie.Need-returns
-unfolding remainingAskedAt
+unfolding remaining_asked_at
 returns c = reads (simp (c.flag.ensures, c.before.number-64.ensures, c.before.before.number-16.ensures))
 
 pub remaining-read-spec : {M : Type 1} → statement M

@@ -5,7 +5,7 @@ use lib.ListN.{drop}
 use Rattle.text.specs.Readers.{Reader, Row, unknown}
 use Rattle.text.proofs.NamedLaws.{Left, pass, take, rest}
 use Rattle.call_lines.specs.declared.lines.Line.{Line}
-use Rattle.call_lines.specs.Lines.{lines, otherLineAt, line_at}
+use Rattle.call_lines.specs.Lines.{lines, other_line_at, line_at}
 use borrow.Author.Rules.{rules}
 use Rattle.call_lines.proofs.lines.any_line.Statement.{statement}
 use Rattle.call_lines.proofs.lines.any_line.Tie as tie
@@ -139,7 +139,7 @@ other-line-requires : tie.Need-other-line-requires
 other-line-requires c κs = search rules
 
 returns-6 : tie.Need-returns-6
-unfolding otherLineAt
+unfolding other_line_at
 returns-6 c = rest (past5 c.before) c.other-line.ensures
 
 pub any-line-spec : {M : Type 1} → statement M

@@ -1,6 +1,6 @@
 -- The words of the line, one after the other.
 use Rattle.text.proofs.ReadLaws.{reads}
-use Rattle.call_lines.specs.Lines.{makingAt}
+use Rattle.call_lines.specs.Lines.{making_at}
 use borrow.Author.Rules.{rules}
 use Rattle.call_lines.proofs.lines.making_line.Statement.{statement}
 use Rattle.call_lines.proofs.lines.making_line.Tie as tie
@@ -18,7 +18,7 @@ number-64-requires : tie.Need-number-64-requires
 number-64-requires c κs = search rules
 
 returns : tie.Need-returns
-unfolding makingAt
+unfolding making_at
 returns c = reads (simp (c.number-64.ensures, c.before.number-8.ensures, c.before.before.number-32.ensures, c.before.before.before.before.bounds.ensures.0, c.before.before.before.before.bounds.ensures.1))
 
 pub making-line-spec : {M : Type 1} → statement M

@@ -1,5 +1,5 @@
 -- Each case is answered by its own function.
-use Rattle.call_lines.specs.Lines.{onLamp}
+use Rattle.call_lines.specs.Lines.{on_lamp}
 use borrow.Author.Rules.{rules}
 use Rattle.call_lines.proofs.lines.on_lamp.Statement.{statement}
 use Rattle.call_lines.proofs.lines.on_lamp.Tie as tie
@@ -35,23 +35,23 @@ set-requires : tie.Need-set-requires
 set-requires c κs = search rules
 
 returns : tie.Need-returns
-unfolding onLamp
+unfolding on_lamp
 returns c = rw c.before.before.what.given.1 c.call.ensures
 
 returns-2 : tie.Need-returns-2
-unfolding onLamp
+unfolding on_lamp
 returns-2 c = rw c.before.before.what2.given.1 c.poked.ensures
 
 returns-3 : tie.Need-returns-3
-unfolding onLamp
+unfolding on_lamp
 returns-3 c = rw c.before.before.what3.given.1 c.recorded.ensures
 
 returns-4 : tie.Need-returns-4
-unfolding onLamp
+unfolding on_lamp
 returns-4 c = rw c.before.enum_told.given.1 c.shown.ensures
 
 returns-5 : tie.Need-returns-5
-unfolding onLamp
+unfolding on_lamp
 returns-5 c = rw c.before.before.what4.given.1 c.set.ensures
 
 pub on-lamp-spec : {M : Type 1} → statement M

@@ -5,7 +5,7 @@ use lib.ListN.{drop}
 use Rattle.text.specs.Readers.{Reader, Row, unknown}
 use Rattle.text.proofs.NamedLaws.{Left, pass, take, rest}
 use Rattle.call_lines.specs.declared.lines.Line.{Line}
-use Rattle.call_lines.specs.Lines.{otherLines, otherLineAt}
+use Rattle.call_lines.specs.Lines.{other_lines, other_line_at}
 use borrow.Author.Rules.{rules}
 use Rattle.call_lines.proofs.lines.other_line.Statement.{statement}
 use Rattle.call_lines.proofs.lines.other_line.Tie as tie
@@ -16,59 +16,59 @@ other = unknown Line.Unreadable
 -- these rows are left
 abbrev Rows : tie.Start → List (Row Line) → Type 0
 Rows s rows =
-    Left (otherLineAt s.args.line.now s.args.name s.args.at) rows other
+    Left (other_line_at s.args.line.now s.args.name s.args.at) rows other
     s.args.line.now s.args.name s.args.at
 
-all : (s : tie.Start) → Rows s otherLines
-unfolding otherLineAt
+all : (s : tie.Start) → Rows s other_lines
+unfolding other_line_at
 all s = record { same = refl }
 
 abbrev from1 : tie.Else1 → tie.Start
 from1 c = c.before.before.before.before
 
-past1 : (c : tie.Else1) → Rows (from1 c) (drop 1 otherLines)
+past1 : (c : tie.Else1) → Rows (from1 c) (drop 1 other_lines)
 past1 c = pass (all (from1 c)) c.before.is.ensures c.if1.false
 
 abbrev from2 : tie.Else2 → tie.Start
 from2 c = from1 c.before.before.before
 
-past2 : (c : tie.Else2) → Rows (from2 c) (drop 2 otherLines)
+past2 : (c : tie.Else2) → Rows (from2 c) (drop 2 other_lines)
 past2 c = pass (past1 c.before.before.before) c.before.is2.ensures c.if2.false
 
 abbrev from3 : tie.Else3 → tie.Start
 from3 c = from2 c.before.before.before
 
-past3 : (c : tie.Else3) → Rows (from3 c) (drop 3 otherLines)
+past3 : (c : tie.Else3) → Rows (from3 c) (drop 3 other_lines)
 past3 c = pass (past2 c.before.before.before) c.before.is3.ensures c.if3.false
 
 abbrev from4 : tie.Else4 → tie.Start
 from4 c = from3 c.before.before.before
 
-past4 : (c : tie.Else4) → Rows (from4 c) (drop 4 otherLines)
+past4 : (c : tie.Else4) → Rows (from4 c) (drop 4 other_lines)
 past4 c = pass (past3 c.before.before.before) c.before.is4.ensures c.if4.false
 
 abbrev from5 : tie.Else5 → tie.Start
 from5 c = from4 c.before.before.before
 
-past5 : (c : tie.Else5) → Rows (from5 c) (drop 5 otherLines)
+past5 : (c : tie.Else5) → Rows (from5 c) (drop 5 other_lines)
 past5 c = pass (past4 c.before.before.before) c.before.is5.ensures c.if5.false
 
 abbrev from6 : tie.Else6 → tie.Start
 from6 c = from5 c.before.before.before
 
-past6 : (c : tie.Else6) → Rows (from6 c) (drop 6 otherLines)
+past6 : (c : tie.Else6) → Rows (from6 c) (drop 6 other_lines)
 past6 c = pass (past5 c.before.before.before) c.before.is6.ensures c.if6.false
 
 abbrev from7 : tie.Else7 → tie.Start
 from7 c = from6 c.before.before.before
 
-past7 : (c : tie.Else7) → Rows (from7 c) (drop 7 otherLines)
+past7 : (c : tie.Else7) → Rows (from7 c) (drop 7 other_lines)
 past7 c = pass (past6 c.before.before.before) c.before.is7.ensures c.if7.false
 
 abbrev from8 : tie.Else8 → tie.Start
 from8 c = from7 c.before.before.before
 
-past8 : (c : tie.Else8) → Rows (from8 c) (drop 8 otherLines)
+past8 : (c : tie.Else8) → Rows (from8 c) (drop 8 other_lines)
 past8 c = pass (past7 c.before.before.before) c.before.is8.ensures c.if8.false
 
 slice-aggregate-is : tie.Need-slice-aggregate-is

@@ -1,6 +1,6 @@
 -- The words of the line, one after the other.
 use Rattle.text.proofs.ReadLaws.{reads}
-use Rattle.call_lines.specs.Setters.{hueSettingAt}
+use Rattle.call_lines.specs.Setters.{hue_setting_at}
 use borrow.Author.Rules.{rules}
 use Rattle.call_lines.proofs.setters.hue.Statement.{statement}
 use Rattle.call_lines.proofs.setters.hue.Tie as tie
@@ -18,7 +18,7 @@ at-clock-requires : tie.Need-at-clock-requires
 at-clock-requires c κs = search rules
 
 returns : tie.Need-returns
-unfolding hueSettingAt
+unfolding hue_setting_at
 returns c = reads (simp (c.at-clock.ensures.0, c.at-clock.ensures.1, c.before.flag2.ensures, c.before.before.flag.ensures, c.before.before.before.number-16.ensures))
 
 pub hue-spec : {M : Type 1} → statement M

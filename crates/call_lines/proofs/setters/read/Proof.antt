@@ -7,7 +7,7 @@ use Rattle.text.specs.Readers.{Reader, Row, unknown}
 use Rattle.text.proofs.NamedLaws.{Left, pass, take, rest, whole-table}
 use Rattle.call_lines.specs.declared.setters.Setting.{Setting}
 use Rattle.call_lines.specs.declared.setters.NewValue.{NewValue}
-use Rattle.call_lines.specs.Setters.{setting_of, settings, settingAt}
+use Rattle.call_lines.specs.Setters.{setting_of, settings, setting_at}
 use borrow.Author.Rules.{rules}
 use Rattle.call_lines.proofs.setters.read.Statement.{statement}
 use Rattle.call_lines.proofs.setters.read.Tie as tie
@@ -18,11 +18,11 @@ other = unknown (setting_of (NewValue.Mireds 0) false 0)
 -- these rows are left
 abbrev Rows : tie.After-end → List (Row Setting) → Type 0
 Rows s rows =
-    Left (settingAt s.before.before.before.args.line.now s.before.before.before.args.at) rows other
+    Left (setting_at s.before.before.before.args.line.now s.before.before.before.args.at) rows other
     s.before.before.before.args.line.now s.before.start.result s.end.result
 
 all : (s : tie.After-end) → Rows s settings
-unfolding settingAt
+unfolding setting_at
 all s = whole-table _ _ _ _ _ _ s.before.start.ensures s.end.ensures
 
 abbrev from1 : tie.Else1 → tie.After-end

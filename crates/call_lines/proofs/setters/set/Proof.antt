@@ -1,7 +1,7 @@
 -- The cause picks the definition's case; what the change reports has its places.
 use native.Mathlib.Omega.{arith}
 use borrow.Author.Tests.{eq-eqb, ne_eqb}
-use Rattle.call_lines.specs.Setters.{settingAnswer}
+use Rattle.call_lines.specs.Setters.{setting_answer}
 use Rattle.call_lines.proofs.SettingLaws.{setting-placed}
 use borrow.Author.Rules.{rules}
 use Rattle.call_lines.proofs.setters.set.Statement.{statement}
@@ -14,7 +14,7 @@ refused-requires : tie.Need-refused-requires
 refused-requires c κs = search rules
 
 returns : tie.Need-returns
-unfolding settingAnswer
+unfolding setting_answer
 returns c =
     let cause = c.before.before in
     rw (c.refused.ensures, ← cause.first-cause.ensures, ne_eqb cause.first-cause.result 0 (λ e. omega arith))
@@ -35,7 +35,7 @@ notices-requires : tie.Need-notices-requires
 notices-requires c κs = search rules
 
 returns-2 : tie.Need-returns-2
-unfolding settingAnswer
+unfolding setting_answer
 returns-2 c =
     let list = c.before.before.before.before.before in
     let new = list.before in

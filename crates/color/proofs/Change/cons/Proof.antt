@@ -1,12 +1,12 @@
 -- The notices of a change, one after the other, are its list.
-use Rattle.notices.specs.Numerals.{inFront}
+use Rattle.notices.specs.Numerals.{in_front}
 use Rattle.color.proofs.Laws.{change-in-front}
 use borrow.Author.Rules.{rules}
 use Rattle.color.proofs.Change.cons.Statement.{statement}
 use Rattle.color.proofs.Change.cons.Tie as tie
 
 returns : tie.Need-returns
-unfolding inFront
+unfolding in_front
 returns c = simp c.if1.true
 
 cons-requires : tie.Need-cons-requires

@@ -1,6 +1,6 @@
 -- The tests of the code are the tests of the definition, in the same order.
-use Rattle.matter.specs.All.{allTrue}
-use Rattle.color.specs.Valid.{colorValid}
+use Rattle.matter.specs.All.{all_true}
+use Rattle.color.specs.Valid.{color_valid}
 use borrow.Author.Rules.{rules}
 use Rattle.color.proofs.Color.is_valid.Statement.{statement}
 use Rattle.color.proofs.Color.is_valid.Tie as tie
@@ -9,7 +9,7 @@ modes-agree-requires : tie.Need-modes-agree-requires
 modes-agree-requires c κs = search rules
 
 returns : tie.Need-returns
-unfolding colorValid allTrue
+unfolding color_valid all_true
 returns c =
     let at-modes-agree = c.before.before.before.before.before.before.before.before.before in
     simp at-modes-agree.modes-agree.ensures

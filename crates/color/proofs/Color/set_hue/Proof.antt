@@ -1,11 +1,11 @@
 -- The same number, not at an end, changes nothing; else the change is that of the definition.
-use Rattle.color.specs.Setters.{hueSet}
+use Rattle.color.specs.Setters.{hue_set}
 use borrow.Author.Rules.{rules}
 use Rattle.color.proofs.Color.set_hue.Statement.{statement}
 use Rattle.color.proofs.Color.set_hue.Tie as tie
 
 returns : tie.Need-returns
-unfolding hueSet
+unfolding hue_set
 returns c = simp c.if1.true
 
 is-due-requires : tie.Need-is-due-requires
@@ -18,7 +18,7 @@ hue-mode-requires : tie.Need-hue-mode-requires
 hue-mode-requires c κs = search rules
 
 returns-2 : tie.Need-returns-2
-unfolding hueSet
+unfolding hue_set
 returns-2 c = simp (c.hue-mode.ensures, c.before.stamp-at.ensures, c.before.before.is-due.ensures, c.before.before.before.before.if1.false)
 
 pub set-hue-spec : {M : Type 1} → statement M

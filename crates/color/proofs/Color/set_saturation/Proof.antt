@@ -1,11 +1,11 @@
 -- The same number, not at an end, changes nothing; else the change is that of the definition.
-use Rattle.color.specs.Setters.{saturationSet}
+use Rattle.color.specs.Setters.{saturation_set}
 use borrow.Author.Rules.{rules}
 use Rattle.color.proofs.Color.set_saturation.Statement.{statement}
 use Rattle.color.proofs.Color.set_saturation.Tie as tie
 
 returns : tie.Need-returns
-unfolding saturationSet
+unfolding saturation_set
 returns c = simp c.if1.true
 
 is-due-requires : tie.Need-is-due-requires
@@ -18,7 +18,7 @@ kept-hue-mode-requires : tie.Need-kept-hue-mode-requires
 kept-hue-mode-requires c κs = search rules
 
 returns-2 : tie.Need-returns-2
-unfolding saturationSet
+unfolding saturation_set
 returns-2 c = simp (c.kept-hue-mode.ensures, c.before.stamp-at.ensures, c.before.before.is-due.ensures, c.before.before.before.before.if1.false)
 
 pub set-saturation-spec : {M : Type 1} → statement M

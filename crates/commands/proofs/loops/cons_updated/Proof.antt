@@ -1,5 +1,5 @@
 -- The notices of the flags, one after the other, are their list.
-use Rattle.matter.specs.Flags.{hasFlag, updateDirection, updateTime, updateStartHue}
+use Rattle.matter.specs.Flags.{has_flag, update_direction, update_time, update_start_hue}
 use Rattle.commands.proofs.LoopLaws.{flags-in-front}
 use borrow.Author.Rules.{rules}
 use Rattle.commands.proofs.loops.cons_updated.Statement.{statement}
@@ -35,7 +35,7 @@ returns c =
     let k5 = k4.before in
     let k6 = k5.before in
     let args = k6.before.args in
-    rw (c.cons-if3.ensures, k1.contains3.ensures, k2.cons-if2.ensures, k3.contains2.ensures, k4.cons-if.ensures, k5.contains.ensures, k6.cons.ensures, flags-in-front args.list (hasFlag args.flags updateDirection) (hasFlag args.flags updateTime) (hasFlag args.flags updateStartHue))
+    rw (c.cons-if3.ensures, k1.contains3.ensures, k2.cons-if2.ensures, k3.contains2.ensures, k4.cons-if.ensures, k5.contains.ensures, k6.cons.ensures, flags-in-front args.list (has_flag args.flags update_direction) (has_flag args.flags update_time) (has_flag args.flags update_start_hue))
 
 pub cons-updated-spec : {M : Type 1} → statement M
 cons-updated-spec =

@@ -1,5 +1,5 @@
 -- `calls::call_known`: the parts are those of the definition.
-use Rattle.exports.specs.Calls.{callKnown}
+use Rattle.exports.specs.Calls.{call_known}
 use borrow.Author.Rules.{rules}
 use Rattle.exports.proofs.calls.call_known.Statement.{statement}
 use Rattle.exports.proofs.calls.call_known.Tie as tie
@@ -28,7 +28,7 @@ on-off-known-requires : tie.Need-on-off-known-requires
 on-off-known-requires c κs = search rules
 
 returns : tie.Need-returns
-unfolding callKnown
+unfolding call_known
 returns c =
     let at-known2 = c.before.before in
     let at-known = at-known2.before in

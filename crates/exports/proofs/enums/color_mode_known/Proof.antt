@@ -1,7 +1,7 @@
 -- `enums::color_mode_known`: a case has the number where `matter` finds one.
 use borrow.Author.Rules.{rules}
 use mathlib.Core.Path.{sym, ap, ◌∙◌}
-use Rattle.exports.specs.Enums.{colorModeHas, colorModeKnown}
+use Rattle.exports.specs.Enums.{color_mode_has, color_mode_known}
 use Rattle.exports.proofs.Found.{color-mode-capped}
 use Rattle.exports.proofs.enums.color_mode_known.Statement.{statement}
 use Rattle.exports.proofs.enums.color_mode_known.Tie as tie
@@ -19,12 +19,12 @@ enum-told-2 : tie.Need-enum-told-2
 enum-told-2 c = search rules
 
 returns : tie.Need-returns
-unfolding colorModeKnown
-returns c = ap colorModeHas (sym c.enum_told.given.1 ∙ c.before.before.of_number.ensures ∙ color-mode-capped _ c.before.before.before.capped.ensures)
+unfolding color_mode_known
+returns c = ap color_mode_has (sym c.enum_told.given.1 ∙ c.before.before.of_number.ensures ∙ color-mode-capped _ c.before.before.before.capped.ensures)
 
 returns-2 : tie.Need-returns-2
-unfolding colorModeKnown
-returns-2 c = ap colorModeHas (sym c.enum-told2.given.1 ∙ c.before.before.of_number.ensures ∙ color-mode-capped _ c.before.before.before.capped.ensures)
+unfolding color_mode_known
+returns-2 c = ap color_mode_has (sym c.enum-told2.given.1 ∙ c.before.before.of_number.ensures ∙ color-mode-capped _ c.before.before.before.capped.ensures)
 
 pub color-mode-known-spec : {M : Type 1} → statement M
 color-mode-known-spec =

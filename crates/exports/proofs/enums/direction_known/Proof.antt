@@ -1,7 +1,7 @@
 -- `enums::direction_known`: a case has the number where `matter` finds one.
 use borrow.Author.Rules.{rules}
 use mathlib.Core.Path.{sym, ap, ◌∙◌}
-use Rattle.exports.specs.Enums.{directionHas, directionKnown}
+use Rattle.exports.specs.Enums.{direction_has, direction_known}
 use Rattle.exports.proofs.Found.{direction-capped}
 use Rattle.exports.proofs.enums.direction_known.Statement.{statement}
 use Rattle.exports.proofs.enums.direction_known.Tie as tie
@@ -19,12 +19,12 @@ enum-told-2 : tie.Need-enum-told-2
 enum-told-2 c = search rules
 
 returns : tie.Need-returns
-unfolding directionKnown
-returns c = ap directionHas (sym c.enum_told.given.1 ∙ c.before.before.of_number.ensures ∙ direction-capped _ c.before.before.before.capped.ensures)
+unfolding direction_known
+returns c = ap direction_has (sym c.enum_told.given.1 ∙ c.before.before.of_number.ensures ∙ direction-capped _ c.before.before.before.capped.ensures)
 
 returns-2 : tie.Need-returns-2
-unfolding directionKnown
-returns-2 c = ap directionHas (sym c.enum-told2.given.1 ∙ c.before.before.of_number.ensures ∙ direction-capped _ c.before.before.before.capped.ensures)
+unfolding direction_known
+returns-2 c = ap direction_has (sym c.enum-told2.given.1 ∙ c.before.before.of_number.ensures ∙ direction-capped _ c.before.before.before.capped.ensures)
 
 pub direction-known-spec : {M : Type 1} → statement M
 direction-known-spec =

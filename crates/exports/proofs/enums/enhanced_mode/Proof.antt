@@ -1,7 +1,7 @@
 -- `enums::enhanced_mode`: the case is the one that `matter` finds by the number.
 use borrow.Author.Rules.{rules}
 use mathlib.Core.Path.{sym, ap, ◌∙◌}
-use Rattle.exports.specs.Enums.{enhancedModeCase, enhancedModeRead}
+use Rattle.exports.specs.Enums.{enhanced_mode_case, enhanced_mode_read}
 use Rattle.exports.proofs.Found.{enhanced-mode-capped}
 use Rattle.exports.proofs.enums.enhanced_mode.Statement.{statement}
 use Rattle.exports.proofs.enums.enhanced_mode.Tie as tie
@@ -19,15 +19,15 @@ enum_told : tie.Need-enum-told
 enum_told c = search rules
 
 returns : tie.Need-returns
-unfolding enhancedModeRead
+unfolding enhanced_mode_read
 returns c =
     let at-of-number = c.before.before.before in
     let at-capped = at-of-number.before in
-    ap enhancedModeCase (sym c.before.mode.given.1 ∙ at-of-number.of_number.ensures ∙ enhanced-mode-capped _ at-capped.capped.ensures)
+    ap enhanced_mode_case (sym c.before.mode.given.1 ∙ at-of-number.of_number.ensures ∙ enhanced-mode-capped _ at-capped.capped.ensures)
 
 returns-2 : tie.Need-returns-2
-unfolding enhancedModeRead
-returns-2 c = ap enhancedModeCase (sym c.enum_told.given.1 ∙ c.before.before.of_number.ensures ∙ enhanced-mode-capped _ c.before.before.before.capped.ensures)
+unfolding enhanced_mode_read
+returns-2 c = ap enhanced_mode_case (sym c.enum_told.given.1 ∙ c.before.before.of_number.ensures ∙ enhanced-mode-capped _ c.before.before.before.capped.ensures)
 
 pub enhanced-mode-spec : {M : Type 1} → statement M
 enhanced-mode-spec =

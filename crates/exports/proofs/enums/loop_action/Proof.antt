@@ -1,7 +1,7 @@
 -- `enums::loop_action`: the case is the one that `matter` finds by the number.
 use borrow.Author.Rules.{rules}
 use mathlib.Core.Path.{sym, ap, ◌∙◌}
-use Rattle.exports.specs.Enums.{loopActionCase, loopActionRead}
+use Rattle.exports.specs.Enums.{loop_action_case, loop_action_read}
 use Rattle.exports.proofs.Found.{loop-action-capped}
 use Rattle.exports.proofs.enums.loop_action.Statement.{statement}
 use Rattle.exports.proofs.enums.loop_action.Tie as tie
@@ -19,15 +19,15 @@ enum_told : tie.Need-enum-told
 enum_told c = search rules
 
 returns : tie.Need-returns
-unfolding loopActionRead
+unfolding loop_action_read
 returns c =
     let at-of-number = c.before.before.before in
     let at-capped = at-of-number.before in
-    ap loopActionCase (sym c.before.action.given.1 ∙ at-of-number.of_number.ensures ∙ loop-action-capped _ at-capped.capped.ensures)
+    ap loop_action_case (sym c.before.action.given.1 ∙ at-of-number.of_number.ensures ∙ loop-action-capped _ at-capped.capped.ensures)
 
 returns-2 : tie.Need-returns-2
-unfolding loopActionRead
-returns-2 c = ap loopActionCase (sym c.enum_told.given.1 ∙ c.before.before.of_number.ensures ∙ loop-action-capped _ c.before.before.before.capped.ensures)
+unfolding loop_action_read
+returns-2 c = ap loop_action_case (sym c.enum_told.given.1 ∙ c.before.before.of_number.ensures ∙ loop-action-capped _ c.before.before.before.capped.ensures)
 
 pub loop-action-spec : {M : Type 1} → statement M
 loop-action-spec =

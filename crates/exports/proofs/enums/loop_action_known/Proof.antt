@@ -1,7 +1,7 @@
 -- `enums::loop_action_known`: a case has the number where `matter` finds one.
 use borrow.Author.Rules.{rules}
 use mathlib.Core.Path.{sym, ap, ◌∙◌}
-use Rattle.exports.specs.Enums.{loopActionHas, loopActionKnown}
+use Rattle.exports.specs.Enums.{loop_action_has, loop_action_known}
 use Rattle.exports.proofs.Found.{loop-action-capped}
 use Rattle.exports.proofs.enums.loop_action_known.Statement.{statement}
 use Rattle.exports.proofs.enums.loop_action_known.Tie as tie
@@ -19,12 +19,12 @@ enum-told-2 : tie.Need-enum-told-2
 enum-told-2 c = search rules
 
 returns : tie.Need-returns
-unfolding loopActionKnown
-returns c = ap loopActionHas (sym c.enum_told.given.1 ∙ c.before.before.of_number.ensures ∙ loop-action-capped _ c.before.before.before.capped.ensures)
+unfolding loop_action_known
+returns c = ap loop_action_has (sym c.enum_told.given.1 ∙ c.before.before.of_number.ensures ∙ loop-action-capped _ c.before.before.before.capped.ensures)
 
 returns-2 : tie.Need-returns-2
-unfolding loopActionKnown
-returns-2 c = ap loopActionHas (sym c.enum-told2.given.1 ∙ c.before.before.of_number.ensures ∙ loop-action-capped _ c.before.before.before.capped.ensures)
+unfolding loop_action_known
+returns-2 c = ap loop_action_has (sym c.enum-told2.given.1 ∙ c.before.before.of_number.ensures ∙ loop-action-capped _ c.before.before.before.capped.ensures)
 
 pub loop-action-known-spec : {M : Type 1} → statement M
 loop-action-known-spec =

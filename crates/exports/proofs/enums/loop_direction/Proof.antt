@@ -1,7 +1,7 @@
 -- `enums::loop_direction`: the case is the one that `matter` finds by the number.
 use borrow.Author.Rules.{rules}
 use mathlib.Core.Path.{sym, ap, ◌∙◌}
-use Rattle.exports.specs.Enums.{loopDirectionCase, loopDirectionRead}
+use Rattle.exports.specs.Enums.{loop_direction_case, loop_direction_read}
 use Rattle.exports.proofs.Found.{loop-direction-capped}
 use Rattle.exports.proofs.enums.loop_direction.Statement.{statement}
 use Rattle.exports.proofs.enums.loop_direction.Tie as tie
@@ -19,15 +19,15 @@ enum_told : tie.Need-enum-told
 enum_told c = search rules
 
 returns : tie.Need-returns
-unfolding loopDirectionRead
+unfolding loop_direction_read
 returns c =
     let at-of-number = c.before.before.before in
     let at-capped = at-of-number.before in
-    ap loopDirectionCase (sym c.before.direction.given.1 ∙ at-of-number.of_number.ensures ∙ loop-direction-capped _ at-capped.capped.ensures)
+    ap loop_direction_case (sym c.before.direction.given.1 ∙ at-of-number.of_number.ensures ∙ loop-direction-capped _ at-capped.capped.ensures)
 
 returns-2 : tie.Need-returns-2
-unfolding loopDirectionRead
-returns-2 c = ap loopDirectionCase (sym c.enum_told.given.1 ∙ c.before.before.of_number.ensures ∙ loop-direction-capped _ c.before.before.before.capped.ensures)
+unfolding loop_direction_read
+returns-2 c = ap loop_direction_case (sym c.enum_told.given.1 ∙ c.before.before.of_number.ensures ∙ loop-direction-capped _ c.before.before.before.capped.ensures)
 
 pub loop-direction-spec : {M : Type 1} → statement M
 loop-direction-spec =

@@ -1,7 +1,7 @@
 -- `enums::loop_direction_known`: a case has the number where `matter` finds one.
 use borrow.Author.Rules.{rules}
 use mathlib.Core.Path.{sym, ap, ◌∙◌}
-use Rattle.exports.specs.Enums.{loopDirectionHas, loopDirectionKnown}
+use Rattle.exports.specs.Enums.{loop_direction_has, loop_direction_known}
 use Rattle.exports.proofs.Found.{loop-direction-capped}
 use Rattle.exports.proofs.enums.loop_direction_known.Statement.{statement}
 use Rattle.exports.proofs.enums.loop_direction_known.Tie as tie
@@ -19,12 +19,12 @@ enum-told-2 : tie.Need-enum-told-2
 enum-told-2 c = search rules
 
 returns : tie.Need-returns
-unfolding loopDirectionKnown
-returns c = ap loopDirectionHas (sym c.enum_told.given.1 ∙ c.before.before.of_number.ensures ∙ loop-direction-capped _ c.before.before.before.capped.ensures)
+unfolding loop_direction_known
+returns c = ap loop_direction_has (sym c.enum_told.given.1 ∙ c.before.before.of_number.ensures ∙ loop-direction-capped _ c.before.before.before.capped.ensures)
 
 returns-2 : tie.Need-returns-2
-unfolding loopDirectionKnown
-returns-2 c = ap loopDirectionHas (sym c.enum-told2.given.1 ∙ c.before.before.of_number.ensures ∙ loop-direction-capped _ c.before.before.before.capped.ensures)
+unfolding loop_direction_known
+returns-2 c = ap loop_direction_has (sym c.enum-told2.given.1 ∙ c.before.before.of_number.ensures ∙ loop-direction-capped _ c.before.before.before.capped.ensures)
 
 pub loop-direction-known-spec : {M : Type 1} → statement M
 loop-direction-known-spec =

@@ -1,7 +1,7 @@
 -- `enums::move_mode_known`: a case has the number where `matter` finds one.
 use borrow.Author.Rules.{rules}
 use mathlib.Core.Path.{sym, ap, ◌∙◌}
-use Rattle.exports.specs.Enums.{moveModeHas, moveModeKnown}
+use Rattle.exports.specs.Enums.{move_mode_has, move_mode_known}
 use Rattle.exports.proofs.Found.{move-mode-capped}
 use Rattle.exports.proofs.enums.move_mode_known.Statement.{statement}
 use Rattle.exports.proofs.enums.move_mode_known.Tie as tie
@@ -19,12 +19,12 @@ enum-told-2 : tie.Need-enum-told-2
 enum-told-2 c = search rules
 
 returns : tie.Need-returns
-unfolding moveModeKnown
-returns c = ap moveModeHas (sym c.enum_told.given.1 ∙ c.before.before.of_number.ensures ∙ move-mode-capped _ c.before.before.before.capped.ensures)
+unfolding move_mode_known
+returns c = ap move_mode_has (sym c.enum_told.given.1 ∙ c.before.before.of_number.ensures ∙ move-mode-capped _ c.before.before.before.capped.ensures)
 
 returns-2 : tie.Need-returns-2
-unfolding moveModeKnown
-returns-2 c = ap moveModeHas (sym c.enum-told2.given.1 ∙ c.before.before.of_number.ensures ∙ move-mode-capped _ c.before.before.before.capped.ensures)
+unfolding move_mode_known
+returns-2 c = ap move_mode_has (sym c.enum-told2.given.1 ∙ c.before.before.of_number.ensures ∙ move-mode-capped _ c.before.before.before.capped.ensures)
 
 pub move-mode-known-spec : {M : Type 1} → statement M
 move-mode-known-spec =

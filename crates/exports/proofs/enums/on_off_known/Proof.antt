@@ -1,7 +1,7 @@
 -- `enums::on_off_known`: a case has the number where `matter` finds one.
 use borrow.Author.Rules.{rules}
 use mathlib.Core.Path.{sym, ap, ◌∙◌}
-use Rattle.exports.specs.Enums.{onOffHas, onOffKnown}
+use Rattle.exports.specs.Enums.{on_off_has, on_off_known}
 use Rattle.exports.proofs.Found.{on-off-capped}
 use Rattle.exports.proofs.enums.on_off_known.Statement.{statement}
 use Rattle.exports.proofs.enums.on_off_known.Tie as tie
@@ -19,12 +19,12 @@ enum-told-2 : tie.Need-enum-told-2
 enum-told-2 c = search rules
 
 returns : tie.Need-returns
-unfolding onOffKnown
-returns c = ap onOffHas (sym c.enum_told.given.1 ∙ c.before.before.of_number.ensures ∙ on-off-capped _ c.before.before.before.capped.ensures)
+unfolding on_off_known
+returns c = ap on_off_has (sym c.enum_told.given.1 ∙ c.before.before.of_number.ensures ∙ on-off-capped _ c.before.before.before.capped.ensures)
 
 returns-2 : tie.Need-returns-2
-unfolding onOffKnown
-returns-2 c = ap onOffHas (sym c.enum-told2.given.1 ∙ c.before.before.of_number.ensures ∙ on-off-capped _ c.before.before.before.capped.ensures)
+unfolding on_off_known
+returns-2 c = ap on_off_has (sym c.enum-told2.given.1 ∙ c.before.before.of_number.ensures ∙ on-off-capped _ c.before.before.before.capped.ensures)
 
 pub on-off-known-spec : {M : Type 1} → statement M
 on-off-known-spec =

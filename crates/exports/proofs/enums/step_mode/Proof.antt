@@ -1,7 +1,7 @@
 -- `enums::step_mode`: the case is the one that `matter` finds by the number.
 use borrow.Author.Rules.{rules}
 use mathlib.Core.Path.{sym, ap, ◌∙◌}
-use Rattle.exports.specs.Enums.{stepModeCase, stepModeRead}
+use Rattle.exports.specs.Enums.{step_mode_case, step_mode_read}
 use Rattle.exports.proofs.Found.{step-mode-capped}
 use Rattle.exports.proofs.enums.step_mode.Statement.{statement}
 use Rattle.exports.proofs.enums.step_mode.Tie as tie
@@ -19,15 +19,15 @@ enum_told : tie.Need-enum-told
 enum_told c = search rules
 
 returns : tie.Need-returns
-unfolding stepModeRead
+unfolding step_mode_read
 returns c =
     let at-of-number = c.before.before.before in
     let at-capped = at-of-number.before in
-    ap stepModeCase (sym c.before.mode.given.1 ∙ at-of-number.of_number.ensures ∙ step-mode-capped _ at-capped.capped.ensures)
+    ap step_mode_case (sym c.before.mode.given.1 ∙ at-of-number.of_number.ensures ∙ step-mode-capped _ at-capped.capped.ensures)
 
 returns-2 : tie.Need-returns-2
-unfolding stepModeRead
-returns-2 c = ap stepModeCase (sym c.enum_told.given.1 ∙ c.before.before.of_number.ensures ∙ step-mode-capped _ c.before.before.before.capped.ensures)
+unfolding step_mode_read
+returns-2 c = ap step_mode_case (sym c.enum_told.given.1 ∙ c.before.before.of_number.ensures ∙ step-mode-capped _ c.before.before.before.capped.ensures)
 
 pub step-mode-spec : {M : Type 1} → statement M
 step-mode-spec =

@@ -1,7 +1,7 @@
 -- `enums::step_mode_known`: a case has the number where `matter` finds one.
 use borrow.Author.Rules.{rules}
 use mathlib.Core.Path.{sym, ap, ◌∙◌}
-use Rattle.exports.specs.Enums.{stepModeHas, stepModeKnown}
+use Rattle.exports.specs.Enums.{step_mode_has, step_mode_known}
 use Rattle.exports.proofs.Found.{step-mode-capped}
 use Rattle.exports.proofs.enums.step_mode_known.Statement.{statement}
 use Rattle.exports.proofs.enums.step_mode_known.Tie as tie
@@ -19,12 +19,12 @@ enum-told-2 : tie.Need-enum-told-2
 enum-told-2 c = search rules
 
 returns : tie.Need-returns
-unfolding stepModeKnown
-returns c = ap stepModeHas (sym c.enum_told.given.1 ∙ c.before.before.of_number.ensures ∙ step-mode-capped _ c.before.before.before.capped.ensures)
+unfolding step_mode_known
+returns c = ap step_mode_has (sym c.enum_told.given.1 ∙ c.before.before.of_number.ensures ∙ step-mode-capped _ c.before.before.before.capped.ensures)
 
 returns-2 : tie.Need-returns-2
-unfolding stepModeKnown
-returns-2 c = ap stepModeHas (sym c.enum-told2.given.1 ∙ c.before.before.of_number.ensures ∙ step-mode-capped _ c.before.before.before.capped.ensures)
+unfolding step_mode_known
+returns-2 c = ap step_mode_has (sym c.enum-told2.given.1 ∙ c.before.before.of_number.ensures ∙ step-mode-capped _ c.before.before.before.capped.ensures)
 
 pub step-mode-known-spec : {M : Type 1} → statement M
 step-mode-known-spec =

@@ -1,5 +1,5 @@
 -- `lamps::lamp_fits`: the parts are those of the definition.
-use Rattle.exports.specs.Lamps.{lampFits}
+use Rattle.exports.specs.Lamps.{lamp_fits}
 use borrow.Author.Rules.{rules}
 use Rattle.exports.proofs.lamps.lamp_fits.Statement.{statement}
 use Rattle.exports.proofs.lamps.lamp_fits.Tie as tie
@@ -38,7 +38,7 @@ at-requires-11 : tie.Need-at-requires-11
 at-requires-11 c κs = search rules
 
 returns : tie.Need-returns
-unfolding lampFits
+unfolding lamp_fits
 returns c =
     let at-at9 = c.before.before in
     let at-at8 = at-at9.before in

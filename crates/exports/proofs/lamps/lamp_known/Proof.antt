@@ -1,5 +1,5 @@
 -- `lamps::lamp_known`: the parts are those of the definition.
-use Rattle.exports.specs.Lamps.{lampKnown}
+use Rattle.exports.specs.Lamps.{lamp_known}
 use borrow.Author.Rules.{rules}
 use Rattle.exports.proofs.lamps.lamp_known.Statement.{statement}
 use Rattle.exports.proofs.lamps.lamp_known.Tie as tie
@@ -32,7 +32,7 @@ known-requires : tie.Need-known-requires
 known-requires c κs = search rules
 
 returns : tie.Need-returns
-unfolding lampKnown
+unfolding lamp_known
 returns c =
     let at-enhanced-mode-known = c.before.before in
     let at-color-mode-known = at-enhanced-mode-known.before in

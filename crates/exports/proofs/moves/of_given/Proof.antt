@@ -1,5 +1,5 @@
 -- `moves::of_given`: the definition's case is the one matched.
-use Rattle.exports.specs.Moves.{givenNumbers}
+use Rattle.exports.specs.Moves.{given_numbers}
 use borrow.Author.Rules.{rules}
 use Rattle.exports.proofs.moves.of_given.Statement.{statement}
 use Rattle.exports.proofs.moves.of_given.Tie as tie
@@ -17,11 +17,11 @@ of-task-requires : tie.Need-of-task-requires
 of-task-requires c κs = search rules
 
 returns : tie.Need-returns
-unfolding givenNumbers
+unfolding given_numbers
 returns c = simp (c.numbers.ensures, c.before.enum_told.given.1)
 
 returns-2 : tie.Need-returns-2
-unfolding givenNumbers
+unfolding given_numbers
 returns-2 c = simp (c.of-task.ensures, c.before.before.task.given.1)
 
 pub of-given-spec : {M : Type 1} → statement M

@@ -1,5 +1,5 @@
 -- `moves::of_running`: the parts are the definition's, and a signed one is read back from its bits.
-use Rattle.exports.specs.Moves.{recordNumbers}
+use Rattle.exports.specs.Moves.{record_numbers}
 use mathlib.Core.Path.{◌≡◌}
 use mir.Syntax.{w64}
 use mir.Val.{to_z, of_z}
@@ -92,34 +92,34 @@ record-requires-7 : tie.Need-record-requires-7
 record-requires-7 c κs = search rules
 
 returns : tie.Need-returns
-unfolding recordNumbers
+unfolding record_numbers
 returns c = simp (c.«record».ensures, c.before.numbers.ensures, c.before.before.enum_told.given.1)
 
 returns-2 : tie.Need-returns-2
-unfolding recordNumbers
+unfolding record_numbers
 returns-2 c = simp (c.record2.ensures, c.before.of-move-to.ensures, c.before.before.before.before.before.before.running.given.1)
 
 returns-3 : tie.Need-returns-3
-unfolding recordNumbers
+unfolding record_numbers
 returns-3 c = simp (c.record3.ensures, c.before.of-hue-move.ensures, c.before.before.before.before.before.running2.given.1)
 
 returns-4 : tie.Need-returns-4
-unfolding recordNumbers
+unfolding record_numbers
 returns-4 c = simp (c.record4.ensures, c.before.of-saturation-move.ensures, c.before.before.before.before.before.running3.given.1)
 
 returns-5 : tie.Need-returns-5
-unfolding recordNumbers
+unfolding record_numbers
 returns-5 c = simp (c.record5.ensures, c.before.of-mireds-to.ensures, c.before.before.before.before.before.running4.given.1)
 
 returns-6 : tie.Need-returns-6
-unfolding recordNumbers
+unfolding record_numbers
 returns-6 c =
     let at-running5 = c.before.before.before.before.before in
     let e : to_z w64 (of_z w64 at-running5.running5.given.0.0.rate) ≡ at-running5.running5.given.0.0.rate = search rules in
     simp (c.record6.ensures, c.before.of-mireds-move.ensures, at-running5.running5.given.1, e)
 
 returns-7 : tie.Need-returns-7
-unfolding recordNumbers
+unfolding record_numbers
 returns-7 c = simp (c.record7.ensures, c.before.of-color-loop.ensures, c.before.before.before.running6.given.1)
 
 pub of-running-spec : {M : Type 1} → statement M

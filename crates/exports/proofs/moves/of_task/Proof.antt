@@ -1,5 +1,5 @@
 -- `moves::of_task`: the definition's case is the one matched.
-use Rattle.exports.specs.Moves.{taskNumbers}
+use Rattle.exports.specs.Moves.{task_numbers}
 use borrow.Author.Rules.{rules}
 use Rattle.exports.proofs.moves.of_task.Statement.{statement}
 use Rattle.exports.proofs.moves.of_task.Tie as tie
@@ -47,31 +47,31 @@ numbers-requires : tie.Need-numbers-requires
 numbers-requires c κs = search rules
 
 returns : tie.Need-returns
-unfolding taskNumbers
+unfolding task_numbers
 returns c = simp (c.of-move-to.ensures, c.before.before.task.given.1)
 
 returns-2 : tie.Need-returns-2
-unfolding taskNumbers
+unfolding task_numbers
 returns-2 c = simp (c.of-hue-move.ensures, c.before.before.task2.given.1)
 
 returns-3 : tie.Need-returns-3
-unfolding taskNumbers
+unfolding task_numbers
 returns-3 c = simp (c.of-saturation-move.ensures, c.before.before.task3.given.1)
 
 returns-4 : tie.Need-returns-4
-unfolding taskNumbers
+unfolding task_numbers
 returns-4 c = simp (c.of-mireds-to.ensures, c.before.before.task4.given.1)
 
 returns-5 : tie.Need-returns-5
-unfolding taskNumbers
+unfolding task_numbers
 returns-5 c = simp (c.of-mireds-move.ensures, c.before.before.task5.given.1)
 
 returns-6 : tie.Need-returns-6
-unfolding taskNumbers
+unfolding task_numbers
 returns-6 c = simp (c.of-color-loop.ensures, c.before.before.task6.given.1)
 
 returns-7 : tie.Need-returns-7
-unfolding taskNumbers
+unfolding task_numbers
 returns-7 c = simp (c.numbers.ensures, c.before.enum_told.given.1)
 
 pub of-task-spec : {M : Type 1} → statement M

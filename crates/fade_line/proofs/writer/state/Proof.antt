@@ -1,7 +1,7 @@
 -- Four numbers and a colon, one after the other.
 use mathlib.Core.List.{[], ◌∷◌, ◌++◌}
 use Rattle.text.specs.Digits.{decimal}
-use Rattle.fade_line.specs.Text.{spaced, stateText}
+use Rattle.fade_line.specs.Text.{spaced, state_text}
 use Rattle.text.proofs.WriteLaws.{written-more}
 use borrow.Author.Rules.{rules}
 use Rattle.fade_line.proofs.writer.state.Statement.{statement}
@@ -32,7 +32,7 @@ same_length : tie.Need-same-length
 same_length c = search rules
 
 returns : tie.Need-returns
-unfolding stateText
+unfolding state_text
 returns c =
     let colon = c.before.before in
     let wait = colon.before.before.before.before in

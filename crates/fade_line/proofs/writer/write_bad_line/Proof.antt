@@ -4,7 +4,7 @@ use borrow.Author.Tests.{not-true, not-false}
 use mathlib.Core.Bool.{true}
 use mathlib.Core.Path.{◌≡◌, sym, ◌∙◌}
 use native.Mathlib.Omega.{arith}
-use Rattle.fade_line.specs.Text.{badLineText, room_for}
+use Rattle.fade_line.specs.Text.{bad_line_text, room_for}
 use Rattle.fade_line.proofs.TextLaws.{wrote-fitting, wrote_nothing}
 use borrow.Author.Rules.{rules}
 use Rattle.fade_line.proofs.writer.write_bad_line.Statement.{statement}
@@ -19,7 +19,7 @@ has-room-requires c κs = search rules
 returns : tie.Need-returns
 returns c =
     let start = c.before.before.before in
-    wrote_nothing start.args.out.now start.args.at badLineText (sym c.before.has_room.ensures ∙ not-true _ c.if1.true)
+    wrote_nothing start.args.out.now start.args.at bad_line_text (sym c.before.has_room.ensures ∙ not-true _ c.if1.true)
 
 slice-aggregate-text : tie.Need-slice-aggregate-text
 slice-aggregate-text c = search rules
@@ -35,7 +35,7 @@ returns-2 c =
     let made = c.before.before in
     let test = made.before.before.before in
     let start = test.before.before.before in
-    wrote-fitting start.args.out.now start.args.at badLineText (fits test) (omega arith) made.text.ensures
+    wrote-fitting start.args.out.now start.args.at bad_line_text (fits test) (omega arith) made.text.ensures
 
 pub write-bad-line-spec : {M : Type 1} → statement M
 write-bad-line-spec =

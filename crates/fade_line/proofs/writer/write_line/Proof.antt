@@ -6,7 +6,7 @@ use borrow.Author.Tests.{not-true, not-false}
 use mathlib.Core.Bool.{true}
 use mathlib.Core.Path.{◌≡◌, sym, ◌∙◌}
 use mathlib.Core.List.{[], ◌∷◌, ◌++◌}
-use Rattle.fade_line.specs.Text.{spacedAll, numbers, stateText, lineText, room_for}
+use Rattle.fade_line.specs.Text.{spaced_all, numbers, state_text, line_text, room_for}
 use Rattle.text.proofs.WriteLaws.{written-more}
 use Rattle.fade_line.proofs.TextLaws.{line-short, wrote-fitting, wrote_nothing}
 use borrow.Author.Rules.{rules}
@@ -28,7 +28,7 @@ has-room-requires c κs = search rules
 returns : tie.Need-returns
 returns c =
     let start = c.before.before.before in
-    wrote_nothing start.args.out.now start.args.at (lineText start.args.line) (sym c.before.has_room.ensures ∙ not-true _ c.if1.true)
+    wrote_nothing start.args.out.now start.args.at (line_text start.args.line) (sym c.before.has_room.ensures ∙ not-true _ c.if1.true)
 
 state-requires : tie.Need-state-requires
 state-requires c κs = search rules
@@ -43,7 +43,7 @@ same_length : tie.Need-same-length
 same_length c = search rules
 
 returns-2 : tie.Need-returns-2
-unfolding lineText
+unfolding line_text
 returns-2 c =
     let made = c.before.before in
     let reported = made.before.before.before.before in
@@ -53,10 +53,10 @@ returns-2 c =
     let out = start.args.out.now in
     let at = start.args.at in
     let line = start.args.line in
-    let notices = spacedAll (numbers line.notices) in
-    wrote-fitting out at (lineText line) (fits test) (line-short line (few start))
-    (written-more out at (stateText line ++ notices) (10 ∷ [])
-    (written-more out at (stateText line) notices state.state.ensures reported.notices.ensures)
+    let notices = spaced_all (numbers line.notices) in
+    wrote-fitting out at (line_text line) (fits test) (line-short line (few start))
+    (written-more out at (state_text line ++ notices) (10 ∷ [])
+    (written-more out at (state_text line) notices state.state.ensures reported.notices.ensures)
     made.byte.ensures)
 
 pub write-line-spec : {M : Type 1} → statement M

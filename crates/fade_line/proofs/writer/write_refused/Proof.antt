@@ -4,7 +4,7 @@ use borrow.Author.Tests.{not-true, not-false}
 use mathlib.Core.Bool.{true}
 use mathlib.Core.Path.{◌≡◌, sym, ◌∙◌}
 use mathlib.Core.List.{[], ◌∷◌, ◌++◌}
-use Rattle.fade_line.specs.Text.{spaced, refusedWord, refusedText, room_for}
+use Rattle.fade_line.specs.Text.{spaced, refused_word, refused_text, room_for}
 use Rattle.text.proofs.WriteLaws.{written-more}
 use Rattle.fade_line.proofs.TextLaws.{refused-short, wrote-fitting, wrote_nothing}
 use borrow.Author.Rules.{rules}
@@ -20,7 +20,7 @@ has-room-requires c κs = search rules
 returns : tie.Need-returns
 returns c =
     let start = c.before.before.before in
-    wrote_nothing start.args.out.now start.args.at (refusedText start.args.number) (sym c.before.has_room.ensures ∙ not-true _ c.if1.true)
+    wrote_nothing start.args.out.now start.args.at (refused_text start.args.number) (sym c.before.has_room.ensures ∙ not-true _ c.if1.true)
 
 slice-aggregate-text : tie.Need-slice-aggregate-text
 slice-aggregate-text c = search rules
@@ -38,7 +38,7 @@ same_length : tie.Need-same-length
 same_length c = search rules
 
 returns-2 : tie.Need-returns-2
-unfolding refusedText
+unfolding refused_text
 returns-2 c =
     let made = c.before.before in
     let number = made.before.before.before.before in
@@ -48,9 +48,9 @@ returns-2 c =
     let out = start.args.out.now in
     let at = start.args.at in
     let n = start.args.number in
-    wrote-fitting out at (refusedText n) (fits test) (refused-short n)
-    (written-more out at (refusedWord ++ spaced n) (10 ∷ [])
-    (written-more out at refusedWord (spaced n) word.text.ensures number.spaced.ensures)
+    wrote-fitting out at (refused_text n) (fits test) (refused-short n)
+    (written-more out at (refused_word ++ spaced n) (10 ∷ [])
+    (written-more out at refused_word (spaced n) word.text.ensures number.spaced.ensures)
     made.byte.ensures)
 
 pub write-refused-spec : {M : Type 1} → statement M

@@ -1,5 +1,5 @@
 -- A line that asks for no fade has the bad line as its run; another begins one.
-use Rattle.fade_run.specs.Run.{fadeOf}
+use Rattle.fade_run.specs.Run.{fade_of}
 use borrow.Author.Rules.{rules}
 use Rattle.fade_run.proofs.Fade.new.Statement.{statement}
 use Rattle.fade_run.proofs.Fade.new.Tie as tie
@@ -14,11 +14,11 @@ begin-requires : tie.Need-begin-requires
 begin-requires c κs = search rules
 
 returns : tie.Need-returns
-unfolding fadeOf
+unfolding fade_of
 returns c = simp c.enum_told.given.1
 
 returns-2 : tie.Need-returns-2
-unfolding fadeOf
+unfolding fade_of
 returns-2 c = simp (c.begin.ensures, c.before.before.asked.given.1)
 
 pub new_spec : {M : Type 1} → statement M

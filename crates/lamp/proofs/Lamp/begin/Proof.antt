@@ -1,6 +1,6 @@
 -- The definition's case is the one matched, the task's validity is what its pass asks for, and what the pass leaves is that
 -- case's effect.
-use Rattle.tasks.specs.Valid.{taskValid}
+use Rattle.tasks.specs.Valid.{task_valid}
 use Rattle.lamp.specs.Calls.{started}
 use borrow.Author.Rules.{rules}
 use Rattle.lamp.proofs.Lamp.begin.Statement.{statement}
@@ -13,14 +13,14 @@ enum-known-task : tie.Need-enum-known-task
 enum-known-task c = search rules
 
 start-hue-saturation-requires : tie.Need-start-hue-saturation-requires
-unfolding taskValid
+unfolding task_valid
 start-hue-saturation-requires c κs = rw c.before.task.given.1 at c.before.before.before.before.before.requires
 
 enum-known-task-2 : tie.Need-enum-known-task-2
 enum-known-task-2 c = search rules
 
 hue-move-transition-requires : tie.Need-hue-move-transition-requires
-unfolding taskValid
+unfolding task_valid
 hue-move-transition-requires c κs = rw c.before.task2.given.1 at c.before.before.before.before.before.requires
 
 left-by-requires : tie.Need-left-by-requires
@@ -30,7 +30,7 @@ enum-known-task-3 : tie.Need-enum-known-task-3
 enum-known-task-3 c = search rules
 
 saturation-move-transition-requires : tie.Need-saturation-move-transition-requires
-unfolding taskValid
+unfolding task_valid
 saturation-move-transition-requires c κs = rw c.before.task3.given.1 at c.before.before.before.before.before.requires
 
 left-by-requires-2 : tie.Need-left-by-requires-2
@@ -46,7 +46,7 @@ enum-known-task-5 : tie.Need-enum-known-task-5
 enum-known-task-5 c = search rules
 
 start-color-temperature-requires : tie.Need-start-color-temperature-requires
-unfolding taskValid
+unfolding task_valid
 start-color-temperature-requires c κs = rw c.before.task5.given.1 at c.before.before.before.before.before.requires
 
 enum-known-task-6 : tie.Need-enum-known-task-6

@@ -1,7 +1,7 @@
 -- `Lamp::halt`: the cause picks the definition's case.
 use native.Mathlib.Omega.{arith}
 use borrow.Author.Tests.{eq-eqb, ne_eqb}
-use Rattle.lamp.specs.Calls.{haltAnswer}
+use Rattle.lamp.specs.Calls.{halt_answer}
 use borrow.Author.Rules.{rules}
 use Rattle.lamp.proofs.Lamp.halt.Statement.{statement}
 use Rattle.lamp.proofs.Lamp.halt.Tie as tie
@@ -13,14 +13,14 @@ refused-requires : tie.Need-refused-requires
 refused-requires c κs = search rules
 
 returns : tie.Need-returns
-unfolding haltAnswer
+unfolding halt_answer
 returns c = rw (c.refused.ensures, ← c.before.before.first-cause.ensures, ne_eqb c.before.before.first-cause.result 0 (λ e. omega arith))
 
 new-requires : tie.Need-new-requires
 new-requires c κs = search rules
 
 returns-2 : tie.Need-returns-2
-unfolding haltAnswer
+unfolding halt_answer
 returns-2 c =
     let k1 = c.before.before.before.before.before.before in
     rw (c.new.ensures, ← k1.first-cause.ensures, eq-eqb k1.first-cause.result 0 (omega arith))

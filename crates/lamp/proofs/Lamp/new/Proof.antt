@@ -3,7 +3,7 @@ use mathlib.Core.Path.{◌≡◌, ap, ◌∙◌}
 use Prim.Native.Nat.{ℕ}
 use Rattle.matter.specs.declared.limits.Bounds.{Bounds}
 use Rattle.lamp.specs.declared.Made.{Made}
-use Rattle.lamp.specs.Making.{making, madeValues, makingValues}
+use Rattle.lamp.specs.Making.{making, made_values, making_values}
 use Rattle.lamp.proofs.Laws.{made-values}
 use borrow.Author.Tests.{lt-ltb, le-ltb}
 use borrow.Author.Rules.{rules}
@@ -12,8 +12,8 @@ use Rattle.lamp.proofs.Lamp.new.Tie as tie
 
 -- both promises from the first
 both : (bounds : Bounds) (features options clock : ℕ) (r : Made) → r ≡ making bounds features options clock →
-    (r ≡ making bounds features options clock) × (madeValues r ≡ makingValues bounds features options clock)
-both bounds features options clock r e = (e, ap madeValues e ∙ made-values bounds features options clock)
+    (r ≡ making bounds features options clock) × (made_values r ≡ making_values bounds features options clock)
+both bounds features options clock r e = (e, ap made_values e ∙ made-values bounds features options clock)
 
 returns : tie.Need-returns
 unfolding making

@@ -1,7 +1,7 @@
 -- The definition's case is the one matched, the record's validity is what its pass asks for, and what the pass leaves is that
 -- case's effect.
 use Rattle.matter.proofs.Laws.{each}
-use Rattle.tasks.specs.Valid.{runningValid}
+use Rattle.tasks.specs.Valid.{running_valid}
 use Rattle.lamp.specs.Calls.{stepped}
 use borrow.Author.Rules.{rules}
 use Rattle.lamp.proofs.Lamp.pass.Statement.{statement}
@@ -29,7 +29,7 @@ permille-requires : tie.Need-permille-requires
 permille-requires c κs = search rules
 
 move-to-hue-saturation-transition-requires : tie.Need-move-to-hue-saturation-transition-requires
-unfolding runningValid
+unfolding running_valid
 move-to-hue-saturation-transition-requires c κs = (each _ (rw c.before.before.before.before.running.given.1 at c.before.before.before.before.before.before.before.before.requires)).0
 
 timed-requires : tie.Need-timed-requires
@@ -42,7 +42,7 @@ enum-known-running-2 : tie.Need-enum-known-running-2
 enum-known-running-2 c = search rules
 
 hue-move-transition-requires : tie.Need-hue-move-transition-requires
-unfolding runningValid
+unfolding running_valid
 hue-move-transition-requires c κs = (each _ (rw c.before.running2.given.1 at c.before.before.before.before.before.requires)).0
 
 left-by-requires-3 : tie.Need-left-by-requires-3
@@ -52,7 +52,7 @@ enum-known-running-3 : tie.Need-enum-known-running-3
 enum-known-running-3 c = search rules
 
 saturation-move-transition-requires : tie.Need-saturation-move-transition-requires
-unfolding runningValid
+unfolding running_valid
 saturation-move-transition-requires c κs = (each _ (rw c.before.running3.given.1 at c.before.before.before.before.before.requires)).0
 
 left-by-requires-4 : tie.Need-left-by-requires-4
@@ -81,7 +81,7 @@ enum-known-running-5 : tie.Need-enum-known-running-5
 enum-known-running-5 c = search rules
 
 color-temperature-move-transition-requires : tie.Need-color-temperature-move-transition-requires
-unfolding runningValid
+unfolding running_valid
 color-temperature-move-transition-requires c κs = (each _ (rw c.before.running5.given.1 at c.before.before.before.before.before.requires)).0
 
 left-by-requires-6 : tie.Need-left-by-requires-6

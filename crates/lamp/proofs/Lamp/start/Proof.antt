@@ -1,7 +1,7 @@
 -- The cause picks the definition's case; what the start leaves is its effect, and the list holds all that it reports.
 use native.Mathlib.Omega.{arith}
 use borrow.Author.Tests.{eq-eqb, ne_eqb, not-true, not-false}
-use Rattle.lamp.specs.Calls.{startAnswer}
+use Rattle.lamp.specs.Calls.{start_answer}
 use borrow.Author.Rules.{rules}
 use Rattle.lamp.proofs.Lamp.start.Statement.{statement}
 use Rattle.lamp.proofs.Lamp.start.Tie as tie
@@ -13,7 +13,7 @@ refused-requires : tie.Need-refused-requires
 refused-requires c κs = search rules
 
 returns : tie.Need-returns
-unfolding startAnswer
+unfolding start_answer
 returns c = rw (c.refused.ensures, ← c.before.before.first-cause.ensures, ne_eqb c.before.before.first-cause.result 0 (λ e. omega arith), ne_eqb c.before.before.first-cause.result 0 (λ e. omega arith))
 
 is-valid-requires : tie.Need-is-valid-requires
@@ -23,7 +23,7 @@ refused-requires-2 : tie.Need-refused-requires-2
 refused-requires-2 c κs = search rules
 
 returns-2 : tie.Need-returns-2
-unfolding startAnswer
+unfolding start_answer
 returns-2 c =
     let k1 = c.before in
     let k2 = k1.before in
@@ -43,7 +43,7 @@ accepted-requires : tie.Need-accepted-requires
 accepted-requires c κs = (rw (c.cons.ensures, c.before.behind.ensures.0), c.before.behind.ensures.1)
 
 returns-3 : tie.Need-returns-3
-unfolding startAnswer
+unfolding start_answer
 returns-3 c =
     let k0 = c.before in
     let k1 = k0.before in

@@ -4,7 +4,7 @@ use native.Mathlib.Omega.{arith}
 use mir.Syntax.{w64}
 use mir.Val.{to_z, of_z}
 use borrow.Author.Tests.{le-leb, lt-leb}
-use Rattle.lamp.specs.Calls.{temperatureStart}
+use Rattle.lamp.specs.Calls.{temperature_start}
 use borrow.Author.Rules.{rules}
 use Rattle.lamp.proofs.Lamp.start_color_temperature.Statement.{statement}
 use Rattle.lamp.proofs.Lamp.start_color_temperature.Tie as tie
@@ -25,7 +25,7 @@ left-by-requires : tie.Need-left-by-requires
 left-by-requires c κs = search rules
 
 returns : tie.Need-returns
-unfolding temperatureStart
+unfolding temperature_start
 returns c =
     let k1 = c.before in
     let k2 = k1.before in
@@ -41,7 +41,7 @@ left-by-requires-2 : tie.Need-left-by-requires-2
 left-by-requires-2 c κs = search rules
 
 returns-2 : tie.Need-returns-2
-unfolding temperatureStart
+unfolding temperature_start
 returns-2 c =
     let k1 = c.before in
     let k3 = k1.before.before.before in

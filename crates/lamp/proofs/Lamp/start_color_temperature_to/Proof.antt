@@ -2,7 +2,7 @@
 use Prim.Native.Nat.{◌+◌}
 use mathlib.Core.Path.{◌≡◌}
 use native.Mathlib.Omega.{arith}
-use Rattle.lamp.specs.Calls.{temperatureToStart}
+use Rattle.lamp.specs.Calls.{temperature_to_start}
 use borrow.Author.Rules.{rules}
 use Rattle.lamp.proofs.Lamp.start_color_temperature_to.Statement.{statement}
 use Rattle.lamp.proofs.Lamp.start_color_temperature_to.Tie as tie
@@ -33,7 +33,7 @@ left-by-requires : tie.Need-left-by-requires
 left-by-requires c κs = search rules
 
 returns : tie.Need-returns
-unfolding temperatureToStart
+unfolding temperature_to_start
 returns c =
     let k1 = c.before in
     let k2 = k1.before in

@@ -1,5 +1,5 @@
 -- Each call's contract is its part of the definition.
-use Rattle.lamp.specs.Calls.{hueSaturationStart}
+use Rattle.lamp.specs.Calls.{hue_saturation_start}
 use borrow.Author.Rules.{rules}
 use Rattle.lamp.proofs.Lamp.start_hue_saturation.Statement.{statement}
 use Rattle.lamp.proofs.Lamp.start_hue_saturation.Tie as tie
@@ -32,7 +32,7 @@ left-by-requires : tie.Need-left-by-requires
 left-by-requires c κs = search rules
 
 returns : tie.Need-returns
-unfolding hueSaturationStart
+unfolding hue_saturation_start
 returns c =
     let k1 = c.before in
     let k2 = k1.before in

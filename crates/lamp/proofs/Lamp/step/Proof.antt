@@ -2,8 +2,8 @@
 -- list holds all that it reports.
 use native.Mathlib.Omega.{arith}
 use borrow.Author.Tests.{ltb-false, not-true, not-false}
-use Rattle.lamp.specs.Valid.{lampValid}
-use Rattle.lamp.specs.Calls.{stepAnswer}
+use Rattle.lamp.specs.Valid.{lamp_valid}
+use Rattle.lamp.specs.Calls.{step_answer}
 use Rattle.lamp.proofs.Kept.{running-later}
 use Rattle.matter.proofs.Laws.{each, or_left}
 use borrow.Author.Rules.{rules}
@@ -17,7 +17,7 @@ refused-requires : tie.Need-refused-requires
 refused-requires c κs = search rules
 
 returns : tie.Need-returns
-unfolding stepAnswer
+unfolding step_answer
 returns c = rw (c.refused.ensures, ← c.before.before.is-valid.ensures, not-true c.before.before.is-valid.result c.before.if1.true)
 
 is-running-requires : tie.Need-is-running-requires
@@ -27,7 +27,7 @@ refused-requires-2 : tie.Need-refused-requires-2
 refused-requires-2 c κs = search rules
 
 returns-2 : tie.Need-returns-2
-unfolding stepAnswer
+unfolding step_answer
 returns-2 c =
     let k1 = c.before in
     let k2 = k1.before in
@@ -39,7 +39,7 @@ refused-requires-3 : tie.Need-refused-requires-3
 refused-requires-3 c κs = search rules
 
 returns-3 : tie.Need-returns-3
-unfolding stepAnswer
+unfolding step_answer
 returns-3 c =
     let k1 = c.before in
     let k2 = k1.before.before in
@@ -49,7 +49,7 @@ returns-3 c =
     rw (c.refused3.ensures, ← k5.is-valid.ensures, not-false k5.is-valid.result k4.if1.false, ← k3.is-running.ensures, not-false k3.is-running.result k2.if2.false, k1.if3.true)
 
 pass-requires : tie.Need-pass-requires
-unfolding lampValid
+unfolding lamp_valid
 pass-requires c κs =
     let k1 = c.before.before in
     let k2 = k1.before in
@@ -69,7 +69,7 @@ accepted-requires : tie.Need-accepted-requires
 accepted-requires c κs = (rw (c.cons.ensures, c.before.behind.ensures.0), c.before.behind.ensures.1)
 
 returns-4 : tie.Need-returns-4
-unfolding stepAnswer
+unfolding step_answer
 returns-4 c =
     let k0 = c.before in
     let k1 = k0.before in

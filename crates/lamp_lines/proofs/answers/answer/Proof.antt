@@ -1,6 +1,6 @@
 -- The parts, one after the other.
 use Rattle.text.proofs.WriteLaws.{written-more}
-use Rattle.lamp_lines.specs.Answers.{answerText}
+use Rattle.lamp_lines.specs.Answers.{answer_text}
 use borrow.Author.Rules.{rules}
 use Rattle.lamp_lines.proofs.answers.answer.Statement.{statement}
 use Rattle.lamp_lines.proofs.answers.answer.Tie as tie
@@ -27,7 +27,7 @@ same_length : tie.Need-same-length
 same_length c = search rules
 
 returns : tie.Need-returns
-unfolding answerText
+unfolding answer_text
 returns c =
     let end = c.before.before in
     let second = end.before.before.before.before in

@@ -6,7 +6,7 @@ use lib.ListN.{length, take, length-take}
 use lib.Seq.{get_or-take}
 use borrow.Author.Tests.{eq-eqb, ne_eqb}
 use Rattle.text.specs.Written.{Written}
-use Rattle.lamp_lines.specs.Answers.{numbersText, noticesText}
+use Rattle.lamp_lines.specs.Answers.{numbers_text, notices_text}
 use Rattle.lamp_lines.proofs.NumbersLaws.{Numbered, numbered_next, numbered-all}
 use borrow.Author.Rules.{rules}
 use Rattle.lamp_lines.proofs.answers.notices.Statement.{statement}
@@ -14,7 +14,7 @@ use Rattle.lamp_lines.proofs.answers.notices.Tie as tie
 
 abbrev invariant-loop : tie.invariant-loop
 invariant-loop out₀ at places len end₀ i₀ out end i =
-    (i ≤ 16) × (length out ≡ length out₀) × Numbered out₀ at (numbersText (take len places)) out end (take len places) i
+    (i ≤ 16) × (length out ≡ length out₀) × Numbered out₀ at (numbers_text (take len places)) out end (take len places) i
 
 abbrev decreases-loop : tie.decreases-loop
 decreases-loop out₀ at places len end₀ i₀ out end i = 16 - i
@@ -30,8 +30,8 @@ start c = c.before.before.before.before
 
 -- at the length, or at the last place, all is written
 all-written : (c : tie.At-loop invariant-loop decreases-loop) → min (start c).args.list.len 16 ≤ c.loop.i
-    → Written (start c).args.out.now (start c).args.at (noticesText (start c).args.list) c.loop.out c.loop.end
-unfolding noticesText
+    → Written (start c).args.out.now (start c).args.at (notices_text (start c).args.list) c.loop.out c.loop.end
+unfolding notices_text
 all-written c h =
     let list = (start c).args.list in
     rw (ne_eqb _ _ c.before.if1.false)
@@ -47,7 +47,7 @@ same_length : tie.Need-same-length invariant-loop decreases-loop
 same_length c = search rules
 
 returns : tie.Need-returns invariant-loop decreases-loop
-unfolding noticesText
+unfolding notices_text
 returns c = rw (eq-eqb _ _ c.before.before.before.before.before.if1.true) c.before.before.text.ensures
 
 loop-holds : tie.Need-loop-init invariant-loop decreases-loop

@@ -1,6 +1,6 @@
 -- A blank, then the digits.
 use Rattle.text.proofs.WriteLaws.{written-more}
-use Rattle.lamp_lines.specs.Answers.{numberText}
+use Rattle.lamp_lines.specs.Answers.{number_text}
 use borrow.Author.Rules.{rules}
 use Rattle.lamp_lines.proofs.answers.number.Statement.{statement}
 use Rattle.lamp_lines.proofs.answers.number.Tie as tie
@@ -15,7 +15,7 @@ same_length : tie.Need-same-length
 same_length c = search rules
 
 returns : tie.Need-returns
-unfolding numberText
+unfolding number_text
 returns c = search written-more
 
 pub number-spec : {M : Type 1} → statement M

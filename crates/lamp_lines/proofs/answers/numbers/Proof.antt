@@ -2,7 +2,7 @@
 use mathlib.Core.Path.{◌≡◌, refl}
 use Prim.Native.Nat.{◌-◌, ◌≤◌}
 use lib.ListN.{length}
-use Rattle.lamp_lines.specs.Answers.{numbersText}
+use Rattle.lamp_lines.specs.Answers.{numbers_text}
 use Rattle.lamp_lines.proofs.NumbersLaws.{Numbered, numbered_next, numbered-all}
 use borrow.Author.Rules.{rules}
 use Rattle.lamp_lines.proofs.answers.numbers.Statement.{statement}
@@ -10,7 +10,7 @@ use Rattle.lamp_lines.proofs.answers.numbers.Tie as tie
 
 abbrev invariant-loop : tie.invariant-loop
 invariant-loop out₀ at list end₀ i₀ out end i =
-    (i ≤ length list) × (length out ≡ length out₀) × Numbered out₀ at (numbersText list) out end list i
+    (i ≤ length list) × (length out ≡ length out₀) × Numbered out₀ at (numbers_text list) out end list i
 
 abbrev decreases-loop : tie.decreases-loop
 decreases-loop out₀ at list end₀ i₀ out end i = length list - i

@@ -1,6 +1,6 @@
 -- A blank, then the digits.
 use Rattle.text.proofs.WriteLaws.{written-more}
-use Rattle.lamp_lines.specs.Answers.{signedText}
+use Rattle.lamp_lines.specs.Answers.{signed_text}
 use mir.Syntax.{w64}
 use mir.ValLaws.{to_z-of_z}
 use borrow.Author.Rules.{rules}
@@ -17,7 +17,7 @@ same_length : tie.Need-same-length
 same_length c = search rules
 
 returns : tie.Need-returns
-unfolding signedText
+unfolding signed_text
 returns c =
     let digits = c.before.before in
     let blank = digits.before.before.before.before in

@@ -2,13 +2,13 @@
 use Prim.Native.Nat.{ℕ}
 use mathlib.Core.Path.{sym, ◌∙◌}
 use borrow.Author.Rules.{rules}
-use Rattle.matter.specs.Numbers.{enhancedColorModeNumber, enhancedColorModes}
+use Rattle.matter.specs.Numbers.{enhanced_color_mode_number, enhanced_color_modes}
 use Rattle.matter.specs.declared.enums.EnhancedColorModeEnum.{EnhancedColorModeEnum}
 use Rattle.matter.specs.declared.enums.EnhancedColorModeFound.{EnhancedColorModeFound}
 use Rattle.text.specs.Words.{lost}
 use Rattle.text.specs.Readers.{Read}
 use Rattle.text.proofs.ReadLaws.{reads}
-use Rattle.lamp_lines.specs.Enums.{enhancedModeAt}
+use Rattle.lamp_lines.specs.Enums.{enhanced_mode_at}
 use Rattle.lamp_lines.proofs.EnumLaws.{found}
 use Rattle.lamp_lines.proofs.enums.enhanced_mode.Statement.{statement}
 use Rattle.lamp_lines.proofs.enums.enhanced_mode.Tie as tie
@@ -30,19 +30,19 @@ enum_told : tie.Need-enum-told
 enum_told c = search rules
 
 returns : tie.Need-returns
-unfolding enhancedModeAt
+unfolding enhanced_mode_at
 returns c =
     let at-of-number = c.before.before.before in
     reads
-    (found enhancedColorModeNumber EnhancedColorModeFound.Known EnhancedColorModeFound.Reserved enhancedColorModes made _ _ at-of-number.before.number-8.ensures
+    (found enhanced_color_mode_number EnhancedColorModeFound.Known EnhancedColorModeFound.Reserved enhanced_color_modes made _ _ at-of-number.before.number-8.ensures
     (sym c.before.mode.given.1 ∙ at-of-number.of_number.ensures))
 
 returns-2 : tie.Need-returns-2
-unfolding enhancedModeAt
+unfolding enhanced_mode_at
 returns-2 c =
     let at-of-number = c.before.before in
     reads
-    (found enhancedColorModeNumber EnhancedColorModeFound.Known EnhancedColorModeFound.Reserved enhancedColorModes made _ _ at-of-number.before.number-8.ensures
+    (found enhanced_color_mode_number EnhancedColorModeFound.Known EnhancedColorModeFound.Reserved enhanced_color_modes made _ _ at-of-number.before.number-8.ensures
     (sym c.enum_told.given.1 ∙ at-of-number.of_number.ensures))
 
 pub enhanced-mode-spec : {M : Type 1} → statement M

@@ -2,13 +2,13 @@
 use Prim.Native.Nat.{ℕ}
 use mathlib.Core.Path.{sym, ◌∙◌}
 use borrow.Author.Rules.{rules}
-use Rattle.matter.specs.Numbers.{moveModeNumber, moveModes}
+use Rattle.matter.specs.Numbers.{move_mode_number, move_modes}
 use Rattle.matter.specs.declared.enums.MoveModeEnum.{MoveModeEnum}
 use Rattle.matter.specs.declared.enums.MoveModeFound.{MoveModeFound}
 use Rattle.text.specs.Words.{lost}
 use Rattle.text.specs.Readers.{Read}
 use Rattle.text.proofs.ReadLaws.{reads}
-use Rattle.lamp_lines.specs.Enums.{moveModeAt}
+use Rattle.lamp_lines.specs.Enums.{move_mode_at}
 use Rattle.lamp_lines.proofs.EnumLaws.{found}
 use Rattle.lamp_lines.proofs.enums.move_mode.Statement.{statement}
 use Rattle.lamp_lines.proofs.enums.move_mode.Tie as tie
@@ -30,19 +30,19 @@ enum_told : tie.Need-enum-told
 enum_told c = search rules
 
 returns : tie.Need-returns
-unfolding moveModeAt
+unfolding move_mode_at
 returns c =
     let at-of-number = c.before.before.before in
     reads
-    (found moveModeNumber MoveModeFound.Known MoveModeFound.Reserved moveModes made _ _ at-of-number.before.number-8.ensures
+    (found move_mode_number MoveModeFound.Known MoveModeFound.Reserved move_modes made _ _ at-of-number.before.number-8.ensures
     (sym c.before.mode.given.1 ∙ at-of-number.of_number.ensures))
 
 returns-2 : tie.Need-returns-2
-unfolding moveModeAt
+unfolding move_mode_at
 returns-2 c =
     let at-of-number = c.before.before in
     reads
-    (found moveModeNumber MoveModeFound.Known MoveModeFound.Reserved moveModes made _ _ at-of-number.before.number-8.ensures
+    (found move_mode_number MoveModeFound.Known MoveModeFound.Reserved move_modes made _ _ at-of-number.before.number-8.ensures
     (sym c.enum_told.given.1 ∙ at-of-number.of_number.ensures))
 
 pub move-mode-spec : {M : Type 1} → statement M

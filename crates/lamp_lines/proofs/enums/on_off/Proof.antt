@@ -5,7 +5,7 @@ use lib.ListN.{drop}
 use Rattle.matter.specs.declared.enums.OnOff.{OnOff}
 use Rattle.text.specs.Readers.{Reader, Row, unknown}
 use Rattle.text.proofs.NamedLaws.{Left, pass, take, rest, whole-table}
-use Rattle.lamp_lines.specs.Enums.{onOffs, onOffAt}
+use Rattle.lamp_lines.specs.Enums.{on_offs, on_off_at}
 use borrow.Author.Rules.{rules}
 use Rattle.lamp_lines.proofs.enums.on_off.Statement.{statement}
 use Rattle.lamp_lines.proofs.enums.on_off.Tie as tie
@@ -16,29 +16,29 @@ other = unknown OnOff.NoHandler
 -- these rows are left
 abbrev Rows : tie.After-end → List (Row OnOff) → Type 0
 Rows s rows =
-    Left (onOffAt s.before.before.before.args.line.now s.before.before.before.args.at) rows other
+    Left (on_off_at s.before.before.before.args.line.now s.before.before.before.args.at) rows other
     s.before.before.before.args.line.now s.before.start.result s.end.result
 
-all : (s : tie.After-end) → Rows s onOffs
-unfolding onOffAt
+all : (s : tie.After-end) → Rows s on_offs
+unfolding on_off_at
 all s = whole-table _ _ _ _ _ _ s.before.start.ensures s.end.ensures
 
 abbrev from1 : tie.Else1 → tie.After-end
 from1 c = c.before.before.before
 
-past1 : (c : tie.Else1) → Rows (from1 c) (drop 1 onOffs)
+past1 : (c : tie.Else1) → Rows (from1 c) (drop 1 on_offs)
 past1 c = pass (all (from1 c)) c.before.is.ensures c.if1.false
 
 abbrev from2 : tie.Else2 → tie.After-end
 from2 c = from1 c.before.before.before
 
-past2 : (c : tie.Else2) → Rows (from2 c) (drop 2 onOffs)
+past2 : (c : tie.Else2) → Rows (from2 c) (drop 2 on_offs)
 past2 c = pass (past1 c.before.before.before) c.before.is2.ensures c.if2.false
 
 abbrev from3 : tie.Else3 → tie.After-end
 from3 c = from2 c.before.before.before
 
-past3 : (c : tie.Else3) → Rows (from3 c) (drop 3 onOffs)
+past3 : (c : tie.Else3) → Rows (from3 c) (drop 3 on_offs)
 past3 c = pass (past2 c.before.before.before) c.before.is3.ensures c.if3.false
 
 start-requires : tie.Need-start-requires

@@ -2,13 +2,13 @@
 use Prim.Native.Nat.{ℕ}
 use mathlib.Core.Path.{sym, ◌∙◌}
 use borrow.Author.Rules.{rules}
-use Rattle.matter.specs.Numbers.{directionNumber, directions}
+use Rattle.matter.specs.Numbers.{direction_number, directions}
 use Rattle.matter.specs.declared.enums.DirectionEnum.{DirectionEnum}
 use Rattle.matter.specs.declared.enums.DirectionFound.{DirectionFound}
 use Rattle.text.specs.Words.{lost}
 use Rattle.text.specs.Readers.{Read}
 use Rattle.text.proofs.ReadLaws.{reads}
-use Rattle.lamp_lines.specs.Enums.{directionAt}
+use Rattle.lamp_lines.specs.Enums.{direction_at}
 use Rattle.lamp_lines.proofs.EnumLaws.{found}
 use Rattle.lamp_lines.proofs.enums.path_direction.Statement.{statement}
 use Rattle.lamp_lines.proofs.enums.path_direction.Tie as tie
@@ -30,19 +30,19 @@ enum_told : tie.Need-enum-told
 enum_told c = search rules
 
 returns : tie.Need-returns
-unfolding directionAt
+unfolding direction_at
 returns c =
     let at-of-number = c.before.before.before in
     reads
-    (found directionNumber DirectionFound.Known DirectionFound.Reserved directions made _ _ at-of-number.before.number-8.ensures
+    (found direction_number DirectionFound.Known DirectionFound.Reserved directions made _ _ at-of-number.before.number-8.ensures
     (sym c.before.direction.given.1 ∙ at-of-number.of_number.ensures))
 
 returns-2 : tie.Need-returns-2
-unfolding directionAt
+unfolding direction_at
 returns-2 c =
     let at-of-number = c.before.before in
     reads
-    (found directionNumber DirectionFound.Known DirectionFound.Reserved directions made _ _ at-of-number.before.number-8.ensures
+    (found direction_number DirectionFound.Known DirectionFound.Reserved directions made _ _ at-of-number.before.number-8.ensures
     (sym c.enum_told.given.1 ∙ at-of-number.of_number.ensures))
 
 pub path-direction-spec : {M : Type 1} → statement M

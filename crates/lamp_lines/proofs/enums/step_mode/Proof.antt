@@ -2,13 +2,13 @@
 use Prim.Native.Nat.{ℕ}
 use mathlib.Core.Path.{sym, ◌∙◌}
 use borrow.Author.Rules.{rules}
-use Rattle.matter.specs.Numbers.{stepModeNumber, stepModes}
+use Rattle.matter.specs.Numbers.{step_mode_number, step_modes}
 use Rattle.matter.specs.declared.enums.StepModeEnum.{StepModeEnum}
 use Rattle.matter.specs.declared.enums.StepModeFound.{StepModeFound}
 use Rattle.text.specs.Words.{lost}
 use Rattle.text.specs.Readers.{Read}
 use Rattle.text.proofs.ReadLaws.{reads}
-use Rattle.lamp_lines.specs.Enums.{stepModeAt}
+use Rattle.lamp_lines.specs.Enums.{step_mode_at}
 use Rattle.lamp_lines.proofs.EnumLaws.{found}
 use Rattle.lamp_lines.proofs.enums.step_mode.Statement.{statement}
 use Rattle.lamp_lines.proofs.enums.step_mode.Tie as tie
@@ -30,19 +30,19 @@ enum_told : tie.Need-enum-told
 enum_told c = search rules
 
 returns : tie.Need-returns
-unfolding stepModeAt
+unfolding step_mode_at
 returns c =
     let at-of-number = c.before.before.before in
     reads
-    (found stepModeNumber StepModeFound.Known StepModeFound.Reserved stepModes made _ _ at-of-number.before.number-8.ensures
+    (found step_mode_number StepModeFound.Known StepModeFound.Reserved step_modes made _ _ at-of-number.before.number-8.ensures
     (sym c.before.mode.given.1 ∙ at-of-number.of_number.ensures))
 
 returns-2 : tie.Need-returns-2
-unfolding stepModeAt
+unfolding step_mode_at
 returns-2 c =
     let at-of-number = c.before.before in
     reads
-    (found stepModeNumber StepModeFound.Known StepModeFound.Reserved stepModes made _ _ at-of-number.before.number-8.ensures
+    (found step_mode_number StepModeFound.Known StepModeFound.Reserved step_modes made _ _ at-of-number.before.number-8.ensures
     (sym c.enum_told.given.1 ∙ at-of-number.of_number.ensures))
 
 pub step-mode-spec : {M : Type 1} → statement M

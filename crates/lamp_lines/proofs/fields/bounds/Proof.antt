@@ -1,5 +1,5 @@
 -- Two numbers, one behind the other.
-use Rattle.lamp_lines.specs.Fields.{boundsAt}
+use Rattle.lamp_lines.specs.Fields.{bounds_at}
 use Rattle.text.proofs.ReadLaws.{reads}
 use borrow.Author.Rules.{rules}
 use Rattle.lamp_lines.proofs.fields.bounds.Statement.{statement}
@@ -12,7 +12,7 @@ number-16-requires-2 : tie.Need-number-16-requires-2
 number-16-requires-2 c κs = search rules
 
 returns : tie.Need-returns
-unfolding boundsAt
+unfolding bounds_at
 returns c = reads (simp (c.number-162.ensures, c.before.number-16.ensures))
 
 pub bounds-spec : {M : Type 1} → statement M

@@ -1,5 +1,5 @@
 -- The stamps, three numbers and two modes, one behind the other.
-use Rattle.lamp_lines.specs.Fields.{colorAt}
+use Rattle.lamp_lines.specs.Fields.{color_at}
 use Rattle.text.proofs.ReadLaws.{reads}
 use borrow.Author.Rules.{rules}
 use Rattle.lamp_lines.proofs.fields.color.Statement.{statement}
@@ -24,7 +24,7 @@ enhanced-mode-requires : tie.Need-enhanced-mode-requires
 enhanced-mode-requires c κs = search rules
 
 returns : tie.Need-returns
-unfolding colorAt
+unfolding color_at
 returns c = reads (simp (c.enhanced-mode.ensures.0, c.enhanced-mode.ensures.1, c.before.color-mode.ensures.0, c.before.color-mode.ensures.1, c.before.before.number-162.ensures, c.before.before.before.number-8.ensures, c.before.before.before.before.number-16.ensures, c.before.before.before.before.before.before.stamps.ensures.0, c.before.before.before.before.before.before.stamps.ensures.1))
 
 pub color-spec : {M : Type 1} → statement M

@@ -1,5 +1,5 @@
 -- The bounds, three numbers, the colour and the loop, one behind the other.
-use Rattle.lamp_lines.specs.Fields.{idleLampAt}
+use Rattle.lamp_lines.specs.Fields.{idle_lamp_at}
 use Rattle.text.proofs.ReadLaws.{reads}
 use borrow.Author.Rules.{rules}
 use Rattle.lamp_lines.proofs.fields.idle_lamp.Statement.{statement}
@@ -24,7 +24,7 @@ loop-settings-requires : tie.Need-loop-settings-requires
 loop-settings-requires c κs = search rules
 
 returns : tie.Need-returns
-unfolding idleLampAt
+unfolding idle_lamp_at
 returns c = reads (simp (c.before.loop-settings.ensures.0, c.before.loop-settings.ensures.1, c.before.before.before.color.ensures.0, c.before.before.before.color.ensures.1, c.before.before.before.before.number-16.ensures, c.before.before.before.before.before.number-8.ensures, c.before.before.before.before.before.before.number-64.ensures, c.before.before.before.before.before.before.before.before.bounds.ensures.0, c.before.before.before.before.before.before.before.before.bounds.ensures.1))
 
 pub idle-lamp-spec : {M : Type 1} → statement M

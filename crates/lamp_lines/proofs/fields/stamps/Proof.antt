@@ -1,5 +1,5 @@
 -- Three numbers, one behind the other.
-use Rattle.lamp_lines.specs.Fields.{stampsAt}
+use Rattle.lamp_lines.specs.Fields.{stamps_at}
 use Rattle.text.proofs.ReadLaws.{reads}
 use borrow.Author.Rules.{rules}
 use Rattle.lamp_lines.proofs.fields.stamps.Statement.{statement}
@@ -15,7 +15,7 @@ number-64-requires-3 : tie.Need-number-64-requires-3
 number-64-requires-3 c κs = search rules
 
 returns : tie.Need-returns
-unfolding stampsAt
+unfolding stamps_at
 returns c = reads (simp (c.number-643.ensures, c.before.number-642.ensures, c.before.before.number-64.ensures))
 
 pub stamps-spec : {M : Type 1} → statement M

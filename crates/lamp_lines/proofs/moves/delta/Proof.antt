@@ -2,7 +2,7 @@
 use mir.ValLaws.{to_z-of_z}
 use mir.Syntax.{w64}
 use mir.Val.{SFits}
-use Rattle.lamp_lines.specs.Moves.{deltaAt}
+use Rattle.lamp_lines.specs.Moves.{delta_at}
 use mathlib.Core.Path.{refl}
 use Rattle.text.proofs.ReadLaws.{reads, here, past}
 use borrow.Author.Rules.{rules}
@@ -22,7 +22,7 @@ end-requires : tie.Need-end-requires
 end-requires c κs = search rules
 
 returns : tie.Need-returns
-unfolding deltaAt
+unfolding delta_at
 returns c =
     let at-if1 = c.before in
     let at-is = at-if1.before in
@@ -35,7 +35,7 @@ signed-requires : tie.Need-signed-requires
 signed-requires c κs = search rules
 
 returns-2 : tie.Need-returns-2
-unfolding deltaAt
+unfolding delta_at
 returns-2 c =
     let at-signed = c.before in
     let fits : SFits w64 at-signed.signed.result.value = search rules in

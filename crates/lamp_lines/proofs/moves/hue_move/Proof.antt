@@ -1,5 +1,5 @@
 -- What the task asks for, word by word.
-use Rattle.lamp_lines.specs.Moves.{hueMoveAt}
+use Rattle.lamp_lines.specs.Moves.{hue_move_at}
 use Rattle.text.proofs.ReadLaws.{reads}
 use borrow.Author.Rules.{rules}
 use Rattle.lamp_lines.proofs.moves.hue_move.Statement.{statement}
@@ -15,7 +15,7 @@ flag-requires : tie.Need-flag-requires
 flag-requires c κs = search rules
 
 returns : tie.Need-returns
-unfolding hueMoveAt
+unfolding hue_move_at
 returns c = reads (simp (c.flag.ensures, c.before.number-32.ensures, c.before.before.move-mode.ensures.0, c.before.before.move-mode.ensures.1))
 
 pub hue-move-spec : {M : Type 1} → statement M

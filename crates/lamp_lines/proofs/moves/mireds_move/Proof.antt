@@ -2,7 +2,7 @@
 use mir.ValLaws.{to_z-of_z}
 use mir.Syntax.{w64}
 use mir.Val.{SFits}
-use Rattle.lamp_lines.specs.Moves.{miredsMoveAt}
+use Rattle.lamp_lines.specs.Moves.{mireds_move_at}
 use Rattle.text.proofs.ReadLaws.{reads}
 use borrow.Author.Rules.{rules}
 use Rattle.lamp_lines.proofs.moves.mireds_move.Statement.{statement}
@@ -18,7 +18,7 @@ number-16-requires-2 : tie.Need-number-16-requires-2
 number-16-requires-2 c κs = search rules
 
 returns : tie.Need-returns
-unfolding miredsMoveAt
+unfolding mireds_move_at
 returns c =
     let at-signed = c.before.before.before in
     let fits : SFits w64 at-signed.signed.result.value = search rules in

@@ -1,5 +1,5 @@
 -- What the task asks for, word by word.
-use Rattle.lamp_lines.specs.Moves.{miredsToAt}
+use Rattle.lamp_lines.specs.Moves.{mireds_to_at}
 use Rattle.text.proofs.ReadLaws.{reads}
 use borrow.Author.Rules.{rules}
 use Rattle.lamp_lines.proofs.moves.mireds_to.Statement.{statement}
@@ -12,7 +12,7 @@ number-32-requires : tie.Need-number-32-requires
 number-32-requires c κs = search rules
 
 returns : tie.Need-returns
-unfolding miredsToAt
+unfolding mireds_to_at
 returns c = reads (simp (c.number-32.ensures, c.before.number-16.ensures))
 
 pub mireds-to-spec : {M : Type 1} → statement M

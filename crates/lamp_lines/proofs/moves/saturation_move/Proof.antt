@@ -1,5 +1,5 @@
 -- What the task asks for, word by word.
-use Rattle.lamp_lines.specs.Moves.{saturationMoveAt}
+use Rattle.lamp_lines.specs.Moves.{saturation_move_at}
 use Rattle.text.proofs.ReadLaws.{reads}
 use borrow.Author.Rules.{rules}
 use Rattle.lamp_lines.proofs.moves.saturation_move.Statement.{statement}
@@ -12,7 +12,7 @@ number-32-requires : tie.Need-number-32-requires
 number-32-requires c κs = search rules
 
 returns : tie.Need-returns
-unfolding saturationMoveAt
+unfolding saturation_move_at
 returns c = reads (simp (c.number-32.ensures, c.before.move-mode.ensures.0, c.before.move-mode.ensures.1))
 
 pub saturation-move-spec : {M : Type 1} → statement M

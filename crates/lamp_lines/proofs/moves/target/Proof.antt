@@ -1,5 +1,5 @@
 -- `-`, or a number.
-use Rattle.lamp_lines.specs.Moves.{targetAt}
+use Rattle.lamp_lines.specs.Moves.{target_at}
 use mathlib.Core.Path.{refl}
 use Rattle.text.proofs.ReadLaws.{reads, here, past}
 use borrow.Author.Rules.{rules}
@@ -19,7 +19,7 @@ end-requires : tie.Need-end-requires
 end-requires c κs = search rules
 
 returns : tie.Need-returns
-unfolding targetAt
+unfolding target_at
 returns c =
     let at-if1 = c.before in
     let at-is = at-if1.before in
@@ -32,7 +32,7 @@ number-8-requires : tie.Need-number-8-requires
 number-8-requires c κs = search rules
 
 returns-2 : tie.Need-returns-2
-unfolding targetAt
+unfolding target_at
 returns-2 c =
     let at-if1 = c.before in
     let at-is = at-if1.before in

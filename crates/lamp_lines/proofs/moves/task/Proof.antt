@@ -5,7 +5,7 @@ use lib.ListN.{drop}
 use Rattle.tasks.specs.declared.Task.{Task}
 use Rattle.text.specs.Readers.{Reader, Row, unknown}
 use Rattle.text.proofs.NamedLaws.{Left, pass, take, rest}
-use Rattle.lamp_lines.specs.Moves.{tasks, taskAt}
+use Rattle.lamp_lines.specs.Moves.{tasks, task_at}
 use borrow.Author.Rules.{rules}
 use Rattle.lamp_lines.proofs.moves.task.Statement.{statement}
 use Rattle.lamp_lines.proofs.moves.task.Tie as tie
@@ -16,11 +16,11 @@ other = unknown Task.Stop
 -- these rows are left
 abbrev Rows : tie.Start → List (Row Task) → Type 0
 Rows s rows =
-    Left (taskAt s.args.line.now s.args.name s.args.at) rows other
+    Left (task_at s.args.line.now s.args.name s.args.at) rows other
     s.args.line.now s.args.name s.args.at
 
 all : (s : tie.Start) → Rows s tasks
-unfolding taskAt
+unfolding task_at
 all s = record { same = refl }
 
 abbrev from1 : tie.Else1 → tie.Start

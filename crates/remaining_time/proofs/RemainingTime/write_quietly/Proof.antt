@@ -41,7 +41,7 @@ use denote.Triple.Statement.{Contract, Triple}
 use denote.Triple.Table.{entered, cited}
 use denote.Triple.Walked.{says, Stays, stay_ref, stay_none, walk_of, AllGo, Goes-none, Goes-ref, Walks, ends_at, walked, walk_Meets}
 use denote.Exit.{yes}
-use Rattle.remaining_time.specs.RemainingTime.{writtenQuietly}
+use Rattle.remaining_time.specs.RemainingTime.{written_quietly}
 use Rattle.remaining_time.specs.declared.RemainingTime.{RemainingTime}
 use Rattle.remaining_time.specs.declared.Written.{Written}
 use Rattle.remaining_time.proofs.Owned.{NumberVals, number-vals, tenths-fit, record-in-range, own-record, own-numbers, own-all}
@@ -93,7 +93,7 @@ module _ {M : Type 1} {𝓤 : Ura M} (𝓛 : Logic 𝓤) (at_mem : Memory → SP
       (own-all 𝓛 ms start ms-fits old fits) $ nothing ! $ join ! $ frame ! $ done !
 
   abbrev Said : Written → Type 0
-  Said r = r ≡ writtenQuietly old ms start
+  Said r = r ≡ written_quietly old ms start
 
   rule-said : (r : Written) → ent 𝓤 (ensured 𝓛 rule.ended (rule.clauses 𝓛 at_mem run) tt (old, (ms, (start, tt))) tt r) (fact 𝓤 (Said r))
   rule-said r = ex_e 𝓤 _ (λ ws. snd∗ 𝓤 (sem 𝓛 (lasts rule.ended tt (old, (ms, (start, tt))) ws)) (fact 𝓤 (Said r)))

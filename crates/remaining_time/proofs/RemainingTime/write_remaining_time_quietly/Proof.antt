@@ -43,7 +43,7 @@ use denote.Triple.Table.{entered, cited}
 use denote.Triple.Walked.{says, Stays, stay_none, walk_of, AllGo, Goes-none, Walks, ends_at, walked, walk_Meets}
 use denote.Exit.{yes}
 use borrow.Table.OneValue.{part_in, part_out}
-use Rattle.remaining_time.specs.RemainingTime.{writtenQuietly}
+use Rattle.remaining_time.specs.RemainingTime.{written_quietly}
 use Rattle.remaining_time.specs.declared.RemainingTime.{RemainingTime}
 use Rattle.remaining_time.specs.declared.Written.{Written}
 use Rattle.remaining_time.proofs.Owned.{NumberVals, number-vals, tenths-fit, record-in-range, own-record, own-numbers, own-all}
@@ -103,7 +103,7 @@ module _ {M : Type 1} {𝓤 : Ura M} (𝓛 : Logic 𝓤) (at_mem : Memory → SP
       nothing ! $ move ! (2 ∷ 0 ∷ []) $ join ! $ join ! $ frame ! $ done !
 
   abbrev Said : Bool → RemainingTime → Type 0
-  Said t z = (z ≡ (writtenQuietly old ms start).remaining) × (t ≡ (writtenQuietly old ms start).reported)
+  Said t z = (z ≡ (written_quietly old ms start).remaining) × (t ≡ (written_quietly old ms start).reported)
 
   -- what is answered
   abbrev made : Bool → RemainingTime → Written

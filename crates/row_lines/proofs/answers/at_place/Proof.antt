@@ -1,5 +1,5 @@
 -- By what the line asks.
-use Rattle.row_lines.specs.RowAnswers.{answeredPlace}
+use Rattle.row_lines.specs.RowAnswers.{answered_place}
 use borrow.Author.Rules.{rules}
 use Rattle.row_lines.proofs.answers.at_place.Statement.{statement}
 use Rattle.row_lines.proofs.answers.at_place.Tie as tie
@@ -38,7 +38,7 @@ same_length : tie.Need-same-length
 same_length c = search rules
 
 returns : tie.Need-returns
-unfolding answeredPlace
+unfolding answered_place
 returns c =
     let call = c.before.before.before.before.before in
     rw (← call.before.before.asked-at.ensures, call.call.given.1) c.before.before.called.ensures
@@ -47,7 +47,7 @@ same-length-2 : tie.Need-same-length-2
 same-length-2 c = search rules
 
 returns-2 : tie.Need-returns-2
-unfolding answeredPlace
+unfolding answered_place
 returns-2 c =
     let shown = c.before.before.before.before in
     let lamp = shown.before.before in
@@ -57,7 +57,7 @@ same-length-3 : tie.Need-same-length-3
 same-length-3 c = search rules
 
 returns-3 : tie.Need-returns-3
-unfolding answeredPlace
+unfolding answered_place
 returns-3 c =
     let what = c.before.before.before.before.before in
     rw (← what.before.before.asked-at.ensures, what.what.given.1) c.before.before.edited-on.ensures
@@ -66,7 +66,7 @@ same-length-4 : tie.Need-same-length-4
 same-length-4 c = search rules
 
 returns-4 : tie.Need-returns-4
-unfolding answeredPlace
+unfolding answered_place
 returns-4 c =
     let none = c.before.before.before.before in
     rw (← none.before.before.asked-at.ensures, none.enum_told.given.1) c.before.before.error.ensures

@@ -1,7 +1,7 @@
 -- The lamp's answer, then the row.
 use mathlib.Core.Path.{refl}
 use Rattle.text.proofs.WriteLaws.{written-more}
-use Rattle.row_lines.specs.RowAnswers.{calledAt}
+use Rattle.row_lines.specs.RowAnswers.{called_at}
 use borrow.Author.Rules.{rules}
 use Rattle.row_lines.proofs.answers.called.Statement.{statement}
 use Rattle.row_lines.proofs.answers.called.Tie as tie
@@ -19,7 +19,7 @@ same_length : tie.Need-same-length
 same_length c = search rules
 
 returns : tie.Need-returns
-unfolding calledAt
+unfolding called_at
 returns c =
     let own = c.before.before.before.before.before.before in
     let call = own.before.before.before in

@@ -1,7 +1,7 @@
 -- The test is the definition's; then the answer, and the row.
 use mathlib.Core.Path.{refl}
 use Rattle.text.proofs.WriteLaws.{written-more}
-use Rattle.row_lines.specs.RowAnswers.{editedAt}
+use Rattle.row_lines.specs.RowAnswers.{edited_at}
 use borrow.Author.Rules.{rules}
 use Rattle.row_lines.proofs.answers.edited.Statement.{statement}
 use Rattle.row_lines.proofs.answers.edited.Tie as tie
@@ -13,7 +13,7 @@ same_length : tie.Need-same-length
 same_length c = search rules
 
 returns : tie.Need-returns
-unfolding editedAt
+unfolding edited_at
 returns c = rw c.before.before.before.before.if1.true c.before.before.error.ensures
 
 with-lamp-requires : tie.Need-with-lamp-requires
@@ -29,7 +29,7 @@ same-length-2 : tie.Need-same-length-2
 same-length-2 c = search rules
 
 returns-2 : tie.Need-returns-2
-unfolding editedAt
+unfolding edited_at
 returns-2 c =
     let own = c.before.before.before.before.before.before in
     let put = own.before.before in

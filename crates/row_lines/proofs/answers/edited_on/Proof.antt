@@ -1,5 +1,5 @@
 -- Past place 31 there is no lamp; else the lamp there is edited.
-use Rattle.row_lines.specs.RowAnswers.{editedAt}
+use Rattle.row_lines.specs.RowAnswers.{edited_at}
 use Rattle.row_lines.proofs.Turns.{missing-past}
 use borrow.Author.Rules.{rules}
 use Rattle.row_lines.proofs.answers.edited_on.Statement.{statement}
@@ -12,7 +12,7 @@ same_length : tie.Need-same-length
 same_length c = search rules
 
 returns : tie.Need-returns
-unfolding editedAt
+unfolding edited_at
 returns c =
     let test = c.before.before.before.before in
     let a = test.before.before.args in

@@ -1,9 +1,9 @@
--- What is lentBytes, with what is left to fill, is the whole.
+-- What is lent_bytes, with what is left to fill, is the whole.
 use Prim.Native.Nat.{◌+◌, ◌≤◌, ◌-◌}
 use mathlib.Core.Path.{◌≡◌, refl}
 use mathlib.Core.List.{◌++◌}
 use lib.ListN.{length, take, length-set}
-use Rattle.row_lines.specs.RowAnswers.{lentBytes}
+use Rattle.row_lines.specs.RowAnswers.{lent_bytes}
 use Rattle.row_lines.proofs.Lent.{rest, rest_all, lent-more, lent-all}
 use borrow.Author.Rules.{rules}
 use Rattle.row_lines.proofs.answers.fill.Statement.{statement}
@@ -11,7 +11,7 @@ use Rattle.row_lines.proofs.answers.fill.Tie as tie
 
 abbrev invariant-loop : tie.invariant-loop
 invariant-loop bytes₀ from i₀ bytes i =
-    (i ≤ length bytes₀) × (length bytes ≡ length bytes₀) × (take i bytes ++ rest from (length bytes₀) i ≡ lentBytes from (length bytes₀))
+    (i ≤ length bytes₀) × (length bytes ≡ length bytes₀) × (take i bytes ++ rest from (length bytes₀) i ≡ lent_bytes from (length bytes₀))
 
 abbrev decreases-loop : tie.decreases-loop
 decreases-loop bytes₀ from i₀ bytes i = length bytes₀ - i

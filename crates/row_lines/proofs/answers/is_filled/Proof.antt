@@ -3,14 +3,14 @@ use Prim.Native.Nat.{◌≤◌, ◌-◌}
 use mathlib.Core.Path.{◌≡◌, ap, sym, ◌∙◌}
 use lib.ListN.{length, drop}
 use Rattle.text.specs.Words.{same}
-use Rattle.row_lines.specs.RowAnswers.{lentBytes}
+use Rattle.row_lines.specs.RowAnswers.{lent_bytes}
 use Rattle.row_lines.proofs.Lent.{rest, rest_all, same_more, same_not, same-all}
 use borrow.Author.Rules.{rules}
 use Rattle.row_lines.proofs.answers.is_filled.Statement.{statement}
 use Rattle.row_lines.proofs.answers.is_filled.Tie as tie
 
 abbrev invariant-loop : tie.invariant-loop
-invariant-loop bytes from i₀ i = (i ≤ length bytes) × (same (drop i bytes) (rest from (length bytes) i) ≡ same bytes (lentBytes from (length bytes)))
+invariant-loop bytes from i₀ i = (i ≤ length bytes) × (same (drop i bytes) (rest from (length bytes) i) ≡ same bytes (lent_bytes from (length bytes)))
 
 abbrev decreases-loop : tie.decreases-loop
 decreases-loop bytes from i₀ i = length bytes - i

@@ -1,5 +1,5 @@
 -- The test is the definition's.
-use Rattle.row_lines.specs.RowAnswers.{keptText}
+use Rattle.row_lines.specs.RowAnswers.{kept_text}
 use borrow.Author.Rules.{rules}
 use Rattle.row_lines.proofs.answers.kept.Statement.{statement}
 use Rattle.row_lines.proofs.answers.kept.Tie as tie
@@ -17,7 +17,7 @@ same_length : tie.Need-same-length
 same_length c = search rules
 
 returns : tie.Need-returns
-unfolding keptText
+unfolding kept_text
 returns c =
     let test = c.before.before.before.before.before in
     rw (← test.before.is-filled.ensures, test.if1.true) c.before.before.text.ensures
@@ -32,7 +32,7 @@ same-length-2 : tie.Need-same-length-2
 same-length-2 c = search rules
 
 returns-2 : tie.Need-returns-2
-unfolding keptText
+unfolding kept_text
 returns-2 c =
     let test = c.before.before.before.before.before in
     rw (← test.before.is-filled.ensures, test.if1.false) c.before.before.text2.ensures

@@ -1,5 +1,5 @@
 -- By what is done.
-use Rattle.row_lines.specs.RowAnswers.{onRow}
+use Rattle.row_lines.specs.RowAnswers.{on_row}
 use borrow.Author.Rules.{rules}
 use Rattle.row_lines.proofs.answers.on_row.Statement.{statement}
 use Rattle.row_lines.proofs.answers.on_row.Tie as tie
@@ -35,7 +35,7 @@ same_length : tie.Need-same-length
 same_length c = search rules
 
 returns : tie.Need-returns
-unfolding onRow
+unfolding on_row
 returns c =
     let count = c.before.before.before.before in
     rw (count.before.before.what.given.1, ← count.with-count.ensures) c.before.before.shown.ensures
@@ -44,21 +44,21 @@ same-length-2 : tie.Need-same-length-2
 same-length-2 c = search rules
 
 returns-2 : tie.Need-returns-2
-unfolding onRow
+unfolding on_row
 returns-2 c = rw c.before.before.before.before.enum_told.given.1 c.before.before.shown2.ensures
 
 same-length-3 : tie.Need-same-length-3
 same-length-3 c = search rules
 
 returns-3 : tie.Need-returns-3
-unfolding onRow
+unfolding on_row
 returns-3 c = rw c.before.before.before.before.before.what2.given.1 c.before.before.step.ensures
 
 same-length-4 : tie.Need-same-length-4
 same-length-4 c = search rules
 
 returns-4 : tie.Need-returns-4
-unfolding onRow
+unfolding on_row
 returns-4 c = rw c.before.before.before.before.before.what3.given.1 c.before.before.at_place.ensures
 
 pub on-row-spec : {M : Type 1} → statement M

@@ -1,6 +1,6 @@
 -- The parts, one after the other.
 use Rattle.text.proofs.WriteLaws.{written-more}
-use Rattle.row_lines.specs.RowAnswers.{rowText, rowSum}
+use Rattle.row_lines.specs.RowAnswers.{row_text, row_sum}
 use borrow.Author.Rules.{rules}
 use Rattle.row_lines.proofs.answers.row_numbers.Statement.{statement}
 use Rattle.row_lines.proofs.answers.row_numbers.Tie as tie
@@ -30,7 +30,7 @@ same_length : tie.Need-same-length
 same_length c = search rules
 
 returns : tie.Need-returns
-unfolding rowText rowSum
+unfolding row_text row_sum
 returns c =
     let last = c.before.before in
     let sum = last.before in

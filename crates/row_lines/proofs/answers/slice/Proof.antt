@@ -1,7 +1,7 @@
 -- The test is the definition's.
 use borrow.Author.Tests.{eq-eqb, ne_eqb}
 use Rattle.text.proofs.WriteLaws.{written-more}
-use Rattle.row_lines.specs.RowAnswers.{sliceText}
+use Rattle.row_lines.specs.RowAnswers.{slice_text}
 use borrow.Author.Rules.{rules}
 use Rattle.row_lines.proofs.answers.slice.Statement.{statement}
 use Rattle.row_lines.proofs.answers.slice.Tie as tie
@@ -16,7 +16,7 @@ same_length : tie.Need-same-length
 same_length c = search rules
 
 returns : tie.Need-returns
-unfolding sliceText
+unfolding slice_text
 returns c = rw (eq-eqb _ _ c.before.before.before.before.before.if1.true) c.before.before.text.ensures
 
 slice-aggregate-text-2 : tie.Need-slice-aggregate-text-2
@@ -32,7 +32,7 @@ same-length-2 : tie.Need-same-length-2
 same-length-2 c = search rules
 
 returns-2 : tie.Need-returns-2
-unfolding sliceText
+unfolding slice_text
 returns-2 c =
     let blank = c.before.before.before.before.before.before in
     rw (ne_eqb _ _ blank.before.before.before.if1.false) (written-more _ _ _ _ blank.text2.ensures c.before.before.hex.ensures)

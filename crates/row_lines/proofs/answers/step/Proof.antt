@@ -3,7 +3,7 @@ use native.Mathlib.Omega.{arith}
 use mathlib.Core.Path.{sym}
 use borrow.Author.Tests.{lt-ltb, le-ltb}
 use lib.Seq.{length-take-le}
-use Rattle.row_lines.specs.RowAnswers.{stepRow}
+use Rattle.row_lines.specs.RowAnswers.{step_row}
 use borrow.Author.Rules.{rules}
 use Rattle.row_lines.proofs.answers.step.Statement.{statement}
 use Rattle.row_lines.proofs.answers.step.Tie as tie
@@ -18,7 +18,7 @@ same_length : tie.Need-same-length
 same_length c = search rules
 
 returns : tie.Need-returns
-unfolding stepRow
+unfolding step_row
 returns c = rw (lt-ltb 1024 _ c.before.before.before.before.if1.true) c.before.before.error.ensures
 
 zeros-requires : tie.Need-zeros-requires
@@ -37,7 +37,7 @@ same-length-2 : tie.Need-same-length-2
 same-length-2 c = search rules
 
 returns-2 : tie.Need-returns-2
-unfolding stepRow
+unfolding step_row
 returns-2 c =
     let made = c.before.before.before in
     let space = made.before.before.before.before in

@@ -2,8 +2,8 @@
 use mathlib.Core.Path.{◌∙◌}
 use lib.ListN.{drop}
 use Rattle.text.specs.Ascii.{ascii}
-use Rattle.lamp_lines.specs.Answers.{numbersText, lampNumbers}
-use Rattle.row_lines.specs.RowAnswers.{lampText}
+use Rattle.lamp_lines.specs.Answers.{numbers_text, lamp_numbers}
+use Rattle.row_lines.specs.RowAnswers.{lamp_text}
 use Rattle.row_lines.proofs.Sums.{summed-three}
 use borrow.Author.Rules.{rules}
 use Rattle.row_lines.proofs.answers.sum_lamp.Statement.{statement}
@@ -22,14 +22,14 @@ sum-text-requires : tie.Need-sum-text-requires
 sum-text-requires c κs = search rules
 
 returns : tie.Need-returns
-unfolding lampText
+unfolding lamp_text
 returns c =
     let test = c.before.before in
     let run = test.before in
     let fields = run.before in
     let a = fields.before.args in
     rw (← run.is-running.ensures, test.if1.true)
-    (c.sum-text.ensures ∙ rw fields.sum_fields.ensures (summed-three a.h (drop 1 (numbersText (lampNumbers a.lamp))) (ascii " running") (ascii "\n")))
+    (c.sum-text.ensures ∙ rw fields.sum_fields.ensures (summed-three a.h (drop 1 (numbers_text (lamp_numbers a.lamp))) (ascii " running") (ascii "\n")))
 
 slice-aggregate-sum-text-2 : tie.Need-slice-aggregate-sum-text-2
 slice-aggregate-sum-text-2 c = search rules
@@ -38,14 +38,14 @@ sum-text-requires-2 : tie.Need-sum-text-requires-2
 sum-text-requires-2 c κs = search rules
 
 returns-2 : tie.Need-returns-2
-unfolding lampText
+unfolding lamp_text
 returns-2 c =
     let test = c.before.before in
     let run = test.before in
     let fields = run.before in
     let a = fields.before.args in
     rw (← run.is-running.ensures, test.if1.false)
-    (c.sum-text2.ensures ∙ rw fields.sum_fields.ensures (summed-three a.h (drop 1 (numbersText (lampNumbers a.lamp))) (ascii " idle") (ascii "\n")))
+    (c.sum-text2.ensures ∙ rw fields.sum_fields.ensures (summed-three a.h (drop 1 (numbers_text (lamp_numbers a.lamp))) (ascii " idle") (ascii "\n")))
 
 pub sum-lamp-spec : {M : Type 1} → statement M
 sum-lamp-spec =

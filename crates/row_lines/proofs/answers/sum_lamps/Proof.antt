@@ -4,7 +4,7 @@ use mathlib.Core.Path.{◌≡◌, refl, ap, ◌∙◌}
 use native.Mathlib.Omega.{arith}
 use lib.ListN.{length, take}
 use Rattle.rows.proofs.Places.{left}
-use Rattle.row_lines.specs.RowAnswers.{summed, lampsText}
+use Rattle.row_lines.specs.RowAnswers.{summed, lamps_text}
 use Rattle.row_lines.proofs.Sums.{lamps-more, lamps-all, take_places}
 use borrow.Author.Rules.{rules}
 use Rattle.row_lines.proofs.answers.sum_lamps.Statement.{statement}
@@ -12,7 +12,7 @@ use Rattle.row_lines.proofs.answers.sum_lamps.Tie as tie
 
 abbrev invariant-loop : tie.invariant-loop
 invariant-loop count lamps n sum₀ i₀ sum i =
-    (i ≤ n) × (length lamps ≡ 32) × (summed sum (lampsText (left n i lamps)) ≡ summed 0 (lampsText (take n lamps)))
+    (i ≤ n) × (length lamps ≡ 32) × (summed sum (lamps_text (left n i lamps)) ≡ summed 0 (lamps_text (take n lamps)))
 
 abbrev decreases-loop : tie.decreases-loop
 decreases-loop count lamps n sum₀ i₀ sum i = n - i

@@ -2,7 +2,7 @@
 use Prim.Native.Nat.{◌≤◌, ◌-◌}
 use mathlib.Core.Path.{◌≡◌, refl}
 use lib.ListN.{length, drop}
-use Rattle.lamp_lines.specs.Answers.{numbersText}
+use Rattle.lamp_lines.specs.Answers.{numbers_text}
 use Rattle.row_lines.specs.RowAnswers.{summed}
 use Rattle.row_lines.proofs.Sums.{numbers_more, numbers-all}
 use borrow.Author.Rules.{rules}
@@ -10,7 +10,7 @@ use Rattle.row_lines.proofs.answers.sum_numbers.Statement.{statement}
 use Rattle.row_lines.proofs.answers.sum_numbers.Tie as tie
 
 abbrev invariant-loop : tie.invariant-loop
-invariant-loop h list sum₀ i₀ sum i = (i ≤ length list) × (summed sum (numbersText (drop i list)) ≡ summed h (numbersText list))
+invariant-loop h list sum₀ i₀ sum i = (i ≤ length list) × (summed sum (numbers_text (drop i list)) ≡ summed h (numbers_text list))
 
 abbrev decreases-loop : tie.decreases-loop
 decreases-loop h list sum₀ i₀ sum i = length list - i

@@ -6,22 +6,22 @@ use lib.ListN.{drop}
 use Rattle.text.specs.Readers.{Read, Reader, Row}
 use Rattle.text.proofs.NamedLaws.{Left, pass, take, rest}
 use Rattle.row_lines.specs.declared.lines.RowLine.{RowLine}
-use Rattle.row_lines.specs.RowLines.{lampLineAt, row_lines, rowLineAt}
+use Rattle.row_lines.specs.RowLines.{lamp_line_at, row_lines, row_line_at}
 use borrow.Author.Rules.{rules}
 use Rattle.row_lines.proofs.lines.any_line.Statement.{statement}
 use Rattle.row_lines.proofs.lines.any_line.Tie as tie
 
 abbrev other : Reader RowLine
-other l p = lampLineAt l 0 p
+other l p = lamp_line_at l 0 p
 
 -- these rows are left
 abbrev Rows : tie.Start → List (Row RowLine) → Type 0
 Rows s rows =
-    Left (rowLineAt s.args.line.now s.args.at) rows other
+    Left (row_line_at s.args.line.now s.args.at) rows other
     s.args.line.now 0 s.args.at
 
 all : (s : tie.Start) → Rows s row_lines
-unfolding rowLineAt
+unfolding row_line_at
 all s = record { same = refl }
 
 abbrev from1 : tie.Else1 → tie.Start

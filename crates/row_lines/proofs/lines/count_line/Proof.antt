@@ -1,5 +1,5 @@
 use Rattle.text.proofs.ReadLaws.{reads}
-use Rattle.row_lines.specs.RowLines.{countAt}
+use Rattle.row_lines.specs.RowLines.{count_at}
 use borrow.Author.Rules.{rules}
 use Rattle.row_lines.proofs.lines.count_line.Statement.{statement}
 use Rattle.row_lines.proofs.lines.count_line.Tie as tie
@@ -8,7 +8,7 @@ number-8-requires : tie.Need-number-8-requires
 number-8-requires c κs = search rules
 
 returns : tie.Need-returns
-unfolding countAt
+unfolding count_at
 returns c = reads (simp c.number-8.ensures)
 
 pub count-line-spec : {M : Type 1} → statement M

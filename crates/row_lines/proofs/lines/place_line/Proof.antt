@@ -1,6 +1,6 @@
 -- The place, and the line behind it.
 use Rattle.text.proofs.ReadLaws.{reads}
-use Rattle.row_lines.specs.RowLines.{placeAt}
+use Rattle.row_lines.specs.RowLines.{place_at}
 use borrow.Author.Rules.{rules}
 use Rattle.row_lines.proofs.lines.place_line.Statement.{statement}
 use Rattle.row_lines.proofs.lines.place_line.Tie as tie
@@ -18,7 +18,7 @@ any-line-requires : tie.Need-any-line-requires
 any-line-requires c κs = search rules
 
 returns : tie.Need-returns
-unfolding placeAt
+unfolding place_at
 returns c =
     reads (simp (c.any-line.ensures.0, c.any-line.ensures.1, c.before.end.ensures, c.before.before.start.ensures, c.before.before.before.number-8.ensures))
 

@@ -2,7 +2,7 @@
 use native.Mathlib.Omega.{arith}
 use lib.ListN.{length}
 use borrow.Author.Tests.{eq-eqb, ne_eqb}
-use Rattle.row_lines.specs.RowLines.{rowLineRead}
+use Rattle.row_lines.specs.RowLines.{row_line_read}
 use borrow.Author.Rules.{rules}
 use Rattle.row_lines.proofs.lines.read.Statement.{statement}
 use Rattle.row_lines.proofs.lines.read.Tie as tie
@@ -14,7 +14,7 @@ any-line-requires : tie.Need-any-line-requires
 any-line-requires c κs = search rules
 
 returns : tie.Need-returns
-unfolding rowLineRead
+unfolding row_line_read
 returns c =
     let any = c.before.before in
     let word = any.before in
@@ -22,7 +22,7 @@ returns c =
     rw (← word.end.ensures, ← any.any-line.ensures.1, ne_eqb any.any-line.result.at (length line) (λ e. omega arith))
 
 returns-2 : tie.Need-returns-2
-unfolding rowLineRead
+unfolding row_line_read
 returns-2 c =
     let any = c.before.before in
     let word = any.before in

@@ -2,7 +2,7 @@
 use mathlib.Core.Path.{◌≡◌, sym, ◌∙◌}
 use native.Mathlib.Omega.{arith}
 use borrow.Author.Tests.{ne_eqb}
-use Rattle.rows.specs.Rows.{answeredAt, placeCause}
+use Rattle.rows.specs.Rows.{answered_at, place_cause}
 use Rattle.rows.proofs.Causes.{place-there}
 use borrow.Author.Rules.{rules}
 use Rattle.rows.proofs.Row.call_at.Statement.{statement}
@@ -15,7 +15,7 @@ refused-at-requires : tie.Need-refused-at-requires
 refused-at-requires c κs = search rules
 
 returns : tie.Need-returns
-unfolding answeredAt
+unfolding answered_at
 returns c =
     let e = c.before.before.place-cause.ensures in
     let n = rw e at (ne_eqb _ _ c.before.if1.true) in
@@ -25,7 +25,7 @@ mul-lamp : tie.Need-overflow-mul-lamp
 mul-lamp c = search rules
 
 -- no cause of the place's own: the place is there
-taken : (c : tie.Else1) → placeCause c.before.before.args.t1 c.before.before.args.place ≡ 0
+taken : (c : tie.Else1) → place_cause c.before.before.args.t1 c.before.before.args.place ≡ 0
 taken c = sym c.before.place-cause.ensures ∙ c.if1.false
 
 element-copy-out-lamp : tie.Need-element-copy-out-lamp
@@ -45,7 +45,7 @@ with-lamp-at-requires c κs =
     omega arith
 
 returns-2 : tie.Need-returns-2
-unfolding answeredAt
+unfolding answered_at
 returns-2 c =
     let s = c.before.before.before.before.before in
     simp (taken s, c.with-lamp-at.ensures, c.before.before.before.call.ensures)

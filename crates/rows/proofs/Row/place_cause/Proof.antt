@@ -1,7 +1,7 @@
 -- The tests are the definition's, in its order.
 use mathlib.Core.Path.{sym, ◌∙◌}
 use borrow.Author.Tests.{le-leb, lt-leb}
-use Rattle.rows.specs.Rows.{placeCause}
+use Rattle.rows.specs.Rows.{place_cause}
 use borrow.Author.Rules.{rules}
 use Rattle.rows.proofs.Row.place_cause.Statement.{statement}
 use Rattle.rows.proofs.Row.place_cause.Tie as tie
@@ -10,15 +10,15 @@ too-many-requires : tie.Need-too-many-requires
 too-many-requires c κs = search rules
 
 returns : tie.Need-returns
-unfolding placeCause
+unfolding place_cause
 returns c = simp (sym c.before.too_many.ensures ∙ c.if1.true)
 
 returns-2 : tie.Need-returns-2
-unfolding placeCause
+unfolding place_cause
 returns-2 c = simp (sym c.before.before.before.too_many.ensures ∙ c.before.before.if1.false, le-leb _ _ c.if2.true)
 
 returns-3 : tie.Need-returns-3
-unfolding placeCause
+unfolding place_cause
 returns-3 c = simp (sym c.before.before.before.too_many.ensures ∙ c.before.before.if1.false, lt-leb _ _ c.if2.false)
 
 pub place-cause-spec : {M : Type 1} → statement M

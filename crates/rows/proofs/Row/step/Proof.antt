@@ -6,7 +6,7 @@ use native.Mathlib.Nat.{zero-add}
 use native.Mathlib.Omega.{arith}
 use lib.ListN.{length, drop, take-append-drop}
 use borrow.Author.Tests.{ne_eqb}
-use Rattle.rows.specs.Rows.{placed, bytes_of, sliceCause, rowCause, rowStepped, rowBytes}
+use Rattle.rows.specs.Rows.{placed, bytes_of, slice_cause, row_cause, row_stepped, row_bytes}
 use Rattle.rows.proofs.Visiting.{by_parts}
 use Rattle.rows.proofs.Causes.{slice_first, lamps-next, slice_fits}
 use borrow.Author.Rules.{rules}
@@ -14,7 +14,7 @@ use Rattle.rows.proofs.Row.step.Statement.{statement}
 use Rattle.rows.proofs.Row.step.Tie as tie
 
 -- the slice fits
-fits : (c : tie.Else1) → let a = c.before.before.before.args in sliceCause a.self (length a.out.now) ≡ 0
+fits : (c : tie.Else1) → let a = c.before.before.before.args in slice_cause a.self (length a.out.now) ≡ 0
 fits c = sym c.before.slice-cause.ensures ∙ c.if1.false
 
 slice-cause-requires : tie.Need-slice-cause-requires
@@ -24,7 +24,7 @@ refused-requires : tie.Need-refused-requires
 refused-requires c κs = search rules
 
 returns : tie.Need-returns
-unfolding rowStepped rowBytes
+unfolding row_stepped row_bytes
 returns c =
     let a = c.before.before.before.before.args in
     let e = c.before.before.slice-cause.ensures in
@@ -52,7 +52,7 @@ refused-requires-2 c κs = search rules
 
 -- the worst of the lamps' own causes is the row's
 cause-is : (c : tie.After-first-of) →
-    let a = c.before.before.before.before.before.before.before.before.args in c.first_of.result ≡ rowCause a.self (length a.out.now) a.clock
+    let a = c.before.before.before.before.before.before.before.before.args in c.first_of.result ≡ row_cause a.self (length a.out.now) a.clock
 cause-is c =
     let a = c.before.before.before.before.before.before.before.before.args in
     let lamps = lamps-next a.self (length a.out.now) a.clock (fits c.before.before.before.before.before) in
@@ -60,7 +60,7 @@ cause-is c =
     ∙ (rw (c.before.limit-cause.ensures, c.before.before.before.visit-all.ensures.2) (sym lamps))
 
 returns-2 : tie.Need-returns-2
-unfolding rowStepped rowBytes
+unfolding row_stepped row_bytes
 returns-2 c =
     let e = cause-is c.before.before in
     let n = rw e at (ne_eqb _ _ c.before.if2.true) in
@@ -85,7 +85,7 @@ same_length : tie.Need-same-length
 same_length c = search rules
 
 returns-3 : tie.Need-returns-3
-unfolding rowStepped rowBytes
+unfolding row_stepped row_bytes
 returns-3 c =
     let first = c.before.before.before.before.before.before.before in
     let zero = sym (cause-is first) ∙ c.before.before.before.before.before.before.if2.false in

@@ -4,7 +4,7 @@ use mathlib.Core.Path.{◌≡◌, refl, ap, sym, ◌∙◌}
 use mathlib.Core.List.{◌++◌, append-nil}
 use native.Mathlib.Omega.{arith}
 use lib.ListN.{length, take}
-use Rattle.rows.specs.Rows.{mapTo, withLamps, visited, visitsCause, lesser, leastWait, bytes_of}
+use Rattle.rows.specs.Rows.{map_to, with_lamps, visited, visits_cause, lesser, least_wait, bytes_of}
 use Rattle.rows.proofs.Places.{left, left-none, length-mapped}
 use Rattle.rows.proofs.Visiting.{lesser-none, lamps-more, wait-more, cause-more, bytes-more}
 use borrow.Author.Rules.{rules}
@@ -14,9 +14,9 @@ use Rattle.rows.proofs.Row.visit_all.Tie as tie
 abbrev invariant-loop : tie.invariant-loop
 invariant-loop bytes₀ clock self n next₀ wait₀ number₀ i₀ bytes next wait number i =
     (i ≤ n) × (n ≡ self.count) × (length self.lamps ≡ 32) × (length bytes ≡ length bytes₀)
-    × (next ≡ withLamps self (mapTo i (λ l. (visited l clock).lamp) self.lamps))
-    × (lesser wait (leastWait clock (left n i self.lamps)) ≡ leastWait clock (take n self.lamps))
-    × (max number (visitsCause clock (left n i self.lamps)) ≡ visitsCause clock (take n self.lamps))
+    × (next ≡ with_lamps self (map_to i (λ l. (visited l clock).lamp) self.lamps))
+    × (lesser wait (least_wait clock (left n i self.lamps)) ≡ least_wait clock (take n self.lamps))
+    × (max number (visits_cause clock (left n i self.lamps)) ≡ visits_cause clock (take n self.lamps))
     × (take (16 * i) bytes ++ bytes_of clock (left n i self.lamps) ≡ bytes_of clock (take n self.lamps))
 
 abbrev decreases-loop : tie.decreases-loop

@@ -1,6 +1,6 @@
 -- The tests of the code are the tests of the definition, in the same order.
-use Rattle.matter.specs.All.{allTrue}
-use Rattle.tasks.specs.Valid.{hueMoveValid}
+use Rattle.matter.specs.All.{all_true}
+use Rattle.tasks.specs.Valid.{hue_move_valid}
 use borrow.Author.Rules.{rules}
 use Rattle.tasks.proofs.HueMove.is_valid.Statement.{statement}
 use Rattle.tasks.proofs.HueMove.is_valid.Tie as tie
@@ -9,7 +9,7 @@ moving-requires : tie.Need-moving-requires
 moving-requires c κs = search rules
 
 returns : tie.Need-returns
-unfolding hueMoveValid allTrue
+unfolding hue_move_valid all_true
 returns c = simp c.moving.ensures
 
 pub is-valid-spec : {M : Type 1} → statement M

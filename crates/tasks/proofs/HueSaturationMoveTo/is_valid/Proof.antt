@@ -1,6 +1,6 @@
 -- Each test is what the function called for it ensures.
-use Rattle.matter.specs.All.{allTrue}
-use Rattle.tasks.specs.Valid.{moveToValid}
+use Rattle.matter.specs.All.{all_true}
+use Rattle.tasks.specs.Valid.{move_to_valid}
 use borrow.Author.Rules.{rules}
 use Rattle.tasks.proofs.HueSaturationMoveTo.is_valid.Statement.{statement}
 use Rattle.tasks.proofs.HueSaturationMoveTo.is_valid.Tie as tie
@@ -25,7 +25,7 @@ given-requires-2 : tie.Need-given-requires-2
 given-requires-2 c κs = search rules
 
 returns : tie.Need-returns
-unfolding moveToValid allTrue
+unfolding move_to_valid all_true
 returns c =
     let at-is-valid2 = c.before.before in
     let at-is-valid = at-is-valid2.before in

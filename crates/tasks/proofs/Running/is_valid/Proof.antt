@@ -2,8 +2,8 @@
 use mir.Syntax.{w64}
 use mir.Val.{to_z, of_z}
 use mathlib.Core.Path.{◌≡◌}
-use Rattle.matter.specs.All.{allTrue}
-use Rattle.tasks.specs.Valid.{runningValid}
+use Rattle.matter.specs.All.{all_true}
+use Rattle.tasks.specs.Valid.{running_valid}
 use borrow.Author.Rules.{rules}
 use Rattle.tasks.proofs.Running.is_valid.Statement.{statement}
 use Rattle.tasks.proofs.Running.is_valid.Tie as tie
@@ -63,26 +63,26 @@ enum-known-self-6 : tie.Need-enum-known-self-6
 enum-known-self-6 c = search rules
 
 returns : tie.Need-returns
-unfolding runningValid allTrue
+unfolding running_valid all_true
 returns c = simp c.enum_told.given.1
 
 returns-2 : tie.Need-returns-2
-unfolding runningValid allTrue
+unfolding running_valid all_true
 returns-2 c =
     let at-is-valid = c.before.before.before in
     let at_self = at-is-valid.before.before.before in
     simp (at-is-valid.is-valid.ensures, at_self.self.given.1)
 
 returns-3 : tie.Need-returns-3
-unfolding runningValid allTrue
+unfolding running_valid all_true
 returns-3 c = simp (c.before.is-valid2.ensures, c.before.before.before.before.self2.given.1)
 
 returns-4 : tie.Need-returns-4
-unfolding runningValid allTrue
+unfolding running_valid all_true
 returns-4 c = simp (c.before.before.is-valid3.ensures, c.before.before.before.before.before.self3.given.1)
 
 returns-5 : tie.Need-returns-5
-unfolding runningValid allTrue
+unfolding running_valid all_true
 returns-5 c =
     let at-within-bounds = c.before.before in
     let at-is-valid-time = at-within-bounds.before.before in
@@ -94,7 +94,7 @@ read-rate : (c : tie.After-struct-told) → to_z w64 (of_z w64 c.before.before.s
 read-rate c = search rules
 
 returns-6 : tie.Need-returns-6
-unfolding runningValid allTrue
+unfolding running_valid all_true
 returns-6 c =
     let at-within-bounds4 = c.before.before in
     let at-within-bounds3 = at-within-bounds4.before.before in
@@ -104,7 +104,7 @@ returns-6 c =
     simp (read-rate at-struct, c.before.within-bounds5.ensures, at-within-bounds4.within-bounds4.ensures, at-within-bounds3.within-bounds3.ensures, at-is-valid-rate.is-valid-rate.ensures, at-self5.self5.given.1)
 
 returns-7 : tie.Need-returns-7
-unfolding runningValid allTrue
+unfolding running_valid all_true
 returns-7 c = simp c.before.self6.given.1
 
 pub is-valid-spec : {M : Type 1} → statement M

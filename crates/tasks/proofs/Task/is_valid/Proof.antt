@@ -2,7 +2,7 @@
 use mir.Syntax.{w64}
 use mir.Val.{to_z, of_z}
 use mathlib.Core.Path.{◌≡◌}
-use Rattle.tasks.specs.Valid.{taskValid}
+use Rattle.tasks.specs.Valid.{task_valid}
 use borrow.Author.Rules.{rules}
 use Rattle.tasks.proofs.Task.is_valid.Statement.{statement}
 use Rattle.tasks.proofs.Task.is_valid.Tie as tie
@@ -47,34 +47,34 @@ enum-told-2 : tie.Need-enum-told-2
 enum-told-2 c = search rules
 
 returns : tie.Need-returns
-unfolding taskValid
+unfolding task_valid
 returns c = simp (c.is-valid.ensures, c.before.before.self.given.1)
 
 returns-2 : tie.Need-returns-2
-unfolding taskValid
+unfolding task_valid
 returns-2 c = simp (c.is-valid2.ensures, c.before.before.self2.given.1)
 
 returns-3 : tie.Need-returns-3
-unfolding taskValid
+unfolding task_valid
 returns-3 c = simp (c.is-valid3.ensures, c.before.before.self3.given.1)
 
 returns-4 : tie.Need-returns-4
-unfolding taskValid
+unfolding task_valid
 returns-4 c = simp (c.is-valid-time.ensures, c.before.before.self4.given.1)
 
 returns-5 : tie.Need-returns-5
-unfolding taskValid
+unfolding task_valid
 returns-5 c =
     let at-self5 = c.before.before.before in
     let e : to_z w64 (of_z w64 at-self5.self5.given.0.0.rate) ≡ at-self5.self5.given.0.0.rate = search rules in
     simp (e, c.is-valid-rate.ensures, at-self5.self5.given.1)
 
 returns-6 : tie.Need-returns-6
-unfolding taskValid
+unfolding task_valid
 returns-6 c = simp c.enum_told.given.1
 
 returns-7 : tie.Need-returns-7
-unfolding taskValid
+unfolding task_valid
 returns-7 c = simp c.enum-told2.given.1
 
 pub is-valid-spec : {M : Type 1} → statement M

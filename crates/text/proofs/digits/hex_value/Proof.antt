@@ -2,31 +2,31 @@
 use native.Mathlib.Omega.{arith}
 use borrow.Author.Rules.{rules}
 use borrow.Author.Tests.{le-leb, lt-leb}
-use Rattle.text.specs.Digits.{hexValue}
+use Rattle.text.specs.Digits.{hex_value}
 use Rattle.text.proofs.digits.hex_value.Statement.{statement}
 use Rattle.text.proofs.digits.hex_value.Tie as tie
 
 returns : tie.Need-returns
-unfolding hexValue
+unfolding hex_value
 returns c = (simp (lt-leb _ _ c.if1.true, lt-leb 97 c.before.args.byte (omega arith)), search rules)
 
 returns-2 : tie.Need-returns-2
-unfolding hexValue
+unfolding hex_value
 returns-2 c = (simp (le-leb _ _ c.before.if1.false, le-leb _ _ c.if2.true), search rules)
 
 returns-3 : tie.Need-returns-3
-unfolding hexValue
+unfolding hex_value
 returns-3 c = (simp (lt-leb _ _ c.before.if2.false, le-leb _ _ c.before.before.if1.false, lt-leb _ _ c.if3.true), search rules)
 
 sub-result : tie.Need-overflow-sub-result
 sub-result c = search rules
 
 returns-4 : tie.Need-returns-4
-unfolding hexValue
+unfolding hex_value
 returns-4 c = (simp (lt-leb _ _ c.before.before.if2.false, le-leb _ _ c.before.before.before.if1.false, le-leb _ _ c.before.if3.false, le-leb _ _ c.if4.true), search rules)
 
 returns-5 : tie.Need-returns-5
-unfolding hexValue
+unfolding hex_value
 returns-5 c = (simp (lt-leb _ _ c.before.before.if2.false, le-leb _ _ c.before.before.before.if1.false, le-leb _ _ c.before.if3.false, lt-leb _ _ c.if4.false), search rules)
 
 pub hex-value-spec : {M : Type 1} → statement M

@@ -5,7 +5,7 @@ use mir.Syntax.{w64}
 use mir.Facts.{to_z_pos}
 use mir.ValLaws.{to_z-of_z}
 use borrow.Author.Rules.{sfits_of}
-use Rattle.text.specs.Numbers.{signedRead}
+use Rattle.text.specs.Numbers.{signed_read}
 use Rattle.text.proofs.WordLaws.{minus-inside}
 use borrow.Author.Rules.{rules}
 use Rattle.text.proofs.numbers.signed.Statement.{statement}
@@ -30,7 +30,7 @@ below-zero-requires : tie.Need-below-zero-requires
 below-zero-requires c κs = search rules
 
 returns : tie.Need-returns
-unfolding signedRead
+unfolding signed_read
 returns c =
     let found = c.before.before.before.before in
     let minus = rw found.start.ensures at (sym c.before.before.before.is-minus.ensures ∙ c.before.before.if1.true) in
@@ -43,7 +43,7 @@ cast-t9 : tie.Need-overflow-cast-t9
 cast-t9 c = search rules
 
 returns-2 : tie.Need-returns-2
-unfolding signedRead
+unfolding signed_read
 returns-2 c =
     let found = c.before.before.before.before in
     let plain = rw found.start.ensures at (sym c.before.before.before.is-minus.ensures ∙ c.before.before.if1.false) in

@@ -5,7 +5,7 @@ use mathlib.Core.Path.{sym, ◌∙◌}
 use mathlib.Core.Bool.{◌&&◌, and-false}
 use lib.ListN.{length}
 use borrow.Author.Tests.{not-true, not-false, le-leb, lt-leb}
-use Rattle.text.specs.Digits.{notEmpty}
+use Rattle.text.specs.Digits.{not_empty}
 use Rattle.text.specs.Words.{word_at, start_of}
 use Rattle.text.specs.Pairs.{isPairs, bytes_of}
 use Rattle.text.proofs.PairLaws.{bytes-half, not-bytes, are-bytes}
@@ -46,7 +46,7 @@ returns-2 c =
     let at = start.args.at in
     let w = word_at line (start_of line at) in
     let none = rw found.start.ensures at (sym pairs.are-pairs.ensures ∙ not-true _ c.before.if2.true) in
-    rw c.refused2.ensures (not-bytes line at start.args.out.now (rw (none, and-false (notEmpty w))))
+    rw c.refused2.ensures (not-bytes line at start.args.out.now (rw (none, and-false (not_empty w))))
 
 end-requires : tie.Need-end-requires
 end-requires c κs = search rules
@@ -68,7 +68,7 @@ returns-3 c =
     let w = word_at line (start_of line at) in
     let end = rw found.start.ensures at ended.end.ensures in
     let many = lt-leb (length (bytes_of w)) (length out) (omega (arith, end, found.start.ensures, bytes-half w)) in
-    rw c.refused3.ensures (not-bytes line at out (rw (many, and-false (notEmpty w && isPairs w))))
+    rw c.refused3.ensures (not-bytes line at out (rw (many, and-false (not_empty w && isPairs w))))
 
 take-pairs-requires : tie.Need-take-pairs-requires
 take-pairs-requires c κs = let pairs = c.before.before.before.before in sym pairs.are-pairs.ensures ∙ not-false _ c.before.before.before.if2.false

@@ -3,7 +3,7 @@ use native.Mathlib.Omega.{arith}
 use mathlib.Core.Path.{sym}
 use mathlib.Core.Bool.{and-false}
 use lib.ListN.{get_or, get_or-eq_default}
-use Rattle.text.specs.Digits.{isHexDigit}
+use Rattle.text.specs.Digits.{is_hex_digit}
 use Prim.Native.Nat.{◌+◌}
 use borrow.Author.Rules.{rules}
 use Rattle.text.proofs.pairs.is_pair.Statement.{statement}
@@ -13,7 +13,7 @@ sub-if1 : tie.Need-overflow-sub-if1
 sub-if1 c = search rules
 
 returns : tie.Need-returns
-returns c = rw (get_or-eq_default c.before.before.args.line.now 0 {n = c.before.before.args.at + 1} (omega arith)) (sym (and-false (isHexDigit (get_or c.before.before.args.line.now c.before.before.args.at 0))))
+returns c = rw (get_or-eq_default c.before.before.args.line.now 0 {n = c.before.before.args.at + 1} (omega arith)) (sym (and-false (is_hex_digit (get_or c.before.before.args.line.now c.before.before.args.at 0))))
 
 shared-slice-read-is-hex-digit : tie.Need-shared-slice-read-is-hex-digit
 shared-slice-read-is-hex-digit c = search rules

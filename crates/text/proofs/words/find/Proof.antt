@@ -7,7 +7,7 @@ use lib.ListN.{length, drop, drop_of_length-le, length-drop}
 use lib.Seq.{take-length}
 use Rattle.bytes.specs.Bytes.{slice}
 use Rattle.text.specs.Words.{up_to}
-use Rattle.text.proofs.WordLaws.{index_is, upTo-short}
+use Rattle.text.proofs.WordLaws.{index_is, up_to-short}
 use borrow.Author.Rules.{rules}
 use Rattle.text.proofs.words.find.Statement.{statement}
 use Rattle.text.proofs.words.find.Tie as tie
@@ -30,7 +30,7 @@ returns-2 c =
     let from = start.args.from in
     let x = start.args.byte in
     let found : c.find.result ≡ from + length (up_to x (drop from s)) = rw (take-length, index_is) at c.find.ensures.0 in
-    (found, omega arith, omega (arith, upTo-short x (drop from s), length-drop from s))
+    (found, omega arith, omega (arith, up_to-short x (drop from s), length-drop from s))
 
 pub find_spec : {M : Type 1} → statement M
 find_spec = tie.close (tie.spec returns find-requires returns-2)

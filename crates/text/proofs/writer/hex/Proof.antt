@@ -3,7 +3,7 @@ use mathlib.Core.Path.{◌≡◌, refl}
 use mathlib.Core.List.{[], ◌∷◌}
 use Prim.Native.Nat.{◌+◌, ◌-◌, ◌/◌, ◌≤◌}
 use lib.ListN.{length, drop, get_or, drop_of_length-le}
-use Rattle.text.specs.Digits.{hexDigit, hexText}
+use Rattle.text.specs.Digits.{hex_digit, hex_text}
 use Rattle.text.proofs.WordLaws.{drop-next}
 use Rattle.text.proofs.WriteLaws.{Completes, completes-less, completed}
 use borrow.Author.Rules.{rules}
@@ -11,7 +11,7 @@ use Rattle.text.proofs.writer.hex.Statement.{statement}
 use Rattle.text.proofs.writer.hex.Tie as tie
 
 abbrev invariant-loop : tie.invariant-loop
-invariant-loop out₀ at bytes end₀ i₀ out end i = (i ≤ length bytes) × (length out ≡ length out₀) × Completes out₀ at (hexText bytes) out end (hexText (drop i bytes))
+invariant-loop out₀ at bytes end₀ i₀ out end i = (i ≤ length bytes) × (length out ≡ length out₀) × Completes out₀ at (hex_text bytes) out end (hex_text (drop i bytes))
 
 abbrev decreases-loop : tie.decreases-loop
 decreases-loop out₀ at bytes end₀ i₀ out end i = length bytes - i
@@ -32,7 +32,7 @@ loop-less : tie.Need-loop-smaller invariant-loop decreases-loop
 loop-less c = search rules
 
 loop-again : tie.Need-loop-preserved invariant-loop decreases-loop
-unfolding hexText
+unfolding hex_text
 loop-again c =
     let made = c.before.before in
     let test = made.before.before.before in
@@ -41,18 +41,18 @@ loop-again c =
     let s = start.args.bytes.now in
     let i = head.loop.i in
     let left = rw (drop-next s i test.loop-test.true) at head.loop.invariant.2 in
-    (search rules, search rules, completes-less start.args.out.now start.args.at (hexText s) head.loop.out head.loop.end (hexDigit (get_or s i 0 / 16) ∷ hexDigit (get_or s i 0) ∷ []) (hexText (drop (i + 1) s)) left made.hex-byte.ensures)
+    (search rules, search rules, completes-less start.args.out.now start.args.at (hex_text s) head.loop.out head.loop.end (hex_digit (get_or s i 0 / 16) ∷ hex_digit (get_or s i 0) ∷ []) (hex_text (drop (i + 1) s)) left made.hex-byte.ensures)
 
 same_length : tie.Need-same-length invariant-loop decreases-loop
 same_length c = search rules
 
 returns : tie.Need-returns invariant-loop decreases-loop
-unfolding hexText
+unfolding hex_text
 returns c =
     let head = c.before in
     let start = head.before.before.before in
     let s = start.args.bytes.now in
-    completed start.args.out.now start.args.at (hexText s) head.loop.out head.loop.end (rw (drop_of_length-le s {i = head.loop.i} c.loop-test.false) at head.loop.invariant.2)
+    completed start.args.out.now start.args.at (hex_text s) head.loop.out head.loop.end (rw (drop_of_length-le s {i = head.loop.i} c.loop-test.false) at head.loop.invariant.2)
 
 pub hex-spec : {M : Type 1} → statement M
 hex-spec =

@@ -1,7 +1,7 @@
 -- Two digits, one after the other.
 use Prim.Native.Nat.{◌/◌}
 use mathlib.Core.List.{[], ◌∷◌}
-use Rattle.text.specs.Digits.{hexDigit}
+use Rattle.text.specs.Digits.{hex_digit}
 use Rattle.text.proofs.WriteLaws.{written-more}
 use borrow.Author.Rules.{rules}
 use Rattle.text.proofs.writer.hex_byte.Statement.{statement}
@@ -28,7 +28,7 @@ returns c =
     let high = low.before.before.before.before.before in
     let start = high.before.before.before.before in
     let b = start.args.b in
-    written-more start.args.out.now start.args.at (hexDigit (b / 16) ∷ []) (hexDigit b ∷ []) (rw high.before.hex-digit.ensures at high.byte.ensures) (rw low.before.hex-digit2.ensures at low.byte2.ensures)
+    written-more start.args.out.now start.args.at (hex_digit (b / 16) ∷ []) (hex_digit b ∷ []) (rw high.before.hex-digit.ensures at high.byte.ensures) (rw low.before.hex-digit2.ensures at low.byte2.ensures)
 
 pub hex-byte-spec : {M : Type 1} → statement M
 hex-byte-spec =

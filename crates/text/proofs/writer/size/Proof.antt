@@ -24,9 +24,9 @@ not_least : (z : ℤ) → lt_z z (negsuc 9223372036854775806) ≡ false → lt_z
 not_least (pos n) e f = omega (arith, ltb-true n 0 f)
 not_least (negsuc n) e f = omega (arith, ltb-false 9223372036854775806 n e)
 
-negated-nonNeg : (z : ℤ) → lt_z z (pos 0) ≡ true → T (non_neg (neg_ℤ z))
-negated-nonNeg (pos n) e = absurd (omega (arith, ltb-true n 0 e))
-negated-nonNeg (negsuc n) e = tt
+negated-non_neg : (z : ℤ) → lt_z z (pos 0) ≡ true → T (non_neg (neg_ℤ z))
+negated-non_neg (pos n) e = absurd (omega (arith, ltb-true n 0 e))
+negated-non_neg (negsuc n) e = tt
 
 not-below : (z : ℤ) → lt_z z (pos 0) ≡ false → T (non_neg z)
 not-below (pos n) e = tt
@@ -52,7 +52,7 @@ sub-result : tie.Need-overflow-sub-result
 sub-result c = rw (to_z-of_z w64 _ c.before.before.ranges.n, +ℤ_idl) (negated c)
 
 cast-result : tie.Need-overflow-cast-result
-cast-result c = rw (to_z-of_z w64 _ c.before.before.ranges.n, +ℤ_idl, to_z-of_z w64 _ (negated c)) (negated-nonNeg (N c) (below c), Fits-nat_abs tt (negated c))
+cast-result c = rw (to_z-of_z w64 _ c.before.before.ranges.n, +ℤ_idl, to_z-of_z w64 _ (negated c)) (negated-non_neg (N c) (below c), Fits-nat_abs tt (negated c))
 
 returns-2 : tie.Need-returns-2
 returns-2 c = rw (to_z-of_z w64 _ c.before.before.ranges.n, +ℤ_idl, to_z-of_z w64 _ (negated c)) (sizes.abs_neg (N c))

@@ -1,5 +1,5 @@
 -- `calls::CommandNumbers::command`: the definition takes the case that the tests on the way have found.
-use Rattle.exports.specs.Calls.{commandOf}
+use Rattle.exports.specs.Calls.{command_of}
 use borrow.Author.Tests.{eq-eqb, le-leb, lt-leb, ne_eqb}
 use borrow.Author.Rules.{rules}
 use Rattle.exports.proofs.calls.CommandNumbers.command.Statement.{statement}
@@ -9,28 +9,28 @@ hue-command-requires : tie.Need-hue-command-requires
 hue-command-requires c κs = search rules
 
 returns : tie.Need-returns
-unfolding commandOf
+unfolding command_of
 returns c = simp (c.hue-command.ensures, le-leb _ _ c.before.if1.true)
 
 saturation-command-requires : tie.Need-saturation-command-requires
 saturation-command-requires c κs = search rules
 
 returns-2 : tie.Need-returns-2
-unfolding commandOf
+unfolding command_of
 returns-2 c = simp (c.saturation-command.ensures, le-leb _ _ c.before.if2.true, lt-leb _ _ c.before.before.before.if1.false)
 
 loop-command-requires : tie.Need-loop-command-requires
 loop-command-requires c κs = search rules
 
 returns-3 : tie.Need-returns-3
-unfolding commandOf
+unfolding command_of
 returns-3 c =
     let at-if2 = c.before.before.before in
     let at-if1 = at-if2.before.before in
     simp (c.loop-command.ensures, eq-eqb _ _ c.before.if3.true, lt-leb _ _ at-if2.if2.false, lt-leb _ _ at-if1.if1.false)
 
 returns-4 : tie.Need-returns-4
-unfolding commandOf
+unfolding command_of
 returns-4 c =
     let at-if3 = c.before.before in
     let at-if2 = at-if3.before.before in
@@ -41,7 +41,7 @@ enhanced-command-requires : tie.Need-enhanced-command-requires
 enhanced-command-requires c κs = search rules
 
 returns-5 : tie.Need-returns-5
-unfolding commandOf
+unfolding command_of
 returns-5 c =
     let at-if4 = c.before.before.before.before in
     let at-if3 = at-if4.before.before in
@@ -53,7 +53,7 @@ mireds-command-requires : tie.Need-mireds-command-requires
 mireds-command-requires c κs = search rules
 
 returns-6 : tie.Need-returns-6
-unfolding commandOf
+unfolding command_of
 returns-6 c =
     let at-if4 = c.before.before.before.before in
     let at-if3 = at-if4.before.before in

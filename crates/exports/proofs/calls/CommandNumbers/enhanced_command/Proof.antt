@@ -1,5 +1,5 @@
 -- `calls::CommandNumbers::enhanced_command`: the definition takes the case that the tests on the way have found.
-use Rattle.exports.specs.Calls.{enhancedCommand}
+use Rattle.exports.specs.Calls.{enhanced_command}
 use borrow.Author.Tests.{eq-eqb, ne_eqb}
 use borrow.Author.Rules.{rules}
 use Rattle.exports.proofs.calls.CommandNumbers.enhanced_command.Statement.{statement}
@@ -15,7 +15,7 @@ short-requires-2 : tie.Need-short-requires-2
 short-requires-2 c κs = search rules
 
 returns : tie.Need-returns
-unfolding enhancedCommand
+unfolding enhanced_command
 returns c =
     let at-short = c.before.before in
     let at-if1 = at-short.before in
@@ -28,7 +28,7 @@ short-requires-3 : tie.Need-short-requires-3
 short-requires-3 c κs = search rules
 
 returns-2 : tie.Need-returns-2
-unfolding enhancedCommand
+unfolding enhanced_command
 returns-2 c =
     let at-if2 = c.before.before in
     let at-if1 = at-if2.before.before in
@@ -44,7 +44,7 @@ short-requires-5 : tie.Need-short-requires-5
 short-requires-5 c κs = search rules
 
 returns-3 : tie.Need-returns-3
-unfolding enhancedCommand
+unfolding enhanced_command
 returns-3 c =
     let at-step-mode = c.before.before in
     let at-if2 = at-step-mode.before in

@@ -1,5 +1,5 @@
 -- `calls::CommandNumbers::hue_command`: the definition takes the case that the tests on the way have found.
-use Rattle.exports.specs.Calls.{hueCommand}
+use Rattle.exports.specs.Calls.{hue_command}
 use borrow.Author.Tests.{eq-eqb, ne_eqb}
 use borrow.Author.Rules.{rules}
 use Rattle.exports.proofs.calls.CommandNumbers.hue_command.Statement.{statement}
@@ -15,7 +15,7 @@ short-requires : tie.Need-short-requires
 short-requires c κs = search rules
 
 returns : tie.Need-returns
-unfolding hueCommand
+unfolding hue_command
 returns c =
     let at_byte = c.before.before in
     let at-if1 = at_byte.before in
@@ -31,7 +31,7 @@ flag-requires : tie.Need-flag-requires
 flag-requires c κs = search rules
 
 returns-2 : tie.Need-returns-2
-unfolding hueCommand
+unfolding hue_command
 returns-2 c =
     let at-move-mode = c.before.before in
     let at-if2 = at-move-mode.before in
@@ -48,7 +48,7 @@ short-requires-2 : tie.Need-short-requires-2
 short-requires-2 c κs = search rules
 
 returns-3 : tie.Need-returns-3
-unfolding hueCommand
+unfolding hue_command
 returns-3 c =
     let at-step-mode = c.before.before in
     let at-if2 = at-step-mode.before in

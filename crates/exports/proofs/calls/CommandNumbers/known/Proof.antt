@@ -1,5 +1,5 @@
 -- `calls::CommandNumbers::known`: the parts are those of the definition.
-use Rattle.exports.specs.Calls.{commandKnown}
+use Rattle.exports.specs.Calls.{command_known}
 use borrow.Author.Rules.{rules}
 use Rattle.exports.proofs.calls.CommandNumbers.known.Statement.{statement}
 use Rattle.exports.proofs.calls.CommandNumbers.known.Tie as tie
@@ -23,7 +23,7 @@ loop-direction-known-requires : tie.Need-loop-direction-known-requires
 loop-direction-known-requires c κs = search rules
 
 returns : tie.Need-returns
-unfolding commandKnown
+unfolding command_known
 returns c =
     let at-step-mode-known = c.before.before in
     let at-move-mode-known = at-step-mode-known.before in

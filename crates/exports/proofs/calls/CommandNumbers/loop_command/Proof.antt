@@ -1,5 +1,5 @@
 -- `calls::CommandNumbers::loop_command`: the parts are those of the definition.
-use Rattle.exports.specs.Calls.{loopCommand}
+use Rattle.exports.specs.Calls.{loop_command}
 use borrow.Author.Rules.{rules}
 use Rattle.exports.proofs.calls.CommandNumbers.loop_command.Statement.{statement}
 use Rattle.exports.proofs.calls.CommandNumbers.loop_command.Tie as tie
@@ -20,7 +20,7 @@ short-requires-2 : tie.Need-short-requires-2
 short-requires-2 c κs = search rules
 
 returns : tie.Need-returns
-unfolding loopCommand
+unfolding loop_command
 returns c =
     let at-loop-direction = c.before.before in
     let at-loop-action = at-loop-direction.before in

@@ -1,5 +1,5 @@
 -- `calls::CommandNumbers::mireds_command`: the definition takes the case that the tests on the way have found.
-use Rattle.exports.specs.Calls.{miredsCommand}
+use Rattle.exports.specs.Calls.{mireds_command}
 use borrow.Author.Tests.{eq-eqb, ne_eqb}
 use borrow.Author.Rules.{rules}
 use Rattle.exports.proofs.calls.CommandNumbers.mireds_command.Statement.{statement}
@@ -12,7 +12,7 @@ short-requires-2 : tie.Need-short-requires-2
 short-requires-2 c κs = search rules
 
 returns : tie.Need-returns
-unfolding miredsCommand
+unfolding mireds_command
 returns c = simp (c.short2.ensures, c.before.short.ensures, eq-eqb _ _ c.before.before.if1.true)
 
 move-mode-requires : tie.Need-move-mode-requires
@@ -28,7 +28,7 @@ short-requires-5 : tie.Need-short-requires-5
 short-requires-5 c κs = search rules
 
 returns-2 : tie.Need-returns-2
-unfolding miredsCommand
+unfolding mireds_command
 returns-2 c =
     let at-short3 = c.before.before in
     let at-move-mode = at-short3.before in
@@ -52,7 +52,7 @@ short-requires-9 : tie.Need-short-requires-9
 short-requires-9 c κs = search rules
 
 returns-3 : tie.Need-returns-3
-unfolding miredsCommand
+unfolding mireds_command
 returns-3 c =
     let at-short7 = c.before.before in
     let at-short6 = at-short7.before in

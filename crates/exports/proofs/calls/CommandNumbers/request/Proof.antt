@@ -1,5 +1,5 @@
 -- `calls::CommandNumbers::request`: the parts are those of the definition.
-use Rattle.exports.specs.Calls.{requestOf}
+use Rattle.exports.specs.Calls.{request_of}
 use borrow.Author.Rules.{rules}
 use Rattle.exports.proofs.calls.CommandNumbers.request.Statement.{statement}
 use Rattle.exports.proofs.calls.CommandNumbers.request.Tie as tie
@@ -14,7 +14,7 @@ command-requires : tie.Need-command-requires
 command-requires c κs = search rules
 
 returns : tie.Need-returns
-unfolding requestOf
+unfolding request_of
 returns c = simp (c.command.ensures, c.before.byte2.ensures, c.before.before.byte.ensures)
 
 pub request-spec : {M : Type 1} → statement M

@@ -1,5 +1,5 @@
 -- `calls::CommandNumbers::saturation_command`: the definition takes the case that the tests on the way have found.
-use Rattle.exports.specs.Calls.{saturationCommand}
+use Rattle.exports.specs.Calls.{saturation_command}
 use borrow.Author.Tests.{eq-eqb, ne_eqb}
 use borrow.Author.Rules.{rules}
 use Rattle.exports.proofs.calls.CommandNumbers.saturation_command.Statement.{statement}
@@ -12,7 +12,7 @@ short-requires : tie.Need-short-requires
 short-requires c κs = search rules
 
 returns : tie.Need-returns
-unfolding saturationCommand
+unfolding saturation_command
 returns c = simp (c.short.ensures, c.before.byte.ensures, eq-eqb _ _ c.before.before.if1.true)
 
 move-mode-requires : tie.Need-move-mode-requires
@@ -22,7 +22,7 @@ byte-requires-2 : tie.Need-byte-requires-2
 byte-requires-2 c κs = search rules
 
 returns-2 : tie.Need-returns-2
-unfolding saturationCommand
+unfolding saturation_command
 returns-2 c =
     let at-if2 = c.before.before in
     let at-if1 = at-if2.before.before in
@@ -38,7 +38,7 @@ short-requires-2 : tie.Need-short-requires-2
 short-requires-2 c κs = search rules
 
 returns-3 : tie.Need-returns-3
-unfolding saturationCommand
+unfolding saturation_command
 returns-3 c =
     let at-step-mode = c.before.before in
     let at-if3 = at-step-mode.before in
@@ -62,7 +62,7 @@ short-requires-4 : tie.Need-short-requires-4
 short-requires-4 c κs = search rules
 
 returns-4 : tie.Need-returns-4
-unfolding saturationCommand
+unfolding saturation_command
 returns-4 c =
     let at-short3 = c.before.before in
     let at-byte5 = at-short3.before in

@@ -1,5 +1,5 @@
 -- `moves::RecordNumbers::known`: the parts are those of the definition.
-use Rattle.exports.specs.Moves.{recordKnown}
+use Rattle.exports.specs.Moves.{record_known}
 use borrow.Author.Rules.{rules}
 use Rattle.exports.proofs.moves.RecordNumbers.known.Statement.{statement}
 use Rattle.exports.proofs.moves.RecordNumbers.known.Tie as tie
@@ -8,7 +8,7 @@ known-requires : tie.Need-known-requires
 known-requires c κs = search rules
 
 returns : tie.Need-returns
-unfolding recordKnown
+unfolding record_known
 returns c = simp c.known.ensures
 
 pub known-spec : {M : Type 1} → statement M

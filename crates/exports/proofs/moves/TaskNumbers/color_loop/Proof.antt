@@ -1,5 +1,5 @@
 -- `moves::TaskNumbers::color_loop`: the parts are those of the definition.
-use Rattle.exports.specs.Moves.{colorLoopOf}
+use Rattle.exports.specs.Moves.{color_loop_of}
 use borrow.Author.Rules.{rules}
 use Rattle.exports.proofs.moves.TaskNumbers.color_loop.Statement.{statement}
 use Rattle.exports.proofs.moves.TaskNumbers.color_loop.Tie as tie
@@ -11,7 +11,7 @@ short-requires : tie.Need-short-requires
 short-requires c κs = search rules
 
 returns : tie.Need-returns
-unfolding colorLoopOf
+unfolding color_loop_of
 returns c = simp (c.short.ensures, c.before.loop-direction.ensures)
 
 pub color-loop-spec : {M : Type 1} → statement M

@@ -1,5 +1,5 @@
 -- `moves::TaskNumbers::known`: the parts are those of the definition.
-use Rattle.exports.specs.Moves.{taskKnown}
+use Rattle.exports.specs.Moves.{task_known}
 use borrow.Author.Rules.{rules}
 use Rattle.exports.proofs.moves.TaskNumbers.known.Statement.{statement}
 use Rattle.exports.proofs.moves.TaskNumbers.known.Tie as tie
@@ -14,7 +14,7 @@ loop-direction-known-requires : tie.Need-loop-direction-known-requires
 loop-direction-known-requires c κs = search rules
 
 returns : tie.Need-returns
-unfolding taskKnown
+unfolding task_known
 returns c =
     let at-move-mode-known = c.before.before.before.before.before.before in
     let at-fits2 = at-move-mode-known.before.before.before.before.before in

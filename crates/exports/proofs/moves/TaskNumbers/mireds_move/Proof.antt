@@ -1,5 +1,5 @@
 -- `moves::TaskNumbers::mireds_move`: the parts are the definition's, and a signed one is read back from its bits.
-use Rattle.exports.specs.Moves.{miredsMoveOf}
+use Rattle.exports.specs.Moves.{mireds_move_of}
 use borrow.Author.Rules.{rules, sfits_of}
 use mir.Syntax.{w64}
 use mir.ValLaws.{to_z-of_z}
@@ -16,7 +16,7 @@ short-requires-2 : tie.Need-short-requires-2
 short-requires-2 c κs = search rules
 
 returns : tie.Need-returns
-unfolding miredsMoveOf
+unfolding mireds_move_of
 returns c = simp (c.short2.ensures, c.before.short.ensures, to_z-of_z w64 c.before.before.signed.result (sfits_of c.before.before.signed.type-inv)) (simp c.before.before.signed.ensures)
 
 pub mireds-move-spec : {M : Type 1} → statement M

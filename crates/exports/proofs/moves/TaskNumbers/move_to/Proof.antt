@@ -1,5 +1,5 @@
 -- `moves::TaskNumbers::move_to`: the parts are those of the definition.
-use Rattle.exports.specs.Moves.{moveToOf}
+use Rattle.exports.specs.Moves.{move_to_of}
 use borrow.Author.Rules.{rules}
 use Rattle.exports.proofs.moves.TaskNumbers.move_to.Statement.{statement}
 use Rattle.exports.proofs.moves.TaskNumbers.move_to.Tie as tie
@@ -17,7 +17,7 @@ flag-requires : tie.Need-flag-requires
 flag-requires c κs = search rules
 
 returns : tie.Need-returns
-unfolding moveToOf
+unfolding move_to_of
 returns c = simp (c.flag.ensures, c.before.long.ensures, c.before.before.target.ensures, c.before.before.before.delta.ensures)
 
 pub move_to_spec : {M : Type 1} → statement M

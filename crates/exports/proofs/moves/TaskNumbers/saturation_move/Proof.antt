@@ -1,5 +1,5 @@
 -- `moves::TaskNumbers::saturation_move`: the parts are those of the definition.
-use Rattle.exports.specs.Moves.{saturationMoveOf}
+use Rattle.exports.specs.Moves.{saturation_move_of}
 use borrow.Author.Rules.{rules}
 use Rattle.exports.proofs.moves.TaskNumbers.saturation_move.Statement.{statement}
 use Rattle.exports.proofs.moves.TaskNumbers.saturation_move.Tie as tie
@@ -11,7 +11,7 @@ long-requires : tie.Need-long-requires
 long-requires c κs = search rules
 
 returns : tie.Need-returns
-unfolding saturationMoveOf
+unfolding saturation_move_of
 returns c = simp (c.long.ensures, c.before.move-mode.ensures)
 
 pub saturation-move-spec : {M : Type 1} → statement M

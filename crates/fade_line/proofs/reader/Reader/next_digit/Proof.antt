@@ -1,5 +1,5 @@
 -- The number grows, or the byte spoils the line.
-use Rattle.fade_line.specs.Reading.{nextDigit}
+use Rattle.fade_line.specs.Reading.{next_digit}
 use borrow.Author.Rules.{rules}
 use Rattle.fade_line.proofs.reader.Reader.next_digit.Statement.{statement}
 use Rattle.fade_line.proofs.reader.Reader.next_digit.Tie as tie
@@ -17,11 +17,11 @@ spoil-requires : tie.Need-spoil-requires
 spoil-requires c κs = search rules
 
 returns : tie.Need-returns
-unfolding nextDigit
+unfolding next_digit
 returns c = simp (← c.before.before.before.with-digit.ensures, c.before.last.given.1)
 
 returns-2 : tie.Need-returns-2
-unfolding nextDigit
+unfolding next_digit
 returns-2 c = simp (c.spoil.ensures, ← c.before.before.before.with-digit.ensures, c.before.enum_told.given.1)
 
 pub next-digit-spec : {M : Type 1} → statement M

@@ -2,7 +2,7 @@
 use mir.Syntax.{w64}
 use mir.ValLaws.{to_z-of_z}
 use borrow.Author.Rules.{sfits_of}
-use Rattle.lamp.specs.Passes.{loopPassed}
+use Rattle.lamp.specs.Passes.{loop_passed}
 use borrow.Author.Rules.{rules}
 use Rattle.lamp.proofs.passes.Found.color_loop_transition.Statement.{statement}
 use Rattle.lamp.proofs.passes.Found.color_loop_transition.Tie as tie
@@ -26,7 +26,7 @@ passed-requires : tie.Need-passed-requires
 passed-requires c κs = search rules
 
 returns : tie.Need-returns
-unfolding loopPassed
+unfolding loop_passed
 returns c =
     let k1 = c.before in
     let k2 = k1.before in

@@ -6,7 +6,7 @@ use Rattle.lamp.proofs.Shared.{rate-same}
 use mir.Syntax.{w64}
 use mir.ValLaws.{to_z-of_z}
 use borrow.Author.Rules.{sfits_of}
-use Rattle.lamp.specs.Passes.{temperaturePassed}
+use Rattle.lamp.specs.Passes.{temperature_passed}
 use borrow.Author.Rules.{rules}
 use Rattle.lamp.proofs.passes.Found.color_temperature_move_transition.Statement.{statement}
 use Rattle.lamp.proofs.passes.Found.color_temperature_move_transition.Tie as tie
@@ -38,7 +38,7 @@ passed-requires : tie.Need-passed-requires
 passed-requires c κs = search rules
 
 returns : tie.Need-returns
-unfolding temperaturePassed
+unfolding temperature_passed
 returns c =
     let k1 = c.before in
     let k2 = k1.before.before in

@@ -3,18 +3,18 @@ use Prim.Native.Nat.{◌≤◌}
 use native.Mathlib.Omega.{arith}
 use borrow.Author.Tests.{leb-true}
 use Rattle.matter.proofs.Laws.{each}
-use Rattle.tasks.specs.Valid.{hueMoveValid}
+use Rattle.tasks.specs.Valid.{hue_move_valid}
 use mir.Syntax.{w64}
 use mir.ValLaws.{to_z-of_z}
 use borrow.Author.Rules.{sfits_of}
 use Rattle.lamp.proofs.Shared.{signed_same}
-use Rattle.lamp.specs.Passes.{huePassed}
+use Rattle.lamp.specs.Passes.{hue_passed}
 use borrow.Author.Rules.{rules}
 use Rattle.lamp.proofs.passes.Found.hue_move_transition.Statement.{statement}
 use Rattle.lamp.proofs.passes.Found.hue_move_transition.Tie as tie
 
 small-rate : (c : tie.Start) → c.args.run.task.rate ≤ 65535
-unfolding hueMoveValid
+unfolding hue_move_valid
 small-rate c = leb-true c.args.run.task.rate _ (each _ c.requires).1.0
 
 signed-requires : tie.Need-signed-requires
@@ -36,7 +36,7 @@ passed-requires : tie.Need-passed-requires
 passed-requires c κs = search rules
 
 returns : tie.Need-returns
-unfolding huePassed
+unfolding hue_passed
 returns c =
     let k1 = c.before in
     let k2 = k1.before.before in

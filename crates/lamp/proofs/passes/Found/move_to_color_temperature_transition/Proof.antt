@@ -1,4 +1,4 @@
-use Rattle.lamp.specs.Passes.{temperatureToMoved}
+use Rattle.lamp.specs.Passes.{temperature_to_moved}
 use borrow.Author.Rules.{rules}
 use Rattle.lamp.proofs.passes.Found.move_to_color_temperature_transition.Statement.{
   statement,
@@ -15,7 +15,7 @@ none-requires : tie.Need-none-requires
 none-requires c κs = search rules
 
 returns : tie.Need-returns
-unfolding temperatureToMoved
+unfolding temperature_to_moved
 returns c = simp (c.none.ensures, c.before.before.before.set-color-temperature.ensures, c.before.before.before.before.before.mireds-now.ensures)
 
 pub move-to-color-temperature-transition-spec : {M : Type 1} → statement M

@@ -1,5 +1,5 @@
 -- `sums::Sums::add_answer`: the parts are those of the definition.
-use Rattle.measure.specs.Sums.{addedAll}
+use Rattle.measure.specs.Sums.{added_all}
 use Rattle.std.proofs.Common.{rules}
 use Rattle.measure.proofs.sums.Sums.add_answer.Statement.{statement}
 use Rattle.measure.proofs.sums.Sums.add_answer.Tie as tie
@@ -26,7 +26,7 @@ add-requires-2 : tie.Need-add-requires-2
 add-requires-2 c κs = search rules
 
 returns : tie.Need-returns
-unfolding addedAll
+unfolding added_all
 returns c =
     let at-of-given = c.before.before in
     let at-add-notices = at-of-given.before in

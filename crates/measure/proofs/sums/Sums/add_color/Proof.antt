@@ -1,5 +1,5 @@
 -- `sums::Sums::add_color`: the parts are those of the definition.
-use Rattle.measure.specs.Sums.{addedAll}
+use Rattle.measure.specs.Sums.{added_all}
 use Rattle.std.proofs.Common.{rules}
 use Rattle.measure.proofs.sums.Sums.add_color.Statement.{statement}
 use Rattle.measure.proofs.sums.Sums.add_color.Tie as tie
@@ -52,7 +52,7 @@ add-requires-8 : tie.Need-add-requires-8
 add-requires-8 c κs = search rules
 
 returns : tie.Need-returns
-unfolding addedAll
+unfolding added_all
 returns c =
     let at-add7 = c.before.before in
     let at-number = at-add7.before in

@@ -1,5 +1,5 @@
 -- `sums::Sums::add_lamp`: the parts are those of the definition.
-use Rattle.measure.specs.Sums.{addedAll}
+use Rattle.measure.specs.Sums.{added_all}
 use Rattle.std.proofs.Common.{rules}
 use Rattle.measure.proofs.sums.Sums.add_lamp.Statement.{statement}
 use Rattle.measure.proofs.sums.Sums.add_lamp.Tie as tie
@@ -44,7 +44,7 @@ add-record-requires : tie.Need-add-record-requires
 add-record-requires c κs = search rules
 
 returns : tie.Need-returns
-unfolding addedAll
+unfolding added_all
 returns c =
     let at-add-looping = c.before.before in
     let at-add-color = at-add-looping.before in

@@ -1,5 +1,5 @@
 -- `sums::Sums::add_looping`: the parts are those of the definition.
-use Rattle.measure.specs.Sums.{addedAll}
+use Rattle.measure.specs.Sums.{added_all}
 use Rattle.std.proofs.Common.{rules}
 use Rattle.measure.proofs.sums.Sums.add_looping.Statement.{statement}
 use Rattle.measure.proofs.sums.Sums.add_looping.Tie as tie
@@ -38,7 +38,7 @@ add-requires-5 : tie.Need-add-requires-5
 add-requires-5 c κs = search rules
 
 returns : tie.Need-returns
-unfolding addedAll
+unfolding added_all
 returns c =
     let at-add4 = c.before.before in
     let at-add3 = at-add4.before.before in

@@ -1,5 +1,5 @@
 -- `sums::Sums::add_notices`: the parts are those of the definition.
-use Rattle.measure.specs.Sums.{addedAll}
+use Rattle.measure.specs.Sums.{added_all}
 use Rattle.std.proofs.Common.{rules}
 use Rattle.measure.proofs.sums.Sums.add_notices.Statement.{statement}
 use Rattle.measure.proofs.sums.Sums.add_notices.Tie as tie
@@ -101,7 +101,7 @@ add-requires-16 : tie.Need-add-requires-16
 add-requires-16 c κs = search rules
 
 returns : tie.Need-returns
-unfolding addedAll
+unfolding added_all
 returns c =
     let at-add15 = c.before.before in
     let at-place15 = at-add15.before in

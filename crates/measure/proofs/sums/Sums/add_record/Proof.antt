@@ -1,5 +1,5 @@
 -- `sums::Sums::add_record`: the parts are those of the definition.
-use Rattle.measure.specs.Sums.{addedAll}
+use Rattle.measure.specs.Sums.{added_all}
 use Rattle.std.proofs.Common.{rules}
 use Rattle.measure.proofs.sums.Sums.add_record.Statement.{statement}
 use Rattle.measure.proofs.sums.Sums.add_record.Tie as tie
@@ -17,7 +17,7 @@ add-task-requires : tie.Need-add-task-requires
 add-task-requires c κs = search rules
 
 returns : tie.Need-returns
-unfolding addedAll
+unfolding added_all
 returns c = simp (c.add-task.ensures, c.before.add3.ensures, c.before.before.add2.ensures, c.before.before.before.add.ensures)
 
 pub add-record-spec : {M : Type 1} → statement M

@@ -1,5 +1,5 @@
 -- `sums::Sums::add_task`: the parts are those of the definition.
-use Rattle.measure.specs.Sums.{addedAll}
+use Rattle.measure.specs.Sums.{added_all}
 use Rattle.std.proofs.Common.{rules}
 use Rattle.measure.proofs.sums.Sums.add_task.Statement.{statement}
 use Rattle.measure.proofs.sums.Sums.add_task.Tie as tie
@@ -26,7 +26,7 @@ add-requires-7 : tie.Need-add-requires-7
 add-requires-7 c κs = search rules
 
 returns : tie.Need-returns
-unfolding addedAll
+unfolding added_all
 returns c =
     let at-add5 = c.before.before in
     let at-add4 = at-add5.before in
