@@ -28,6 +28,7 @@ pub const XY: u32 = 8;
 pub const COLOR_TEMPERATURE: u32 = 16;
 
 // Whether a bitmap has a flag, which is a power of two. No bitmap has the flag 0.
+#[tactic(auto, unfolding(crate::specs::Flags::has_flag))]
 pub fn contains(bits: u32, flag: u32) -> bool
     ensures { result ≡ has_flag bits flag }
 {
@@ -56,6 +57,7 @@ pub fn should_continue(on_off: OnOff, options: u8, options_mask: u8, options_ove
 }
 
 // The first colour mode that the features have, in the order XY, hue and saturation, mireds; XY where they have none.
+#[tactic(auto, unfolding(crate::specs::Rules::default_color_mode))]
 pub fn default_color_mode(feature_map: u32) -> EnhancedColorModeEnum
     ensures { result ≡ default_color_mode feature_map }
 {
