@@ -50,6 +50,7 @@ pub struct Notices {
 }
 
 impl Notices {
+    #[tactic(auto, unfolding(crate::specs::Notices::filled))]
     pub fn new() -> Self
         ensures { result ≡ noted [] }
     {
@@ -86,6 +87,7 @@ impl Numeral {
     }
 
     // A notice in front of the list.
+    #[tactic(auto, unfolding(crate::specs::Numerals::consed))]
     pub fn cons(self, number: u8) -> Self
         ensures { result ≡ consed self number }
     {
@@ -97,6 +99,7 @@ impl Numeral {
     }
 
     // A notice in front where the test holds.
+    #[tactic(auto, unfolding(crate::specs::Numerals::in_front))]
     pub fn cons_if(self, test: bool, number: u8) -> Self
         ensures { result ≡ in_front (only test number) self }
     {
