@@ -216,6 +216,7 @@ impl TargetSaturation {
 }
 
 impl HueSaturationMoveTo {
+    #[tactic(auto, unfolding(crate::specs::Valid::move_to_valid, matter::specs::All::all_true))]
     fn is_valid(self) -> bool
         ensures { result ≡ move_to_valid self }
     {
@@ -229,6 +230,7 @@ impl HueSaturationMoveTo {
 }
 
 impl HueMove {
+    #[tactic(auto, unfolding(crate::specs::Valid::hue_move_valid, matter::specs::All::all_true))]
     fn is_valid(self) -> bool
         ensures { result ≡ hue_move_valid self }
     {
@@ -238,6 +240,7 @@ impl HueMove {
 }
 
 impl SaturationMove {
+    #[tactic(auto, unfolding(crate::specs::Valid::saturation_move_valid, matter::specs::All::all_true))]
     fn is_valid(self) -> bool
         ensures { result ≡ saturation_move_valid self }
     {
@@ -247,6 +250,7 @@ impl SaturationMove {
 }
 
 impl Task {
+    #[tactic(auto, unfolding(crate::specs::Valid::task_valid))]
     pub fn is_valid(self) -> bool
         ensures { result ≡ task_valid self }
     {
@@ -279,6 +283,7 @@ impl Running {
     }
 
     // Whether a lamp with these bounds and this clock can be valid with this record.
+    #[tactic(auto, unfolding(crate::specs::Valid::running_valid, matter::specs::All::all_true))]
     pub fn is_valid(self, bounds: Bounds, clock: u64) -> bool
         ensures { result ≡ running_valid self bounds clock }
     {
