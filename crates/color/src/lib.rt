@@ -119,6 +119,7 @@ impl Change {
 
     // The change's notices in front of a list: persistence first, unless the loop is active; where it is due the attribute,
     // with an enhanced hue that too, and both modes; scenes last.
+    #[tactic(auto, unfolding(notices::specs::Numerals::in_front))]
     pub fn cons(self, list: Numeral, loop_active: bool) -> Numeral
         ensures { result ≡ in_front (change_reported self loop_active) list }
     {
@@ -156,6 +157,7 @@ impl Color {
     }
 
     // Sets the hue, and reports it as plain or enhanced.
+    #[tactic(auto, unfolding(crate::specs::Setters::hue_set))]
     pub fn set_hue(self, new_eh: u16, is_end: bool, is_enhanced: bool, clock: u64) -> ColorSet
         ensures { result ≡ set_hue self new_eh is_end is_enhanced clock }
     {
@@ -195,6 +197,7 @@ impl Color {
     }
 
     // Sets the saturation.
+    #[tactic(auto, unfolding(crate::specs::Setters::saturation_set))]
     pub fn set_saturation(self, new_sat: u8, is_end: bool, clock: u64) -> ColorSet
         ensures { result ≡ set_saturation self new_sat is_end clock }
     {
@@ -235,6 +238,7 @@ impl Color {
     }
 
     // Sets the mireds.
+    #[tactic(auto, unfolding(crate::specs::Setters::mireds_set))]
     pub fn set_color_temperature(self, new_mireds: u16, is_end: bool, clock: u64) -> ColorSet
         ensures { result ≡ set_mireds self new_mireds is_end clock }
     {
@@ -273,6 +277,7 @@ impl Color {
     }
 
     // Whether a lamp with this colour, these bounds and this clock can be valid.
+    #[tactic(auto, unfolding(crate::specs::Valid::color_valid, matter::specs::All::all_true))]
     pub fn is_valid(self, bounds: Bounds, clock: u64) -> bool
         ensures { result ≡ color_valid self bounds clock }
     {
