@@ -80,6 +80,7 @@ impl Lamp {
     }
 
     // The two move-to starts write the full time first; then comes the first pass.
+    #[tactic(auto, unfolding(crate::specs::Calls::hue_saturation_start))]
     fn start_hue_saturation(self, task: HueSaturationMoveTo, clock: u64) -> Left
         requires { move_to_valid task ≡ true }
         ensures { result ≡ hue_saturation_start (at_clock self clock) task }
@@ -103,6 +104,7 @@ impl Lamp {
         left_by(w.reported, passed, Running::HueSaturationMoveTo(run))
     }
 
+    #[tactic(auto, unfolding(crate::specs::Calls::temperature_to_start))]
     fn start_color_temperature_to(self, task: ColorTemperatureMoveTo, clock: u64) -> Left
         ensures { result ≡ temperature_to_start (at_clock self clock) task }
     {
@@ -125,6 +127,7 @@ impl Lamp {
         left_by(w.reported, passed, Running::ColorTemperatureMoveTo(run))
     }
 
+    #[tactic(auto, unfolding(crate::specs::Calls::temperature_start))]
     fn start_color_temperature(self, task: ColorTemperatureMove, clock: u64) -> Left
         requires { rate_valid task.rate ≡ true }
         ensures { left_effect (at_clock self clock) result ≡ temperature_start (at_clock self clock) task }
@@ -149,6 +152,7 @@ impl Lamp {
     }
 
     // A start of a valid task: its record, and the first pass.
+    #[tactic(auto, unfolding(tasks::specs::Valid::task_valid, crate::specs::Calls::started))]
     fn begin(self, task: Task, clock: u64) -> Left
         requires { task_valid task ≡ true }
         ensures { left_effect (at_clock self clock) result ≡ started (at_clock self clock) task }
@@ -189,6 +193,7 @@ impl Lamp {
     }
 
     // A pass of what runs.
+    #[tactic(auto, unfolding(tasks::specs::Valid::running_valid, crate::specs::Calls::stepped))]
     fn pass(self, running: Running, clock: u64) -> Left
         requires { running_valid running self.bounds clock ≡ true }
         ensures { left_effect (at_clock self clock) result ≡ stepped (at_clock self clock) running }
@@ -267,6 +272,7 @@ impl Lamp {
     }
 
     // Starts a task, in place of what runs.
+    #[tactic(auto, unfolding(crate::specs::Calls::start_answer))]
     pub fn start(self, task: Task, clock: u64) -> Answer
         ensures { result ≡ start_answer self task clock }
     {
@@ -286,6 +292,7 @@ impl Lamp {
     }
 
     // One step of what runs.
+    #[tactic(auto, unfolding(crate::specs::Calls::step_answer, crate::specs::Valid::lamp_valid))]
     pub fn step(self, clock: u64) -> Answer
         ensures { result ≡ step_answer self clock }
     {
@@ -308,6 +315,7 @@ impl Lamp {
     }
 
     // Makes the lamp idle, and nothing else.
+    #[tactic(auto, unfolding(crate::specs::Calls::halt_answer))]
     pub fn halt(self, clock: u64) -> Answer
         ensures { result ≡ halt_answer self clock }
     {

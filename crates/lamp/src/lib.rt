@@ -101,6 +101,7 @@ fn fresh(bounds: Bounds, feature_map: u32, options: u8, clock: u64) -> Lamp
 
 impl Lamp {
     // A fresh lamp, unless the clock is above the limit or the bounds are crossed.
+    #[tactic(auto, unfolding(crate::specs::Making::making))]
     pub fn new(bounds: Bounds, feature_map: u32, options: u8, clock: u64) -> Made
         ensures value { result ≡ making bounds feature_map options clock }
         ensures result_value { made_values result ≡ making_values bounds feature_map options clock }
@@ -114,6 +115,7 @@ impl Lamp {
         Made::Lamp(fresh(bounds, feature_map, options, clock))
     }
 
+    #[tactic(auto, unfolding(crate::specs::Valid::lamp_valid, matter::specs::All::all_true))]
     pub fn is_valid(self) -> bool
         ensures { result ≡ lamp_valid self }
     {
@@ -134,6 +136,7 @@ impl Lamp {
 
     // The two causes that every call but a step checks first: an invalid lamp, and the clock. 0 where there is
     // neither.
+    #[tactic(auto, unfolding(crate::specs::Answers::first_cause))]
     pub fn first_cause(self, clock: u64) -> u8
         ensures { result ≡ first_cause self clock }
     {

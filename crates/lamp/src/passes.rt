@@ -201,6 +201,7 @@ impl Passed {
 }
 
 impl Found {
+    #[tactic(auto, unfolding(tasks::specs::Valid::move_to_valid, crate::specs::Passes::hue_saturation_moved))]
     pub(crate) fn move_to_hue_saturation_transition(
         self,
         run: HueSaturationRun,
@@ -227,6 +228,7 @@ impl Found {
         }
     }
 
+    #[tactic(auto, unfolding(crate::specs::Passes::temperature_to_moved))]
     pub(crate) fn move_to_color_temperature_transition(
         self,
         run: ColorTemperatureToRun,
@@ -250,6 +252,7 @@ impl Found {
     }
 
     // A move-to's pass: after what moves, the remaining time.
+    #[tactic(auto, unfolding(crate::specs::Passes::timed))]
     pub(crate) fn timed(self, moved: Moved, start: u64, ms: u32, permille: u16) -> Passed
         ensures { result ≡ timed self moved start ms permille }
     {
@@ -292,6 +295,7 @@ impl Found {
         }
     }
 
+    #[tactic(auto, unfolding(tasks::specs::Valid::hue_move_valid, crate::specs::Passes::hue_passed))]
     pub(crate) fn hue_move_transition(self, run: HueRun) -> Passed
         requires { hue_move_valid run.task ≡ true }
         ensures { result ≡ hue_passed self run }
@@ -305,6 +309,7 @@ impl Found {
         self.passed(set, DEVICE_HUE_SATURATION, TICK, false)
     }
 
+    #[tactic(auto, unfolding(tasks::specs::Valid::saturation_move_valid, crate::specs::Passes::saturation_passed))]
     pub(crate) fn saturation_move_transition(self, run: SaturationRun) -> Passed
         requires { saturation_move_valid run.task ≡ true }
         ensures { result ≡ saturation_passed self run }
@@ -322,6 +327,7 @@ impl Found {
         self.passed(set, DEVICE_HUE_SATURATION, TICK, ends)
     }
 
+    #[tactic(auto, unfolding(crate::specs::Passes::temperature_passed))]
     pub(crate) fn color_temperature_move_transition(self, run: ColorTemperatureRun) -> Passed
         requires { rate_valid run.rate ≡ true }
         ensures { result ≡ temperature_passed self run }
@@ -334,6 +340,7 @@ impl Found {
         self.passed(set, DEVICE_MIREDS, TICK, ends)
     }
 
+    #[tactic(auto, unfolding(crate::specs::Passes::loop_passed))]
     pub(crate) fn color_loop_transition(self, run: ColorLoopRun) -> Passed
         ensures { result ≡ loop_passed self run }
     {
