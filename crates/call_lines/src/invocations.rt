@@ -28,6 +28,7 @@ pub struct CallRead {
     pub at: usize,
 }
 
+#[tactic(auto, unfolding(crate::specs::Commands::move_to_hue_at))]
 fn move_to_hue(line: &[u8], at: usize) -> CommandRead
     ensures { Reads (move_to_hue_at line.now at) result.value result.at }
 {
@@ -45,6 +46,7 @@ fn move_to_hue(line: &[u8], at: usize) -> CommandRead
     }
 }
 
+#[tactic(auto, unfolding(crate::specs::Commands::move_hue_at))]
 fn move_hue(line: &[u8], at: usize) -> CommandRead
     ensures { Reads (move_hue_at line.now at) result.value result.at }
 {
@@ -62,6 +64,7 @@ fn move_hue(line: &[u8], at: usize) -> CommandRead
     }
 }
 
+#[tactic(auto, unfolding(crate::specs::Commands::step_hue_at))]
 fn step_hue(line: &[u8], at: usize) -> CommandRead
     ensures { Reads (step_hue_at line.now at) result.value result.at }
 {
@@ -79,6 +82,7 @@ fn step_hue(line: &[u8], at: usize) -> CommandRead
     }
 }
 
+#[tactic(auto, unfolding(crate::specs::Commands::enhanced_move_to_hue_at))]
 fn enhanced_move_to_hue(line: &[u8], at: usize) -> CommandRead
     ensures { Reads (enhanced_move_to_hue_at line.now at) result.value result.at }
 {
@@ -96,6 +100,7 @@ fn enhanced_move_to_hue(line: &[u8], at: usize) -> CommandRead
     }
 }
 
+#[tactic(auto, unfolding(crate::specs::Commands::enhanced_move_hue_at))]
 fn enhanced_move_hue(line: &[u8], at: usize) -> CommandRead
     ensures { Reads (enhanced_move_hue_at line.now at) result.value result.at }
 {
@@ -111,6 +116,7 @@ fn enhanced_move_hue(line: &[u8], at: usize) -> CommandRead
     }
 }
 
+#[tactic(auto, unfolding(crate::specs::Commands::enhanced_step_hue_at))]
 fn enhanced_step_hue(line: &[u8], at: usize) -> CommandRead
     ensures { Reads (enhanced_step_hue_at line.now at) result.value result.at }
 {
@@ -128,6 +134,7 @@ fn enhanced_step_hue(line: &[u8], at: usize) -> CommandRead
     }
 }
 
+#[tactic(auto, unfolding(crate::specs::Commands::move_to_saturation_at))]
 fn move_to_saturation(line: &[u8], at: usize) -> CommandRead
     ensures { Reads (move_to_saturation_at line.now at) result.value result.at }
 {
@@ -142,6 +149,7 @@ fn move_to_saturation(line: &[u8], at: usize) -> CommandRead
     }
 }
 
+#[tactic(auto, unfolding(crate::specs::Commands::move_saturation_at))]
 fn move_saturation(line: &[u8], at: usize) -> CommandRead
     ensures { Reads (move_saturation_at line.now at) result.value result.at }
 {
@@ -157,6 +165,7 @@ fn move_saturation(line: &[u8], at: usize) -> CommandRead
     }
 }
 
+#[tactic(auto, unfolding(crate::specs::Commands::step_saturation_at))]
 fn step_saturation(line: &[u8], at: usize) -> CommandRead
     ensures { Reads (step_saturation_at line.now at) result.value result.at }
 {
@@ -174,6 +183,7 @@ fn step_saturation(line: &[u8], at: usize) -> CommandRead
     }
 }
 
+#[tactic(auto, unfolding(crate::specs::Commands::move_to_hue_and_saturation_at))]
 fn move_to_hue_and_saturation(line: &[u8], at: usize) -> CommandRead
     ensures { Reads (move_to_hue_and_saturation_at line.now at) result.value result.at }
 {
@@ -194,6 +204,7 @@ fn move_to_hue_and_saturation(line: &[u8], at: usize) -> CommandRead
     }
 }
 
+#[tactic(auto, unfolding(crate::specs::Commands::move_to_color_temperature_at))]
 fn move_to_color_temperature(line: &[u8], at: usize) -> CommandRead
     ensures { Reads (move_to_color_temperature_at line.now at) result.value result.at }
 {
@@ -208,6 +219,7 @@ fn move_to_color_temperature(line: &[u8], at: usize) -> CommandRead
     }
 }
 
+#[tactic(auto, unfolding(crate::specs::Commands::move_color_temperature_at))]
 fn move_color_temperature(line: &[u8], at: usize) -> CommandRead
     ensures { Reads (move_color_temperature_at line.now at) result.value result.at }
 {
@@ -227,6 +239,7 @@ fn move_color_temperature(line: &[u8], at: usize) -> CommandRead
     }
 }
 
+#[tactic(auto, unfolding(crate::specs::Commands::step_color_temperature_at))]
 fn step_color_temperature(line: &[u8], at: usize) -> CommandRead
     ensures { Reads (step_color_temperature_at line.now at) result.value result.at }
 {
@@ -248,6 +261,7 @@ fn step_color_temperature(line: &[u8], at: usize) -> CommandRead
     }
 }
 
+#[tactic(auto, unfolding(crate::specs::Commands::color_loop_set_at))]
 fn color_loop_set(line: &[u8], at: usize) -> CommandRead
     ensures { Reads (color_loop_set_at line.now at) result.value result.at }
 {
@@ -271,6 +285,7 @@ fn color_loop_set(line: &[u8], at: usize) -> CommandRead
 }
 
 // Those of saturation and color temperature, the color loop and StopMoveStep.
+#[tactic(auto, unfolding(crate::specs::Commands::other_command_at))]
 fn other_command(line: &[u8], name: usize, at: usize) -> CommandRead
     ensures { Reads (other_command_at line.now name at) result.value result.at }
 {
@@ -308,6 +323,7 @@ fn other_command(line: &[u8], name: usize, at: usize) -> CommandRead
 }
 
 // The command whose name begins at `name`, with its arguments from `at` on.
+#[tactic(auto, unfolding(crate::specs::Commands::command_at, crate::specs::Commands::other_command_at))]
 fn command(line: &[u8], name: usize, at: usize) -> CommandRead
     ensures { Reads (command_at line.now name at) result.value result.at }
 {
@@ -336,6 +352,7 @@ fn command(line: &[u8], name: usize, at: usize) -> CommandRead
 }
 
 // The mask and the override.
+#[tactic(auto, unfolding(crate::specs::Commands::options_at))]
 pub(crate) fn options(line: &[u8], at: usize) -> OptionsRead
     ensures { Reads (options_at line.now at) result.value result.at }
 {
@@ -351,6 +368,7 @@ pub(crate) fn options(line: &[u8], at: usize) -> OptionsRead
 }
 
 // A command's name, the on/off word, its arguments, its options and the clock.
+#[tactic(auto, unfolding(crate::specs::Calls::invoke_at))]
 pub(crate) fn invoke(line: &[u8], at: usize) -> CallRead
     ensures { Reads (invoke_at line.now at) result.value result.at }
 {
@@ -372,6 +390,7 @@ pub(crate) fn invoke(line: &[u8], at: usize) -> CallRead
     }
 }
 
+#[tactic(auto, unfolding(crate::specs::Calls::begin_at))]
 pub(crate) fn begin(line: &[u8], at: usize) -> CallRead
     ensures { Reads (begin_at line.now at) result.value result.at }
 {
@@ -388,6 +407,7 @@ pub(crate) fn begin(line: &[u8], at: usize) -> CallRead
     }
 }
 
+#[tactic(auto, unfolding(crate::specs::Calls::step_at))]
 pub(crate) fn step(line: &[u8], at: usize) -> CallRead
     ensures { Reads (step_at line.now at) result.value result.at }
 {
@@ -398,6 +418,7 @@ pub(crate) fn step(line: &[u8], at: usize) -> CallRead
     }
 }
 
+#[tactic(auto, unfolding(crate::specs::Calls::halt_at))]
 pub(crate) fn halt(line: &[u8], at: usize) -> CallRead
     ensures { Reads (halt_at line.now at) result.value result.at }
 {

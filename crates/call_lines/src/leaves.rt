@@ -47,6 +47,7 @@ pub struct LeafRead {
     pub at: usize,
 }
 
+#[tactic(auto, unfolding(crate::specs::Leaves::delta_asked_at))]
 fn delta_read(line: &[u8], at: usize) -> LeafRead
     ensures { Reads (delta_asked_at line.now at) result.value result.at }
 {
@@ -64,6 +65,7 @@ fn delta_read(line: &[u8], at: usize) -> LeafRead
     }
 }
 
+#[tactic(auto, unfolding(crate::specs::Leaves::remaining_asked_at))]
 fn remaining_read(line: &[u8], at: usize) -> LeafRead
     ensures { Reads (remaining_asked_at line.now at) result.value result.at }
 {
@@ -80,6 +82,7 @@ fn remaining_read(line: &[u8], at: usize) -> LeafRead
     }
 }
 
+#[tactic(auto, unfolding(crate::specs::Leaves::leave_asked_at))]
 fn leave_read(line: &[u8], at: usize) -> LeafRead
     ensures { Reads (leave_asked_at line.now at) result.value result.at }
 {
@@ -98,6 +101,7 @@ fn leave_read(line: &[u8], at: usize) -> LeafRead
     }
 }
 
+#[tactic(auto, unfolding(crate::specs::Leaves::mode_of_asked_at))]
 fn mode_of_read(line: &[u8], at: usize) -> LeafRead
     ensures { Reads (mode_of_asked_at line.now at) result.value result.at }
 {
@@ -109,6 +113,7 @@ fn mode_of_read(line: &[u8], at: usize) -> LeafRead
     }
 }
 
+#[tactic(auto, unfolding(crate::specs::Leaves::current_hue_asked_at))]
 fn current_hue_read(line: &[u8], at: usize) -> LeafRead
     ensures { Reads (current_hue_asked_at line.now at) result.value result.at }
 {
@@ -120,6 +125,7 @@ fn current_hue_read(line: &[u8], at: usize) -> LeafRead
 }
 
 // The leaf's name and what it is asked.
+#[tactic(auto, unfolding(crate::specs::Leaves::leaf_at))]
 pub fn read(line: &[u8], at: usize) -> LeafRead
     ensures { Reads (leaf_at line.now at) result.value result.at }
 {
@@ -156,6 +162,7 @@ fn bit(out: &mut [u8], at: usize, b: bool) -> usize
     }
 }
 
+#[tactic(auto, unfolding(crate::specs::Leaves::delta_text))]
 fn delta(asked: DeltaAsked, out: &mut [u8], at: usize) -> usize
     ensures { Written out.old at (delta_text asked) out.new result }
 {
@@ -166,6 +173,7 @@ fn delta(asked: DeltaAsked, out: &mut [u8], at: usize) -> usize
     bit(out, b, path.is_tie)
 }
 
+#[tactic(auto, unfolding(crate::specs::Leaves::remaining_text))]
 fn remaining(asked: RemainingAsked, out: &mut [u8], at: usize) -> usize
     ensures { Written out.old at (remaining_text asked) out.new result }
 {
@@ -202,6 +210,7 @@ fn current_hue(stored: u16, out: &mut [u8], at: usize) -> usize
 }
 
 // Writes the answer, without a newline.
+#[tactic(auto, unfolding(crate::specs::Leaves::leaf_text))]
 pub fn ask(leaf: Leaf, out: &mut [u8], at: usize) -> usize
     ensures { Written out.old at (leaf_text leaf) out.new result }
 {

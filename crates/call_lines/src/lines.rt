@@ -87,6 +87,7 @@ fn poke_line(line: &[u8], at: usize) -> LineRead
     }
 }
 
+#[tactic(auto, unfolding(crate::specs::Lines::making_at))]
 fn making_line(line: &[u8], at: usize) -> LineRead
     ensures { Reads (making_at line.now at) result.value result.at }
 {
@@ -177,6 +178,7 @@ fn unreadable() -> LineRead
 }
 
 // The lines that ask a leaf, make a lamp, show it or change it by hand.
+#[tactic(auto, unfolding(crate::specs::Lines::other_line_at))]
 fn other_line(line: &[u8], name: usize, at: usize) -> LineRead
     ensures { Reads (other_line_at line.now name at) result.value result.at }
 {
@@ -208,6 +210,7 @@ fn other_line(line: &[u8], name: usize, at: usize) -> LineRead
 }
 
 // The line by its first word, which ends at `at`.
+#[tactic(auto, unfolding(crate::specs::Lines::line_at, crate::specs::Lines::other_line_at))]
 pub fn any_line(line: &[u8], name: usize, at: usize) -> LineRead
     ensures { Reads (line_at line.now name at) result.value result.at }
 {
@@ -229,6 +232,7 @@ pub fn any_line(line: &[u8], name: usize, at: usize) -> LineRead
     other_line(line, name, at)
 }
 
+#[tactic(auto, unfolding(crate::specs::Lines::line_read))]
 pub fn read(line: &[u8]) -> Line
     ensures { result ≡ line_read line.now }
 {
@@ -274,6 +278,7 @@ fn recorded(lamp: Lamp, running: Running) -> Answer
     })
 }
 
+#[tactic(auto, unfolding(crate::specs::Lines::on_lamp))]
 pub fn on_lamp(lamp: Lamp, what: OnLamp) -> Answer
     ensures { result ≡ on_lamp lamp what }
 {

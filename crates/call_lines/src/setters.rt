@@ -46,6 +46,7 @@ fn at_clock(line: &[u8], at: usize, value: NewValue, is_end: bool) -> SettingRea
     }
 }
 
+#[tactic(auto, unfolding(crate::specs::Setters::hue_setting_at))]
 fn hue(line: &[u8], at: usize) -> SettingRead
     ensures { Reads (hue_setting_at line.now at) result.value result.at }
 {
@@ -59,6 +60,7 @@ fn hue(line: &[u8], at: usize) -> SettingRead
     at_clock(line, is_enhanced.at, value, is_end.value)
 }
 
+#[tactic(auto, unfolding(crate::specs::Setters::saturation_setting_at))]
 fn saturation(line: &[u8], at: usize) -> SettingRead
     ensures { Reads (saturation_setting_at line.now at) result.value result.at }
 {
@@ -68,6 +70,7 @@ fn saturation(line: &[u8], at: usize) -> SettingRead
     at_clock(line, is_end.at, value, is_end.value)
 }
 
+#[tactic(auto, unfolding(crate::specs::Setters::mireds_setting_at))]
 fn mireds(line: &[u8], at: usize) -> SettingRead
     ensures { Reads (mireds_setting_at line.now at) result.value result.at }
 {
@@ -78,6 +81,7 @@ fn mireds(line: &[u8], at: usize) -> SettingRead
 }
 
 // The setter's name and its numbers.
+#[tactic(auto, unfolding(crate::specs::Setters::setting_at))]
 pub fn read(line: &[u8], at: usize) -> SettingRead
     ensures { Reads (setting_at line.now at) result.value result.at }
 {
@@ -120,6 +124,7 @@ fn set_color(color: Color, setting: Setting) -> ColorSet
 }
 
 // Refused with 8 or 4, as a halt is.
+#[tactic(auto, unfolding(crate::specs::Setters::setting_answer))]
 pub fn set(lamp: Lamp, setting: Setting) -> Answer
     ensures { result ≡ setting_answer lamp setting }
 {

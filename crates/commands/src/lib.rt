@@ -35,6 +35,7 @@ pub use temperatures::{
 use temperatures::{move_mireds, step_mireds, to_mireds};
 
 // What a command does that may execute and is in no Stop mode.
+#[tactic(auto, unfolding(crate::specs::Commands::command_effect))]
 fn execute(lamp: Lamp, command: Command, clock: u64) -> Outcome
     ensures { result ≡ accepted_outcome (command_effect (at_clock lamp clock) command) }
 {
@@ -95,6 +96,7 @@ fn execute(lamp: Lamp, command: Command, clock: u64) -> Outcome
 }
 
 // A command's checks in their order: 8 and 4, Stop mode, its own numbers, off.
+#[tactic(auto, unfolding(crate::specs::Outcomes::outcome_of, crate::specs::Answers::command_cause))]
 fn outcome(lamp: Lamp, request: Request, on_off: OnOff, clock: u64) -> Outcome
     ensures { result ≡ outcome_of lamp request on_off clock }
 {
@@ -177,6 +179,7 @@ pub fn cmd_stop_move_step(
 }
 
 // Any call of a lamp: the one door to commands, starts, steps and halts.
+#[tactic(auto, unfolding(crate::specs::Answers::answer))]
 pub fn call(lamp: Lamp, call: Call) -> Answer
     ensures { result ≡ answer lamp call }
 {

@@ -72,6 +72,7 @@ fn cons_updated(list: Numeral, flags: u8) -> Numeral
 }
 
 // Off: where the loop is active, the stored hue comes back and the Stop task is given.
+#[tactic(auto, unfolding(crate::specs::Commands::deactivated))]
 fn deactivate(lamp: Lamp) -> Outcome
     ensures { result ≡ accepted_outcome (deactivated lamp []) }
 {
@@ -100,6 +101,7 @@ fn deactivate(lamp: Lamp) -> Outcome
 }
 
 // On: the hue is stored, unless the loop is active already, the first hue is set, and the loop's task is given.
+#[tactic(auto, unfolding(crate::specs::Commands::activated))]
 fn activate(lamp: Lamp, seed: u16) -> Outcome
     ensures { result ≡ accepted_outcome (activated lamp [] seed) }
 {
@@ -150,6 +152,7 @@ fn act(lamp: Lamp, acts: bool, action: ColorLoopActionEnum) -> Outcome
 }
 
 // What the command does at its clock.
+#[tactic(auto, unfolding(crate::specs::Commands::loop_set))]
 pub(crate) fn set_loop(
     lamp: Lamp,
     clock: u64,

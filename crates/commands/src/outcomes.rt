@@ -22,6 +22,7 @@ pub struct Outcome {
 }
 
 // A task given, and its tie reported where there is one.
+#[tactic(auto, unfolding(notices::specs::Numerals::in_front))]
 pub(crate) fn given_with(lamp: Lamp, task: Task, is_tie: bool) -> Outcome
     ensures { result ≡ accepted_outcome (giving_with lamp task (only is_tie hue_tie)) }
 {
@@ -66,6 +67,7 @@ pub(crate) fn refused(lamp: Lamp, cause: u8) -> Outcome
 }
 
 // A command that may not execute: document 01's pass-over.
+#[tactic(auto, unfolding(notices::specs::Numerals::in_front))]
 pub(crate) fn skipped(lamp: Lamp) -> Outcome
     ensures { result ≡ accepted_outcome (skip lamp) }
 {

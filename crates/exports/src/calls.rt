@@ -66,6 +66,7 @@ pub struct CommandNumbers {
 }
 
 impl CommandNumbers {
+    #[tactic(auto, unfolding(crate::specs::Calls::hue_command))]
     fn hue_command(self) -> Command
         ensures { result ≡ hue_command self }
     {
@@ -90,6 +91,7 @@ impl CommandNumbers {
         }
     }
 
+    #[tactic(auto, unfolding(crate::specs::Calls::saturation_command))]
     fn saturation_command(self) -> Command
         ensures { result ≡ saturation_command self }
     {
@@ -121,6 +123,7 @@ impl CommandNumbers {
         }
     }
 
+    #[tactic(auto, unfolding(crate::specs::Calls::enhanced_command))]
     fn enhanced_command(self) -> Command
         ensures { result ≡ enhanced_command self }
     {
@@ -144,6 +147,7 @@ impl CommandNumbers {
         }
     }
 
+    #[tactic(auto, unfolding(crate::specs::Calls::mireds_command))]
     fn mireds_command(self) -> Command
         ensures { result ≡ mireds_command self }
     {
@@ -170,6 +174,7 @@ impl CommandNumbers {
         }
     }
 
+    #[tactic(auto, unfolding(crate::specs::Calls::loop_command))]
     fn loop_command(self) -> Command
         ensures { result ≡ loop_command self }
     {
@@ -182,6 +187,7 @@ impl CommandNumbers {
         }
     }
 
+    #[tactic(auto, unfolding(crate::specs::Calls::command_of))]
     fn command(self) -> Command
         ensures { result ≡ command_of self }
     {
@@ -203,6 +209,7 @@ impl CommandNumbers {
         self.mireds_command()
     }
 
+    #[tactic(auto, unfolding(crate::specs::Calls::request_of))]
     fn request(self) -> Request
         ensures { result ≡ request_of self }
     {
@@ -216,6 +223,7 @@ impl CommandNumbers {
     }
 
     // Whether each argument is within its field: sixteen bits at most, eight for some, 0 or 1 for a flag.
+    #[tactic(auto, unfolding(crate::specs::Calls::command_fits))]
     fn fits(self) -> bool
         ensures { result ≡ command_fits self }
     {
@@ -243,6 +251,7 @@ impl CommandNumbers {
     }
 
     // Whether the kind and the enums' numbers exist, and each argument is within its field.
+    #[tactic(auto, unfolding(crate::specs::Calls::command_known))]
     fn known(self) -> bool
         ensures { result ≡ command_known self }
     {
@@ -299,6 +308,7 @@ fn task_numbers(w: &[u64]) -> TaskNumbers
 }
 
 // Whether the words are a call: as many as it has, with a kind and enums' numbers that exist, and each within its field.
+#[tactic(auto, unfolding(crate::specs::Calls::call_known))]
 pub(crate) fn call_known(w: &[u64]) -> bool
     ensures { result ≡ call_known w.now }
 {
@@ -313,6 +323,7 @@ pub(crate) fn call_known(w: &[u64]) -> bool
 }
 
 // The call that the words mean; `call_known` says whether they are one.
+#[tactic(auto, unfolding(crate::specs::Calls::call_of))]
 pub fn call_of(w: &[u64]) -> Call
     ensures { result ≡ call_of w.now }
 {
@@ -338,6 +349,7 @@ pub fn call_of(w: &[u64]) -> Call
 }
 
 // Sends a call to the lamp. A kind past the last one is no call.
+#[tactic(auto, unfolding(crate::specs::Calls::sent))]
 pub fn sent(lamp: Lamp, w: &[u64]) -> Answer
     ensures { result ≡ C.sent lamp w.now }
 {

@@ -11,6 +11,7 @@ use matter::{
     StepModeFound,
 };
 
+#[tactic(auto, unfolding(crate::specs::Enums::direction_read))]
 pub(crate) fn direction(n: u64) -> DirectionEnum
     ensures { result ≡ direction_read n }
 {
@@ -20,6 +21,7 @@ pub(crate) fn direction(n: u64) -> DirectionEnum
     }
 }
 
+#[tactic(auto, unfolding(crate::specs::Enums::move_mode_read))]
 pub(crate) fn move_mode(n: u64) -> MoveModeEnum
     ensures { result ≡ move_mode_read n }
 {
@@ -29,6 +31,7 @@ pub(crate) fn move_mode(n: u64) -> MoveModeEnum
     }
 }
 
+#[tactic(auto, unfolding(crate::specs::Enums::step_mode_read))]
 pub(crate) fn step_mode(n: u64) -> StepModeEnum
     ensures { result ≡ step_mode_read n }
 {
@@ -38,6 +41,7 @@ pub(crate) fn step_mode(n: u64) -> StepModeEnum
     }
 }
 
+#[tactic(auto, unfolding(crate::specs::Enums::loop_action_read))]
 pub(crate) fn loop_action(n: u64) -> ColorLoopActionEnum
     ensures { result ≡ loop_action_read n }
 {
@@ -47,6 +51,7 @@ pub(crate) fn loop_action(n: u64) -> ColorLoopActionEnum
     }
 }
 
+#[tactic(auto, unfolding(crate::specs::Enums::loop_direction_read))]
 pub(crate) fn loop_direction(n: u64) -> ColorLoopDirectionEnum
     ensures { result ≡ loop_direction_read n }
 {
@@ -56,6 +61,7 @@ pub(crate) fn loop_direction(n: u64) -> ColorLoopDirectionEnum
     }
 }
 
+#[tactic(auto, unfolding(crate::specs::Enums::color_mode_read))]
 pub(crate) fn color_mode(n: u64) -> ColorModeEnum
     ensures { result ≡ color_mode_read n }
 {
@@ -65,6 +71,7 @@ pub(crate) fn color_mode(n: u64) -> ColorModeEnum
     }
 }
 
+#[tactic(auto, unfolding(crate::specs::Enums::enhanced_mode_read))]
 pub(crate) fn enhanced_mode(n: u64) -> EnhancedColorModeEnum
     ensures { result ≡ enhanced_mode_read n }
 {
@@ -74,6 +81,7 @@ pub(crate) fn enhanced_mode(n: u64) -> EnhancedColorModeEnum
     }
 }
 
+#[tactic(auto, unfolding(crate::specs::Enums::on_off_read))]
 pub(crate) fn on_off(n: u64) -> OnOff
     ensures { result ≡ on_off_read n }
 {
@@ -84,6 +92,7 @@ pub(crate) fn on_off(n: u64) -> OnOff
 }
 
 // Whether a case has the number.
+#[tactic(auto, unfolding(crate::specs::Enums::direction_known))]
 pub(crate) fn direction_known(number: u64) -> bool
     ensures { result ≡ direction_known number }
 {
@@ -93,6 +102,7 @@ pub(crate) fn direction_known(number: u64) -> bool
     }
 }
 
+#[tactic(auto, unfolding(crate::specs::Enums::move_mode_known))]
 pub(crate) fn move_mode_known(number: u64) -> bool
     ensures { result ≡ move_mode_known number }
 {
@@ -102,6 +112,7 @@ pub(crate) fn move_mode_known(number: u64) -> bool
     }
 }
 
+#[tactic(auto, unfolding(crate::specs::Enums::step_mode_known))]
 pub(crate) fn step_mode_known(number: u64) -> bool
     ensures { result ≡ step_mode_known number }
 {
@@ -111,6 +122,7 @@ pub(crate) fn step_mode_known(number: u64) -> bool
     }
 }
 
+#[tactic(auto, unfolding(crate::specs::Enums::loop_action_known))]
 pub(crate) fn loop_action_known(number: u64) -> bool
     ensures { result ≡ loop_action_known number }
 {
@@ -120,6 +132,7 @@ pub(crate) fn loop_action_known(number: u64) -> bool
     }
 }
 
+#[tactic(auto, unfolding(crate::specs::Enums::loop_direction_known))]
 pub(crate) fn loop_direction_known(number: u64) -> bool
     ensures { result ≡ loop_direction_known number }
 {
@@ -129,6 +142,7 @@ pub(crate) fn loop_direction_known(number: u64) -> bool
     }
 }
 
+#[tactic(auto, unfolding(crate::specs::Enums::color_mode_known))]
 pub(crate) fn color_mode_known(number: u64) -> bool
     ensures { result ≡ color_mode_known number }
 {
@@ -138,6 +152,7 @@ pub(crate) fn color_mode_known(number: u64) -> bool
     }
 }
 
+#[tactic(auto, unfolding(crate::specs::Enums::enhanced_mode_known))]
 pub(crate) fn enhanced_mode_known(number: u64) -> bool
     ensures { result ≡ enhanced_mode_known number }
 {
@@ -147,6 +162,7 @@ pub(crate) fn enhanced_mode_known(number: u64) -> bool
     }
 }
 
+#[tactic(auto, unfolding(crate::specs::Enums::on_off_known))]
 pub(crate) fn on_off_known(number: u64) -> bool
     ensures { result ≡ on_off_known number }
 {

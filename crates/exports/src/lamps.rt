@@ -89,6 +89,7 @@ pub fn lamp_of(w: &[u64]) -> Lamp
 }
 
 // Whether each number is within its field.
+#[tactic(auto, unfolding(crate::specs::Lamps::lamp_fits))]
 fn lamp_fits(w: &[u64]) -> bool
     ensures { result ≡ lamp_fits w.now }
 {
@@ -106,6 +107,7 @@ fn lamp_fits(w: &[u64]) -> bool
 }
 
 // Whether the enums have their numbers, and each number is within its field.
+#[tactic(auto, unfolding(crate::specs::Lamps::lamp_known))]
 pub(crate) fn lamp_known(w: &[u64]) -> bool
     ensures { result ≡ lamp_known w.now }
 {

@@ -50,6 +50,7 @@ pub struct RecordNumbers {
     pub task: TaskNumbers,
 }
 
+#[tactic(auto, unfolding(crate::specs::Moves::delta_of))]
 fn delta(sign: u64, size: u64) -> HueDelta
     ensures { result ≡ delta_of sign size }
 {
@@ -60,6 +61,7 @@ fn delta(sign: u64, size: u64) -> HueDelta
     }
 }
 
+#[tactic(auto, unfolding(crate::specs::Moves::target_of))]
 fn target(given: u64, saturation: u64) -> TargetSaturation
     ensures { result ≡ target_of given saturation }
 {
@@ -71,6 +73,7 @@ fn target(given: u64, saturation: u64) -> TargetSaturation
 }
 
 impl TaskNumbers {
+    #[tactic(auto, unfolding(crate::specs::Moves::move_to_of))]
     fn move_to(self) -> HueSaturationMoveTo
         ensures { result ≡ move_to_of self }
     {
@@ -82,6 +85,7 @@ impl TaskNumbers {
         }
     }
 
+    #[tactic(auto, unfolding(crate::specs::Moves::hue_move_of))]
     fn hue_move(self) -> HueMove
         ensures { result ≡ hue_move_of self }
     {
@@ -92,6 +96,7 @@ impl TaskNumbers {
         }
     }
 
+    #[tactic(auto, unfolding(crate::specs::Moves::saturation_move_of))]
     fn saturation_move(self) -> SaturationMove
         ensures { result ≡ saturation_move_of self }
     {
@@ -101,6 +106,7 @@ impl TaskNumbers {
         }
     }
 
+    #[tactic(auto, unfolding(crate::specs::Moves::mireds_to_of))]
     fn mireds_to(self) -> ColorTemperatureMoveTo
         ensures { result ≡ mireds_to_of self }
     {
@@ -110,6 +116,7 @@ impl TaskNumbers {
         }
     }
 
+    #[tactic(auto, unfolding(crate::specs::Moves::mireds_move_of))]
     fn mireds_move(self) -> ColorTemperatureMove
         ensures { result ≡ mireds_move_of self }
     {
@@ -120,6 +127,7 @@ impl TaskNumbers {
         }
     }
 
+    #[tactic(auto, unfolding(crate::specs::Moves::color_loop_of))]
     fn color_loop(self) -> ColorLoop
         ensures { result ≡ color_loop_of self }
     {
@@ -130,6 +138,7 @@ impl TaskNumbers {
     }
 
     // Whether each number is within its field.
+    #[tactic(auto, unfolding(crate::specs::Moves::task_fits))]
     fn fits(self) -> bool
         ensures { result ≡ task_fits self }
     {
@@ -148,6 +157,7 @@ impl TaskNumbers {
     }
 
     // Whether the kind and the enums' numbers exist, and each number is within its field.
+    #[tactic(auto, unfolding(crate::specs::Moves::task_known))]
     pub(crate) fn known(self) -> bool
         ensures { result ≡ task_known self }
     {
@@ -161,6 +171,7 @@ impl TaskNumbers {
                 | (self.kind == STOP))
     }
 
+    #[tactic(auto, unfolding(crate::specs::Moves::task_of))]
     pub(crate) fn task(self) -> Task
         ensures { result ≡ task_of self }
     {
@@ -188,6 +199,7 @@ impl TaskNumbers {
 
 impl RecordNumbers {
     // The same of a record.
+    #[tactic(auto, unfolding(crate::specs::Moves::record_known))]
     pub(crate) fn known(self) -> bool
         ensures { result ≡ record_known self }
     {
@@ -385,6 +397,7 @@ fn of_color_loop(t: ColorLoop) -> TaskNumbers
     )
 }
 
+#[tactic(auto, unfolding(crate::specs::Moves::task_numbers))]
 pub(crate) fn of_task(task: Task) -> TaskNumbers
     ensures { result ≡ task_numbers task }
 {
@@ -399,6 +412,7 @@ pub(crate) fn of_task(task: Task) -> TaskNumbers
     }
 }
 
+#[tactic(auto, unfolding(crate::specs::Moves::given_numbers))]
 pub fn of_given(task: GivenTask) -> TaskNumbers
     ensures { result ≡ given_numbers task }
 {
@@ -419,6 +433,7 @@ fn record(start: u64, x: u64, y: u64, task: TaskNumbers) -> RecordNumbers
     }
 }
 
+#[tactic(auto, unfolding(crate::specs::Moves::record_numbers))]
 pub fn of_running(running: Running) -> RecordNumbers
     ensures { result ≡ record_numbers running }
 {

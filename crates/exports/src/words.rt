@@ -29,12 +29,14 @@ pub(crate) fn long(x: u64) -> u32
 }
 
 // An enum's number: past eight bits it is 255, which no enum has.
+#[tactic(auto, unfolding(crate::specs::Words::capped))]
 pub(crate) fn capped(x: u64) -> u8
     ensures { result ≡ W.capped x }
 {
     if x <= 255 { x as u8 } else { 255 }
 }
 
+#[tactic(auto, unfolding(crate::specs::Words::flag))]
 pub(crate) fn flag(x: u64) -> bool
     ensures { result ≡ W.flag x }
 {
@@ -42,6 +44,7 @@ pub(crate) fn flag(x: u64) -> bool
 }
 
 // A signed number of its sign, 1 up or 2 down, and its size.
+#[tactic(auto, unfolding(crate::specs::Words::signed))]
 pub(crate) fn signed(sign: u64, size: u64) -> i64
     ensures { result ≡ W.signed sign size }
 {
@@ -50,6 +53,7 @@ pub(crate) fn signed(sign: u64, size: u64) -> i64
 }
 
 // The sign of a number: 2 below 0, else 1.
+#[tactic(auto, unfolding(crate::specs::Words::sign_of))]
 pub(crate) fn sign_of(n: i64) -> u64
     ensures { result ≡ W.sign_of n }
 {

@@ -99,6 +99,7 @@ pub struct Written {
     pub len: usize,
 }
 
+#[tactic(auto, unfolding(crate::specs::Run::line_of))]
 fn line_of(answer: Answer, clock: u64) -> Line
     ensures { result ≡ line_of answer clock }
 {
@@ -116,6 +117,7 @@ fn line_of(answer: Answer, clock: u64) -> Line
 }
 
 // The step that follows an answer to a call at this clock.
+#[tactic(auto, unfolding(crate::specs::Run::step_of))]
 fn step_of(answer: Answer, clock: u64, left: u16) -> Fade
     requires { clock + answer.wait < 2 ^ 64 }
     ensures { result ≡ step_of answer clock left }
@@ -198,6 +200,7 @@ fn step(stepping: Stepping, out: &mut [u8], at: usize) -> Written
 
 impl Fade {
     // The run that a line asks for.
+    #[tactic(auto, unfolding(crate::specs::Run::fade_of))]
     pub fn new(asked: Asked) -> Fade
         ensures { result ≡ fade_of asked }
     {

@@ -19,6 +19,7 @@ pub fn bar(out: &mut [u8], at: usize) -> usize
 }
 
 // A number after a blank.
+#[tactic(auto, unfolding(crate::specs::Answers::number_text))]
 pub fn number(out: &mut [u8], at: usize, n: u64) -> usize
     ensures { Written out.old at (number_text n) out.new result }
 {
@@ -27,6 +28,7 @@ pub fn number(out: &mut [u8], at: usize, n: u64) -> usize
 }
 
 // The same of a signed number.
+#[tactic(auto, unfolding(crate::specs::Answers::signed_text))]
 fn signed_number(out: &mut [u8], at: usize, n: i64) -> usize
     ensures { Written out.old at (signed_text n) out.new result }
 {
@@ -102,6 +104,7 @@ fn fields(out: &mut [u8], at: usize, lamp: Lamp) -> usize
 }
 
 // The notices in their order; `-` where there is none.
+#[tactic(auto, unfolding(crate::specs::Answers::notices_text))]
 fn notices(out: &mut [u8], at: usize, list: Notices) -> usize
     ensures { Written out.old at (notices_text list) out.new result }
 {
@@ -255,6 +258,7 @@ fn reported(out: &mut [u8], at: usize, list: Notices, task: GivenTask, wait: u64
     number(out, e, wait)
 }
 
+#[tactic(auto, unfolding(crate::specs::Answers::answer_text))]
 pub fn answer(out: &mut [u8], at: usize, answer: Answer) -> usize
     ensures { Written out.old at (answer_text answer) out.new result }
 {

@@ -59,6 +59,7 @@ pub struct OnOffRead {
     pub at: usize,
 }
 
+#[tactic(auto, unfolding(crate::specs::Enums::direction_at))]
 pub fn path_direction(line: &[u8], at: usize) -> DirectionRead
     ensures { Reads (direction_at line.now at) result.value result.at }
 {
@@ -75,6 +76,7 @@ pub fn path_direction(line: &[u8], at: usize) -> DirectionRead
     }
 }
 
+#[tactic(auto, unfolding(crate::specs::Enums::move_mode_at))]
 pub fn move_mode(line: &[u8], at: usize) -> MoveModeRead
     ensures { Reads (move_mode_at line.now at) result.value result.at }
 {
@@ -91,6 +93,7 @@ pub fn move_mode(line: &[u8], at: usize) -> MoveModeRead
     }
 }
 
+#[tactic(auto, unfolding(crate::specs::Enums::step_mode_at))]
 pub fn step_mode(line: &[u8], at: usize) -> StepModeRead
     ensures { Reads (step_mode_at line.now at) result.value result.at }
 {
@@ -107,6 +110,7 @@ pub fn step_mode(line: &[u8], at: usize) -> StepModeRead
     }
 }
 
+#[tactic(auto, unfolding(crate::specs::Enums::loop_action_at))]
 pub fn loop_action(line: &[u8], at: usize) -> LoopActionRead
     ensures { Reads (loop_action_at line.now at) result.value result.at }
 {
@@ -123,6 +127,7 @@ pub fn loop_action(line: &[u8], at: usize) -> LoopActionRead
     }
 }
 
+#[tactic(auto, unfolding(crate::specs::Enums::loop_direction_at))]
 pub fn loop_direction(line: &[u8], at: usize) -> LoopDirectionRead
     ensures { Reads (loop_direction_at line.now at) result.value result.at }
 {
@@ -139,6 +144,7 @@ pub fn loop_direction(line: &[u8], at: usize) -> LoopDirectionRead
     }
 }
 
+#[tactic(auto, unfolding(crate::specs::Enums::color_mode_at))]
 pub fn color_mode(line: &[u8], at: usize) -> ModeRead
     ensures { Reads (color_mode_at line.now at) result.value result.at }
 {
@@ -155,6 +161,7 @@ pub fn color_mode(line: &[u8], at: usize) -> ModeRead
     }
 }
 
+#[tactic(auto, unfolding(crate::specs::Enums::enhanced_mode_at))]
 pub fn enhanced_mode(line: &[u8], at: usize) -> EnhancedModeRead
     ensures { Reads (enhanced_mode_at line.now at) result.value result.at }
 {
@@ -172,6 +179,7 @@ pub fn enhanced_mode(line: &[u8], at: usize) -> EnhancedModeRead
 }
 
 // `on`, `off`, or `none` where there is no on/off handler.
+#[tactic(auto, unfolding(crate::specs::Enums::on_off_at))]
 pub fn on_off(line: &[u8], at: usize) -> OnOffRead
     ensures { Reads (on_off_at line.now at) result.value result.at }
 {

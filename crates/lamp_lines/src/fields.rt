@@ -41,6 +41,7 @@ pub struct LampRead {
     pub at: usize,
 }
 
+#[tactic(auto, unfolding(crate::specs::Fields::bounds_at))]
 pub fn bounds(line: &[u8], at: usize) -> BoundsRead
     ensures { Reads (bounds_at line.now at) result.value result.at }
 {
@@ -55,6 +56,7 @@ pub fn bounds(line: &[u8], at: usize) -> BoundsRead
     }
 }
 
+#[tactic(auto, unfolding(crate::specs::Fields::stamps_at))]
 fn stamps(line: &[u8], at: usize) -> StampsRead
     ensures { Reads (stamps_at line.now at) result.value result.at }
 {
@@ -71,6 +73,7 @@ fn stamps(line: &[u8], at: usize) -> StampsRead
     }
 }
 
+#[tactic(auto, unfolding(crate::specs::Fields::color_at))]
 fn color(line: &[u8], at: usize) -> ColorRead
     ensures { Reads (color_at line.now at) result.value result.at }
 {
@@ -96,6 +99,7 @@ fn color(line: &[u8], at: usize) -> ColorRead
     }
 }
 
+#[tactic(auto, unfolding(crate::specs::Fields::loop_settings_at))]
 fn loop_settings(line: &[u8], at: usize) -> LoopRead
     ensures { Reads (loop_settings_at line.now at) result.value result.at }
 {
@@ -118,6 +122,7 @@ fn loop_settings(line: &[u8], at: usize) -> LoopRead
 }
 
 // An idle lamp with the fields that follow.
+#[tactic(auto, unfolding(crate::specs::Fields::idle_lamp_at))]
 pub fn idle_lamp(line: &[u8], at: usize) -> LampRead
     ensures { Reads (idle_lamp_at line.now at) result.value result.at }
 {

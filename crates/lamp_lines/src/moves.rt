@@ -30,6 +30,7 @@ pub struct TaskRead {
 }
 
 // A signed delta, or `-` for none.
+#[tactic(auto, unfolding(crate::specs::Moves::delta_at))]
 fn delta(line: &[u8], at: usize) -> DeltaRead
     ensures { Reads (delta_at line.now at) result.value result.at }
 {
@@ -48,6 +49,7 @@ fn delta(line: &[u8], at: usize) -> DeltaRead
 }
 
 // A saturation, or `-` for none.
+#[tactic(auto, unfolding(crate::specs::Moves::target_at))]
 fn target(line: &[u8], at: usize) -> TargetRead
     ensures { Reads (target_at line.now at) result.value result.at }
 {
@@ -65,6 +67,7 @@ fn target(line: &[u8], at: usize) -> TargetRead
     }
 }
 
+#[tactic(auto, unfolding(crate::specs::Moves::move_to_at))]
 fn move_to(line: &[u8], at: usize) -> TaskRead
     ensures { Reads (move_to_at line.now at) result.value result.at }
 {
@@ -85,6 +88,7 @@ fn move_to(line: &[u8], at: usize) -> TaskRead
     }
 }
 
+#[tactic(auto, unfolding(crate::specs::Moves::hue_move_at))]
 fn hue_move(line: &[u8], at: usize) -> TaskRead
     ensures { Reads (hue_move_at line.now at) result.value result.at }
 {
@@ -102,6 +106,7 @@ fn hue_move(line: &[u8], at: usize) -> TaskRead
     }
 }
 
+#[tactic(auto, unfolding(crate::specs::Moves::saturation_move_at))]
 fn saturation_move(line: &[u8], at: usize) -> TaskRead
     ensures { Reads (saturation_move_at line.now at) result.value result.at }
 {
@@ -117,6 +122,7 @@ fn saturation_move(line: &[u8], at: usize) -> TaskRead
     }
 }
 
+#[tactic(auto, unfolding(crate::specs::Moves::mireds_to_at))]
 fn mireds_to(line: &[u8], at: usize) -> TaskRead
     ensures { Reads (mireds_to_at line.now at) result.value result.at }
 {
@@ -131,6 +137,7 @@ fn mireds_to(line: &[u8], at: usize) -> TaskRead
     }
 }
 
+#[tactic(auto, unfolding(crate::specs::Moves::mireds_move_at))]
 fn mireds_move(line: &[u8], at: usize) -> TaskRead
     ensures { Reads (mireds_move_at line.now at) result.value result.at }
 {
@@ -147,6 +154,7 @@ fn mireds_move(line: &[u8], at: usize) -> TaskRead
     }
 }
 
+#[tactic(auto, unfolding(crate::specs::Moves::color_loop_at))]
 fn color_loop(line: &[u8], at: usize) -> TaskRead
     ensures { Reads (color_loop_at line.now at) result.value result.at }
 {
@@ -163,6 +171,7 @@ fn color_loop(line: &[u8], at: usize) -> TaskRead
 }
 
 // The task whose name begins at `name`, with its numbers from `at` on.
+#[tactic(auto, unfolding(crate::specs::Moves::task_at))]
 pub fn task(line: &[u8], name: usize, at: usize) -> TaskRead
     ensures { Reads (task_at line.now name at) result.value result.at }
 {

@@ -26,6 +26,7 @@ struct Initial {
     at: usize,
 }
 
+#[tactic(auto, unfolding(crate::specs::Records::at_start))]
 fn initial_values(line: &[u8], name: usize, at: usize) -> Initial
     ensures { Reads (at_start line.now name at) (values_of result) result.at }
 {
@@ -59,6 +60,7 @@ fn initial_values(line: &[u8], name: usize, at: usize) -> Initial
 
 // The record of a task. In a move of the color temperature, the limits that it runs between take the place of the
 // caller's.
+#[tactic(auto, unfolding(crate::specs::Records::record_of))]
 fn record(initial: Initial, task: Task) -> Running
     ensures { result ≡ record_of (values_of initial) task }
 {
@@ -109,6 +111,7 @@ fn record(initial: Initial, task: Task) -> Running
     }
 }
 
+#[tactic(auto, unfolding(crate::specs::Records::running_at))]
 pub fn running(line: &[u8], at: usize) -> RecordRead
     ensures { Reads (running_at line.now at) result.value result.at }
 {

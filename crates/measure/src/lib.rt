@@ -15,6 +15,7 @@ pub struct Ran {
     pub sums: Sums,
 }
 
+#[tactic(auto, unfolding(crate::specs::Runs::ran))]
 fn run(lamp: Lamp, calls: &[u64]) -> Ran
     ensures { result ≡ ran_all lamp calls.now }
 {

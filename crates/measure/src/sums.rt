@@ -18,6 +18,7 @@ pub struct Sums {
 }
 
 impl Sums {
+    #[tactic(auto, unfolding(crate::specs::Sums::added))]
     pub(crate) fn add(self, x: u64) -> Sums
         ensures { result ≡ added self x }
     {
@@ -28,6 +29,7 @@ impl Sums {
         }
     }
 
+    #[tactic(auto, unfolding(crate::specs::Sums::added_all))]
     fn add_color(self, color: Color) -> Sums
         ensures { result ≡ added_all self (color_words color) }
     {
@@ -44,6 +46,7 @@ impl Sums {
             .add(emode.number() as u64)
     }
 
+    #[tactic(auto, unfolding(crate::specs::Sums::added_all))]
     fn add_looping(self, looping: LoopSettings) -> Sums
         ensures { result ≡ added_all self (looping_words looping) }
     {
@@ -55,6 +58,7 @@ impl Sums {
             .add(looping.stored as u64)
     }
 
+    #[tactic(auto, unfolding(crate::specs::Sums::added_all))]
     fn add_task(self, task: TaskNumbers) -> Sums
         ensures { result ≡ added_all self (task_words task) }
     {
@@ -67,6 +71,7 @@ impl Sums {
             .add(task.f)
     }
 
+    #[tactic(auto, unfolding(crate::specs::Sums::added_all))]
     fn add_record(self, record: RecordNumbers) -> Sums
         ensures { result ≡ added_all self (record_words «record») }
     {
@@ -77,6 +82,7 @@ impl Sums {
             .add_task(task)
     }
 
+    #[tactic(auto, unfolding(crate::specs::Sums::added_all))]
     fn add_lamp(self, lamp: Lamp) -> Sums
         ensures { result ≡ added_all self (lamp_words lamp) }
     {
@@ -94,6 +100,7 @@ impl Sums {
             .add_record(of_running(running))
     }
 
+    #[tactic(auto, unfolding(crate::specs::Sums::added_all))]
     fn add_notices(self, notices: Notices) -> Sums
         ensures { result ≡ added_all self (place_words notices) }
     {
@@ -116,6 +123,7 @@ impl Sums {
             .add(place(p, 15))
     }
 
+    #[tactic(auto, unfolding(crate::specs::Sums::added_all))]
     pub(crate) fn add_answer(self, answer: Answer) -> Sums
         ensures { result ≡ answer_added self answer }
     {

@@ -105,6 +105,7 @@ fn sum_fields(h: u32, lamp: Lamp) -> u32
     sum_numbers(first, &list[1..])
 }
 
+#[tactic(auto, unfolding(crate::specs::RowAnswers::lamp_text))]
 fn sum_lamp(h: u32, lamp: Lamp) -> u32
     ensures { result ≡ summed h (lamp_text lamp) }
 {
@@ -138,6 +139,7 @@ fn sum_lamps(lamps: [Lamp; 32], count: u8) -> u32
 }
 
 // A row's count and sum. The word between them is A.3's.
+#[tactic(auto, unfolding(crate::specs::RowAnswers::row_text, crate::specs::RowAnswers::row_sum))]
 fn row_numbers(out: &mut [u8], at: usize, row: Row) -> usize
     ensures { Written out.old at (row_text row) out.new result }
 {
@@ -202,6 +204,7 @@ fn fresh_lamp() -> Lamp
 }
 
 // A row of fresh lamps. There are 32 behind every count.
+#[tactic(auto, unfolding(crate::specs::RowAnswers::fresh_row))]
 pub fn fresh_row(count: u8) -> Row
     ensures { result ≡ fresh_row count }
 {
@@ -257,6 +260,7 @@ fn is_filled(bytes: &[u8], from: u8) -> bool
 }
 
 // The bytes of a slice; `-` where there is none.
+#[tactic(auto, unfolding(crate::specs::RowAnswers::slice_text))]
 fn slice(out: &mut [u8], at: usize, bytes: &[u8]) -> usize
     ensures { Written out.old at (slice_text bytes.now) out.new result }
 {
@@ -267,6 +271,7 @@ fn slice(out: &mut [u8], at: usize, bytes: &[u8]) -> usize
     hex(out, a, bytes)
 }
 
+#[tactic(auto, unfolding(crate::specs::RowAnswers::kept_text))]
 fn kept(out: &mut [u8], at: usize, bytes: &[u8], from: u8) -> usize
     ensures { Written out.old at (kept_text bytes.now from) out.new result }
 {
@@ -313,6 +318,7 @@ fn zeros() -> [u8; 1024]
 }
 
 // A row call. A slice above 1,024 bytes is an error.
+#[tactic(auto, unfolding(crate::specs::RowAnswers::step_row))]
 fn step(row: Row, asked: RowStep, out: &mut [u8], at: usize) -> RowTurn
     ensures { Turned (step_row row asked) out.old at out.new result }
 {
@@ -400,6 +406,7 @@ fn place_text(out: &mut [u8], at: usize, answered: RowAnswer, count: u8, place: 
 }
 
 // A call of the lamp at a place.
+#[tactic(auto, unfolding(crate::specs::RowAnswers::called_at))]
 fn called(row: Row, place: u8, call: Call, out: &mut [u8], at: usize) -> RowTurn
     ensures { Turned (called_at row place call) out.old at out.new result }
 {
@@ -416,6 +423,7 @@ fn called(row: Row, place: u8, call: Call, out: &mut [u8], at: usize) -> RowTurn
 }
 
 // An edit's answer, and its lamp in the row.
+#[tactic(auto, unfolding(crate::specs::RowAnswers::edited_at))]
 fn edited(row: Row, place: u8, edit: Answer, out: &mut [u8], at: usize) -> RowTurn
     ensures { Turned (edited_at row place edit) out.old at out.new result }
 {
@@ -434,6 +442,7 @@ fn edited(row: Row, place: u8, edit: Answer, out: &mut [u8], at: usize) -> RowTu
 }
 
 // The same of what is done on the lamp there.
+#[tactic(auto, unfolding(crate::specs::RowAnswers::edited_at))]
 fn edited_on(row: Row, place: u8, what: OnLamp, out: &mut [u8], at: usize) -> RowTurn
     ensures { Turned (edited_on row place what) out.old at out.new result }
 {
@@ -446,6 +455,7 @@ fn edited_on(row: Row, place: u8, what: OnLamp, out: &mut [u8], at: usize) -> Ro
 }
 
 // A line at a place, where the task given last is this.
+#[tactic(auto, unfolding(crate::specs::RowAnswers::answered_place))]
 fn at_place(row: Row, asked: AtPlace, last: GivenTask, out: &mut [u8], at: usize) -> RowTurn
     ensures { Turned (answered_place row asked.place (asked_of asked.line last)) out.old at out.new result }
 {
@@ -460,6 +470,7 @@ fn at_place(row: Row, asked: AtPlace, last: GivenTask, out: &mut [u8], at: usize
 }
 
 // A line of the row, where the task given last is this.
+#[tactic(auto, unfolding(crate::specs::RowAnswers::on_row))]
 pub fn on_row(row: Row, what: OnRow, last: GivenTask, out: &mut [u8], at: usize) -> RowTurn
     ensures { Turned (on_row row what last) out.old at out.new result }
 {

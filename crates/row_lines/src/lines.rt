@@ -44,6 +44,7 @@ struct RowLineRead {
     at: usize,
 }
 
+#[tactic(auto, unfolding(crate::specs::RowLines::make_at))]
 fn make_line(line: &[u8], at: usize) -> RowLineRead
     ensures { Reads (make_at line.now at) result.value result.at }
 {
@@ -54,6 +55,7 @@ fn make_line(line: &[u8], at: usize) -> RowLineRead
     }
 }
 
+#[tactic(auto, unfolding(crate::specs::RowLines::count_at))]
 fn count_line(line: &[u8], at: usize) -> RowLineRead
     ensures { Reads (count_at line.now at) result.value result.at }
 {
@@ -64,6 +66,7 @@ fn count_line(line: &[u8], at: usize) -> RowLineRead
     }
 }
 
+#[tactic(auto, unfolding(crate::specs::RowLines::step_row_at))]
 fn step_line(line: &[u8], at: usize) -> RowLineRead
     ensures { Reads (step_row_at line.now at) result.value result.at }
 {
@@ -80,6 +83,7 @@ fn step_line(line: &[u8], at: usize) -> RowLineRead
     }
 }
 
+#[tactic(auto, unfolding(crate::specs::RowLines::place_at))]
 fn place_line(line: &[u8], at: usize) -> RowLineRead
     ensures { Reads (place_at line.now at) result.value result.at }
 {
@@ -97,6 +101,7 @@ fn place_line(line: &[u8], at: usize) -> RowLineRead
 }
 
 // A line of the lamp alone.
+#[tactic(auto, unfolding(crate::specs::RowLines::lamp_line_at))]
 fn lamp_line(line: &[u8], name: usize, at: usize) -> RowLineRead
     ensures { Reads (lamp_line_at line.now name at) result.value result.at }
 {
@@ -108,6 +113,7 @@ fn lamp_line(line: &[u8], name: usize, at: usize) -> RowLineRead
     }
 }
 
+#[tactic(auto, unfolding(crate::specs::RowLines::row_line_at))]
 fn any_line(line: &[u8], at: usize) -> RowLineRead
     ensures { Reads (row_line_at line.now at) result.value result.at }
 {
@@ -132,6 +138,7 @@ fn any_line(line: &[u8], at: usize) -> RowLineRead
     lamp_line(line, 0, at)
 }
 
+#[tactic(auto, unfolding(crate::specs::RowLines::row_line_read))]
 pub fn read(line: &[u8]) -> RowLine
     ensures { result ≡ row_line_read line.now }
 {

@@ -39,6 +39,7 @@ pub struct RowAnswer {
 }
 
 // What a row call does at one place: a lamp that runs is stepped, an idle one stays. The number is the lamp's own cause.
+#[tactic(auto, unfolding(crate::specs::Rows::visited))]
 fn visit(lamp: Lamp, clock: u64) -> Answer
     ensures { (result.lamp ≡ (visited lamp clock).lamp) × (result.notices ≡ (visited lamp clock).notices) × (result.wait ≡ (visited lamp clock).wait) × (result.number ≡ first_cause lamp clock) }
 {
@@ -50,6 +51,7 @@ fn visit(lamp: Lamp, clock: u64) -> Answer
 }
 
 // The lesser of two waits, where 0 is none.
+#[tactic(auto, unfolding(crate::specs::Rows::lesser))]
 fn least(a: u64, b: u64) -> u64
     ensures { result ≡ lesser a b }
 {
@@ -109,6 +111,7 @@ impl Row {
     }
 
     // The row with another lamp at a place; as it was where it has no such place.
+    #[tactic(auto, unfolding(crate::specs::Rows::put_at))]
     pub fn with_lamp(self, place: u8, lamp: Lamp) -> Row
         ensures { result ≡ put_at self place lamp }
     {
@@ -158,6 +161,7 @@ impl Row {
     }
 
     // What is checked before the lamps: the count, and the slice.
+    #[tactic(auto, unfolding(crate::specs::Rows::slice_cause))]
     fn slice_cause(self, size: usize) -> u8
         ensures { result ≡ slice_cause self size }
     {
@@ -172,6 +176,7 @@ impl Row {
 
     // Every lamp of the row is visited, in rising place: the row then, the least wait, and the first of their causes. What
     // they report goes into `bytes`.
+    #[tactic(auto, unfolding(crate::specs::Rows::lesser))]
     fn visit_all(self, bytes: &mut [u8], clock: u64) -> RowStepped
         requires { (self.count ≤ 32) × (16 * self.count ≤ length bytes.old) }
         ensures { (result.row ≡ with_lamps self (map_to self.count (λ l. (visited l clock).lamp) self.lamps)) × (result.wait ≡ least_wait clock (placed self)) × (result.number ≡ visits_cause clock (placed self)) × (take (16 * self.count) bytes.new ≡ bytes_of clock (placed self)) }
@@ -201,6 +206,7 @@ impl Row {
     }
 
     // One call at one clock: every lamp that runs is stepped, in rising place, and reports into its sixteen bytes.
+    #[tactic(auto, unfolding(crate::specs::Rows::row_stepped, crate::specs::Rows::row_bytes))]
     pub fn step(self, out: &mut [u8], clock: u64) -> RowStepped
         ensures { (result ≡ row_stepped self (length out.old) clock) × (out.new ≡ row_bytes self out.old clock) }
     {
@@ -219,6 +225,7 @@ impl Row {
     }
 
     // What is checked before the lamp: the count, and the place.
+    #[tactic(auto, unfolding(crate::specs::Rows::place_cause))]
     fn place_cause(self, place: u8) -> u8
         ensures { result ≡ place_cause self place }
     {
@@ -232,6 +239,7 @@ impl Row {
     }
 
     // Any call of the lamp at a place.
+    #[tactic(auto, unfolding(crate::specs::Rows::answered_at))]
     pub fn call_at(self, place: u8, asked: Call) -> RowAnswer
         ensures { result ≡ answered_at self place asked }
     {
