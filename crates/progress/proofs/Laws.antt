@@ -4,14 +4,16 @@ use mathlib.Core.Logic.{◌⊎◌, inl, inr, ⊎_elim}
 use mathlib.Core.Bool.{Bool, true, false, cond, ◌&&◌}
 use mathlib.Core.List.{[], ◌∷◌, map}
 use Prim.Native.Nat.{ℕ, zero, suc, ◌+◌, ◌*◌, ◌/◌, ◌%◌, ◌^◌, ◌<◌, ◌≤◌, min}
-use native.Mathlib.Nat.{le-div_iff_mul-le, div-lt_iff_lt-mul, mul-le-mul_left, mul-le-mul_right, div-le_self}
+use native.Mathlib.Nat.{le-div_iff_mul-le, div-lt_iff_lt-mul, mul-le-mul, mul-le-mul_left, mul-le-mul_right, div-le_self}
 use native.Mathlib.Omega.{arith}
 use lib.Dec.{leb, ltb, eqb}
-use lib.IntN.{ℤ, pos, negsuc, neg_ℤ, nat_abs}
+use lib.IntN.{ℤ, pos, negsuc, neg_ℤ, nat_abs, ◌*ℤ◌}
 use lib.Signed.{lt_z}
 use lib.Ieee.Nearest.{div_mono}
 use borrow.Author.Tests.{leb-true, leb-false, ltb-false, ne_eqb, le-leb, lt-leb, le-ltb}
-use Rattle.integers.proofs.Sizes.{abs-mul, abs-quot}
+use mir.Syntax.{w64}
+use mir.Val.{SFits}
+use Rattle.integers.proofs.Sizes.{small, abs-mul, abs-quot}
 use Rattle.integers.proofs.Signs.{neg-mul, neg-quot}
 use Rattle.matter.specs.declared.enums.ColorLoopDirectionEnum.{ColorLoopDirectionEnum}
 use Rattle.matter.specs.Limits.{clock_limit}
@@ -130,6 +132,10 @@ pub limited-same : (z : ℤ) → nat_abs z ≤ 65535 → limited z ≡ z
 unfolding limited
 limited-same (pos n) h = rw (le-ltb 65535 n h)
 limited-same (negsuc n) h = rw (le-ltb 65534 n (omega arith))
+
+-- such a way, times what is at most the limit of clocks, fits 64 bits
+pub limited-fits : (z : ℤ) (n : ℕ) → n ≤ clock_limit → SFits w64 (limited z *ℤ pos n)
+limited-fits z n h = small w64 _ (rw abs-mul (omega (arith, mul-le-mul {m₁ = n} {m₂ = clock_limit} (limited-size z) h)))
 
 -- ---- tenths
 

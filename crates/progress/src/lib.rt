@@ -1,6 +1,8 @@
 // The arithmetic of a step (document 01): how much of a way is done at an elapsed time, what is left, and how long to
 // wait for the next step. Times are whole milliseconds.
 // Carried over from project-chip/rs-matter, commit 43f61585a4 (Apache-2.0, see NOTICE), and changed.
+#![tactic(auto)]
+
 ghost use Rattle.std.specs.Prelude.{◌≡◌, ◌-◌, min};
 ghost use Rattle.matter.specs.Limits.{clock_limit};
 ghost use Rattle.progress.specs.Progress.{permille_of, part_of, delta_at_rate, limited, loop_ms, loop_turn, loop_delta, tenths_of, clamped_sum, end_wait, turn_wait};
@@ -11,6 +13,7 @@ use matter::{CLOCK_LIMIT, ColorLoopDirectionEnum};
 pub const TICK: u64 = 100;
 
 // How many thousandths of `time` have passed. At or past the time, and where the time is 0, all of them.
+#[tactic(auto, unfolding(crate::specs::Progress::permille_of))]
 pub fn permille(elapsed: u64, time: u32) -> u16
     ensures { result ≡ permille_of elapsed time }
 {
@@ -22,6 +25,7 @@ pub fn permille(elapsed: u64, time: u32) -> u16
 }
 
 // A way or a rate beyond ±65,535, which no valid task has, is read as that limit.
+#[tactic(auto, unfolding(crate::specs::Progress::limited), using(std::proofs::lemmas::Int::ints))]
 fn limited(signed: i64) -> i64
     ensures { result ≡ limited signed }
 {
@@ -111,6 +115,7 @@ pub fn tenths(ms: u64) -> u64
 }
 
 // The sum of a start and a signed part, clamped to `lo` and `hi`; `lo` is checked first.
+#[tactic(auto, unfolding(crate::specs::Progress::clamp), using(std::proofs::lemmas::Int::ints))]
 pub fn clamped_sum(lo: u16, hi: u16, start: u16, part: i64) -> u16
     ensures { result ≡ clamped_sum lo hi start part }
 {

@@ -1,5 +1,7 @@
 // RemainingTime, and when a change of it is reported: document 01, leaf 2.
 // Carried over from project-chip/rs-matter, commit 43f61585a4 (Apache-2.0, see NOTICE), and changed.
+#![tactic(auto)]
+
 ghost use Rattle.std.specs.Prelude.{◌≡◌};
 ghost use Rattle.remaining_time.specs.RemainingTime.{apart, reported, written_quietly};
 
@@ -27,6 +29,7 @@ fn abs_diff(a: u16, b: u16) -> u16
 
 // Whether a change from `prev` to `new_ds` is reported: to 0, from 0 to more than a second, or, at a transition's start,
 // by more than a second.
+#[tactic(auto, unfolding(crate::specs::RemainingTime::reported))]
 fn is_reported(prev: u16, new_ds: u16, is_start_of_transition: bool) -> bool
     ensures { result ≡ reported prev new_ds is_start_of_transition }
 {
