@@ -101,7 +101,7 @@ fn fresh(bounds: Bounds, feature_map: u32, options: u8, clock: u64) -> Lamp
 
 impl Lamp {
     // A fresh lamp, unless the clock is above the limit or the bounds are crossed.
-    #[tactic(auto, unfolding(crate::specs::Making::making))]
+    #[tactic(auto, unfolding(crate::specs::Making::making, crate::specs::Making::making_values))]
     pub fn new(bounds: Bounds, feature_map: u32, options: u8, clock: u64) -> Made
         ensures value { result ≡ making bounds feature_map options clock }
         ensures result_value { made_values result ≡ making_values bounds feature_map options clock }
