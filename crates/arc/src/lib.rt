@@ -1,4 +1,6 @@
 // Whether a fade passes through a band of hues: asked on numbers, before the fade is sent. Document 01, "Arc".
+#![tactic(auto)]
+
 ghost use Rattle.std.specs.Prelude.{◌≡◌, ◌*◌};
 ghost use Rattle.hue.specs.Hue.{distance};
 ghost use Rattle.arc.specs.Arc.{meet, passes_through, first_stored, last_stored, current_hue_band};
@@ -56,6 +58,7 @@ fn up(from: u16, to: u16) -> u16
 
 // Whether the hues from `from` up to `to` and those from `low` up to `high` have one in common: the first of one run
 // is then in the other.
+#[tactic(auto, unfolding(crate::specs::Arc::meet))]
 fn runs_meet(from: u16, to: u16, low: u16, high: u16) -> bool
     ensures { result ≡ meet from to low high }
 {
@@ -67,6 +70,7 @@ fn runs_meet(from: u16, to: u16, low: u16, high: u16) -> bool
 
 // Whether some hue on the arc from `found` to `target`, in the direction asked for, is in the band. Hues are stored
 // ones.
+#[tactic(auto, unfolding(crate::specs::Arc::passes_through))]
 pub fn passes_through(found: u16, target: u16, direction: DirectionEnum, band: Band) -> bool
     ensures { result ≡ passes_through found target direction band }
 {
