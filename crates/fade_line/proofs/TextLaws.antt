@@ -12,7 +12,7 @@ use Rattle.notices.specs.Notices.{filled, noted}
 use Rattle.text.specs.Digits.{decimal_in, decimal}
 use Rattle.text.specs.Written.{Wrote, Written}
 use Rattle.text.proofs.DigitLaws.{decimal-short}
-use Rattle.text.proofs.WordLaws.{drop-next}
+use Rattle.std.proofs.lemmas.List.{drop_more}
 use Rattle.text.proofs.WriteLaws.{side, wrote_none, wrote-all}
 use Rattle.fade_line.specs.declared.writer.Line.{Line}
 use Rattle.fade_line.specs.Text.{spaced, spaced_all, numbers, state_text, line_text, refused_text, room_for, fitting}
@@ -75,7 +75,7 @@ take_min n l =
 
 -- of a list's first n, what is left from i on
 pub left-next : (l : List ℕ) (n i : ℕ) → i < n → n ≤ length l → drop i (take n l) ≡ get_or l i 0 ∷ drop (i + 1) (take n l)
-left-next l n i h within = drop-next (take n l) i (rw (length-take-le n l within) h) ∙ ap (λ (x : ℕ). x ∷ drop (i + 1) (take n l)) (get_or-take n l i 0 h)
+left-next l n i h within = drop_more (take n l) i 0 (rw (length-take-le n l within) h) ∙ ap (λ (x : ℕ). x ∷ drop (i + 1) (take n l)) (get_or-take n l i 0 h)
 
 pub left-none : (l : List ℕ) (n i : ℕ) → n ≤ i → drop i (take n l) ≡ []
 left-none l n i h = drop_of_length-le (take n l) {i = i} (rw length-take (omega arith))

@@ -3,7 +3,7 @@ use Prim.Native.Nat.{ℕ, ◌+◌, ◌≤◌, ◌<◌}
 use mathlib.Core.List.{List}
 use lib.ListN.{length, drop, get_or, drop_of_length-le}
 use Rattle.text.specs.Written.{Written}
-use Rattle.text.proofs.WordLaws.{drop-next}
+use Rattle.std.proofs.lemmas.List.{drop_more}
 use Rattle.text.proofs.WriteLaws.{Completes, completes-less, completed}
 use Rattle.lamp_lines.specs.Answers.{number_text, numbers_text}
 
@@ -16,7 +16,7 @@ pub numbered_next : (old : List ℕ) (at : ℕ) (text mid : List ℕ) (next : �
     → Numbered old at text new end list (i + 1)
 unfolding numbers_text
 numbered_next old at text mid next list i left w h =
-    let more = rw (drop-next list i h) at left in
+    let more = rw (drop_more list i 0 h) at left in
     completes-less old at text mid next (number_text (get_or list i 0)) (numbers_text (drop (i + 1) list)) more w
 
 pub numbered-all : (old : List ℕ) (at : ℕ) (text new : List ℕ) (next : ℕ) (list : List ℕ) (i : ℕ)

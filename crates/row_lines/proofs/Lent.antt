@@ -11,7 +11,7 @@ use lib.Dec.{eqb}
 use lib.ListN.{length, take, drop, set, get_or, drop_of_length-le}
 use lib.Seq.{take_all, take-suc-set}
 use Rattle.text.specs.Words.{same}
-use Rattle.text.proofs.WordLaws.{drop-next}
+use Rattle.std.proofs.lemmas.List.{drop_more}
 use Rattle.row_lines.specs.RowAnswers.{lent_bytes}
 
 -- what is lent_bytes from a place on
@@ -55,7 +55,7 @@ module _ (bytes : List ℕ) (fill i : ℕ) (h : i < length bytes) where
   same_next : same (drop i bytes) (rest fill (length bytes) i)
       ≡ (eqb (get_or bytes i 0) ((fill + i) % 256) && same (drop (i + 1) bytes) (rest fill (length bytes) (i + 1)))
   unfolding same
-  same_next = rw (drop-next bytes i h, rest-next fill (length bytes) i h)
+  same_next = rw (drop_more bytes i 0 h, rest-next fill (length bytes) i h)
 
   pub same_more : {whole : Bool} → get_or bytes i 0 ≡ (fill + i) % 256 → same (drop i bytes) (rest fill (length bytes) i) ≡ whole
       → same (drop (i + 1) bytes) (rest fill (length bytes) (i + 1)) ≡ whole

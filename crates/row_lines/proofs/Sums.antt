@@ -9,7 +9,7 @@ use lib.ListN.{length, take, drop, get_or, drop_of_length-le}
 use lib.Seq.{take_all}
 use Rattle.text.specs.Digits.{decimal}
 use Rattle.text.proofs.WriteLaws.{side}
-use Rattle.text.proofs.WordLaws.{drop-next}
+use Rattle.std.proofs.lemmas.List.{drop_more}
 use Rattle.lamp.specs.declared.Lamp.{Lamp}
 use Rattle.rows.proofs.Places.{left, left-cons, left-none}
 use Rattle.lamp_lines.specs.Answers.{number_text, numbers_text}
@@ -32,7 +32,7 @@ summed-three h a b c = rw (append_assoc a b c) (sym (summed-join h a (b ++ c)))
 pub text-more : (sum : ℕ) (s : List ℕ) (i : ℕ) {whole : ℕ} → i < length s → summed sum (drop i s) ≡ whole
     → summed ((sum * 31 + get_or s i 0) % 4294967296) (drop (i + 1) s) ≡ whole
 unfolding summed
-text-more sum s i h e = rw (drop-next s i h) at e
+text-more sum s i h e = rw (drop_more s i 0 h) at e
 
 pub text-all : (sum : ℕ) (s : List ℕ) (i : ℕ) {whole : ℕ} → length s ≤ i → summed sum (drop i s) ≡ whole → sum ≡ whole
 unfolding summed
@@ -44,7 +44,7 @@ pub numbers_more : (sum : ℕ) (list : List ℕ) (i : ℕ) {whole : ℕ} → i <
     → summed (summed sum (number_text (get_or list i 0))) (numbers_text (drop (i + 1) list)) ≡ whole
 unfolding numbers_text
 numbers_more sum list i h e =
-    sym (summed-join sum (number_text (get_or list i 0)) (numbers_text (drop (i + 1) list))) ∙ (rw (drop-next list i h) at e)
+    sym (summed-join sum (number_text (get_or list i 0)) (numbers_text (drop (i + 1) list))) ∙ (rw (drop_more list i 0 h) at e)
 
 pub numbers-all : (sum : ℕ) (list : List ℕ) (i : ℕ) {whole : ℕ} → length list ≤ i → summed sum (numbers_text (drop i list)) ≡ whole → sum ≡ whole
 unfolding numbers_text summed

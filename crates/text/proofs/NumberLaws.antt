@@ -13,7 +13,7 @@ use Rattle.text.specs.Digits.{not_empty, digits_alone, value_from, value, is_num
 use Rattle.text.specs.Words.{word_at, in_word, end_of}
 use Rattle.text.specs.Numbers.{no_number, number_from}
 use Rattle.text.proofs.DigitLaws.{grown-refused, grown-to}
-use Rattle.text.proofs.WordLaws.{word-here, word_over}
+use Rattle.text.proofs.WordLaws.{word_here, word_over}
 
 -- what is left of a word is digits alone and stays within the bound
 abbrev within : ℕ → ℕ → List ℕ → Bool
@@ -43,7 +43,7 @@ none line from most e = rw e
 module _ (line : List ℕ) (from most at v : ℕ) (r : Reading line from most at v) where
   pub reading-next : (n : ℕ) → in_word line at ≡ true → grown v (get_or line at 0) most ≡ Grown.To n → Reading line from most (at + 1) n
   reading-next n i e =
-      let here = (word-here line at i).1 in
+      let here = word_here line at i in
       let more = grown-to v (get_or line at 0) most n e in
       let b = get_or line at 0 in
       let w = word_at line (at + 1) in
@@ -54,7 +54,7 @@ module _ (line : List ℕ) (from most at v : ℕ) (r : Reading line from most at
   reading-refused i e =
       none line from most
       (not_within (word_at line from) most
-      (sym r.1 ∙ ap (within most v) (word-here line at i).1 ∙ grown-refused v (get_or line at 0) most (word_at line (at + 1)) e))
+      (sym r.1 ∙ ap (within most v) (word_here line at i) ∙ grown-refused v (get_or line at 0) most (word_at line (at + 1)) e))
 
   pub reading-done : in_word line at ≡ false → (at ≡ from → ⊥) → ◌≡◌ {A = Read64} (record { value = v; at = at }) (number_from line from most)
   unfolding number_from is_number

@@ -14,7 +14,7 @@ use Rattle.text.specs.Written.{pasted, Written}
 use Rattle.text.specs.Words.{word_at, in_word, start_of, end_of}
 use Rattle.text.specs.Pairs.{isPairs, bytes_of, are_bytes, no_bytes, bytes_taken, bytes_read}
 use Rattle.text.proofs.WriteLaws.{side, pasted-none, wrote-all}
-use Rattle.text.proofs.WordLaws.{in-by, word-here, word_over}
+use Rattle.text.proofs.WordLaws.{in_by, word_here, word_inside, word_over}
 
 -- two digits at a place
 abbrev pub pair_at : List ℕ → ℕ → Bool
@@ -28,7 +28,7 @@ byte_at line at = hex_value (get_or line at 0) * 16 + hex_value (get_or line (at
 digit-in : (line : List ℕ) (i : ℕ) → is_hex_digit (get_or line i 0) ≡ true → in_word line i ≡ true
 digit-in line i e =
     ⊎_elim
-    (λ h. sym (in-by line i h) ∙ no-blank (eqb (get_or line i 0) 32) refl)
+    (λ h. sym (in_by line i h) ∙ no-blank (eqb (get_or line i 0) 32) refl)
     (λ h. absurd (false≢true (rw (get_or-eq_default line 0 {n = i} h) at e)))
     (side i (length line))
   where
@@ -48,10 +48,10 @@ pair-word : (line : List ℕ) (at : ℕ) → in_word line at ≡ true → pair_a
     → word_at line at ≡ get_or line at 0 ∷ get_or line (at + 1) 0 ∷ word_at line (at + 2)
 pair-word line at i e =
     let second = digit-in line (at + 1) (both (is_hex_digit (get_or line at 0)) (is_hex_digit (get_or line (at + 1) 0)) e) in
-    rw ((word-here line at i).1, (word-here line (at + 1) second).1, next-two at)
+    rw (word_here line at i, word_here line (at + 1) second, next-two at)
 
 pub pair_inside : (line : List ℕ) (at : ℕ) → pair_at line at ≡ true → at + 1 < length line
-pair_inside line at e = (word-here line (at + 1) (digit-in line (at + 1) (both (is_hex_digit (get_or line at 0)) (is_hex_digit (get_or line (at + 1) 0)) e))).0
+pair_inside line at e = word_inside line (at + 1) (digit-in line (at + 1) (both (is_hex_digit (get_or line at 0)) (is_hex_digit (get_or line (at + 1) 0)) e))
 
 pub pairs_next : (line : List ℕ) (at : ℕ) → in_word line at ≡ true → pair_at line at ≡ true → isPairs (word_at line (at + 2)) ≡ isPairs (word_at line at)
 unfolding isPairs
@@ -63,10 +63,10 @@ bytes_next line at i e = rw (pair-word line at i e)
 
 pub pairs-not : (line : List ℕ) (at : ℕ) → in_word line at ≡ true → pair_at line at ≡ false → isPairs (word_at line at) ≡ false
 unfolding isPairs
-pairs-not line at i e = rw (word-here line at i).1 (by-second (in_word line (at + 1)) refl)
+pairs-not line at i e = rw (word_here line at i) (by-second (in_word line (at + 1)) refl)
   where
     by-second : (t : Bool) → in_word line (at + 1) ≡ t → isPairs (get_or line at 0 ∷ word_at line (at + 1)) ≡ false
-    by-second true j = rw ((word-here line (at + 1) j).1, e)
+    by-second true j = rw (word_here line (at + 1) j, e)
     by-second false j = rw (word_over line (at + 1) j)
 
 pub pairs-hold : (line : List ℕ) (at : ℕ) → in_word line at ≡ true → isPairs (word_at line at) ≡ true → pair_at line at ≡ true

@@ -1,34 +1,26 @@
 -- The words of a line: what is at a place of one, and words that are the same.
-use Prim.Native.Nat.{ℕ, zero, suc, ◌+◌, ◌≤◌, ◌<◌}
-use native.Mathlib.Nat.{not-suc-le-zero, le_of_suc-le-suc, suc-add}
+use Prim.Native.Nat.{ℕ, suc, ◌+◌, ◌≤◌, ◌<◌}
 use native.Mathlib.Omega.{arith}
-use mathlib.Core.Path.{◌≡◌, refl, sym, ap, subst⁻¹}
+use mathlib.Core.Path.{◌≡◌, refl, sym}
 use mathlib.Core.Logic.{⊎_elim}
 use mathlib.Core.Bool.{Bool, true, false, cond, not, ◌&&◌, false≢true}
 use mathlib.Core.List.{List, [], ◌∷◌}
-use borrow.Author.Tests.{eq-eqb, eqb-true}
+use borrow.Author.Tests.{eq-eqb, ne_eqb, eqb-true}
 use lib.Dec.{eqb}
 use lib.ListN.{length, get_or, drop, drop_of_length-le, get_or-eq_default}
-use Rattle.bytes.specs.Bytes.{index_after, index_of}
+use Rattle.std.proofs.lemmas.List.{drop_more}
 use Rattle.text.specs.Digits.{not_empty}
-use Rattle.text.specs.Words.{up_to, word_at, in_word, same}
+use Rattle.text.specs.Words.{find_from, up_to, word_at, in_word, same}
 use Rattle.text.proofs.WriteLaws.{side}
 
--- a list from a place on: its element there, and the list from the next place on
-pub drop-next : (l : List ℕ) (i : ℕ) → i < length l → drop i l ≡ get_or l i 0 ∷ drop (i + 1) l
-drop-next [] i h = absurd (not-suc-le-zero h)
-drop-next (x ∷ xs) zero h = refl
-drop-next (x ∷ xs) (suc i) h = subst⁻¹ (λ (k : ℕ). drop i xs ≡ get_or xs i 0 ∷ drop k (x ∷ xs)) (suc-add i 1) (drop-next xs i (le_of_suc-le-suc h))
+-- the place of the first such byte from a place on: there, or as from the next
+pub found_here : (x : ℕ) (s : List ℕ) (i : ℕ) → i < length s → get_or s i 0 ≡ x → i ≡ find_from s i x
+unfolding up_to
+found_here x s i h e = rw (drop_more s i 0 h) (simp (eq-eqb _ _ e) (omega arith))
 
--- the first such byte, by its place
-pub index_is : (x : ℕ) (s : List ℕ) → index_of x s ≡ length (up_to x s)
-unfolding index_of index_after up_to
-index_is x [] = refl
-index_is x (b ∷ s) = by-test (eqb b x) (index_is x s)
-  where
-    by-test : (t : Bool) → index_of x s ≡ length (up_to x s) → index_after t (index_of x s) ≡ length (cond t [] (b ∷ up_to x s))
-    by-test true e = refl
-    by-test false e = ap suc e
+pub found_next : (x : ℕ) (s : List ℕ) (i : ℕ) → i < length s → (get_or s i 0 ≡ x → ⊥) → find_from s (i + 1) x ≡ find_from s i x
+unfolding up_to
+found_next x s i h e = rw (drop_more s i 0 h) (simp (ne_eqb _ _ e) (omega arith))
 
 pub up_to-short : (x : ℕ) (s : List ℕ) → length (up_to x s) ≤ length s
 unfolding up_to
@@ -42,30 +34,34 @@ up_to-short x (b ∷ s) = by-test (eqb b x) (up_to-short x s)
 -- ---- a word at a place
 
 -- behind the line there is none
-pub word-outside : (line : List ℕ) (at : ℕ) → length line ≤ at → word_at line at ≡ []
+pub word_outside : (line : List ℕ) (at : ℕ) → length line ≤ at → word_at line at ≡ []
 unfolding up_to
-word-outside line at h = rw (drop_of_length-le line {i = at} h)
+word_outside line at h = rw (drop_of_length-le line {i = at} h)
 
 -- a blank ends it
 pub word_blank : (line : List ℕ) (at : ℕ) → at < length line → eqb (get_or line at 0) 32 ≡ true → word_at line at ≡ []
 unfolding up_to
-word_blank line at h e = rw (drop-next line at h) (simp e)
+word_blank line at h e = rw (drop_more line at 0 h) (simp e)
 
 -- any other byte is its next
 pub word_next : (line : List ℕ) (at : ℕ) → at < length line → eqb (get_or line at 0) 32 ≡ false → word_at line at ≡ get_or line at 0 ∷ word_at line (at + 1)
 unfolding up_to
-word_next line at h e = rw (drop-next line at h) (simp e)
+word_next line at h e = rw (drop_more line at 0 h) (simp e)
 
-pub in-by : (line : List ℕ) (at : ℕ) → at < length line → not (eqb (get_or line at 0) 32) ≡ in_word line at
-in-by line at h = by-test (eqb (get_or line at 0) 32) refl
+pub in_by : (line : List ℕ) (at : ℕ) → at < length line → not (eqb (get_or line at 0) 32) ≡ in_word line at
+in_by line at h = by-test (eqb (get_or line at 0) 32) refl
   where
     by-test : (t : Bool) → eqb (get_or line at 0) 32 ≡ t → not t ≡ in_word line at
     by-test true e = rw (word_blank line at h e)
     by-test false e = rw (word_next line at h e)
 
--- where a byte of a word is, the line has it, and the word goes on behind it
-pub word-here : (line : List ℕ) (at : ℕ) → in_word line at ≡ true → (at < length line) × (word_at line at ≡ get_or line at 0 ∷ word_at line (at + 1))
-word-here line at e = ⊎_elim (λ h. (h, next h (eqb (get_or line at 0) 32) refl)) (λ h. absurd (false≢true (rw (word-outside line at h) at e))) (side at (length line))
+-- where a byte of a word is, the line has it
+pub word_inside : (line : List ℕ) (at : ℕ) → in_word line at ≡ true → at < length line
+word_inside line at e = ⊎_elim (λ h. h) (λ h. absurd (false≢true (rw (word_outside line at h) at e))) (side at (length line))
+
+-- and the word goes on behind it
+pub word_here : (line : List ℕ) (at : ℕ) → in_word line at ≡ true → word_at line at ≡ get_or line at 0 ∷ word_at line (at + 1)
+word_here line at e = next (word_inside line at e) (eqb (get_or line at 0) 32) refl
   where
     next : at < length line → (t : Bool) → eqb (get_or line at 0) 32 ≡ t → word_at line at ≡ get_or line at 0 ∷ word_at line (at + 1)
     next h true f = absurd (false≢true (rw (word_blank line at h f) at e))
@@ -94,11 +90,11 @@ same_end (b ∷ w) = refl
 pub same_next : (line text : List ℕ) (at i : ℕ) → in_word line at ≡ true → i < length text
     → same (word_at line at) (drop i text) ≡ (eqb (get_or line at 0) (get_or text i 0) && same (word_at line (at + 1)) (drop (i + 1) text))
 unfolding same
-same_next line text at i e h = rw ((word-here line at e).1, drop-next text i h)
+same_next line text at i e h = rw (word_here line at e, drop_more text i 0 h)
 
 pub same_over : (line text : List ℕ) (at i : ℕ) → in_word line at ≡ false → i < length text → same (word_at line at) (drop i text) ≡ false
 unfolding same
-same_over line text at i e h = rw (word_over line at e, drop-next text i h)
+same_over line text at i e h = rw (word_over line at e, drop_more text i 0 h)
 
 pub same-is : (w text : List ℕ) → same w text ≡ true → w ≡ text
 unfolding same

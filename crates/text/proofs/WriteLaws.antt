@@ -109,8 +109,8 @@ clipped-joined old at s t mid next e f =
 -- ---- writes
 
 -- behind the end nothing is written
-pub written-outside : (old : List ℕ) (at : ℕ) (s : List ℕ) → length old ≤ at → Written old at s old at
-written-outside old at s h = rw (clipped-none old at s h) (wrote_none old at)
+pub written_outside : (old : List ℕ) (at : ℕ) (s : List ℕ) → length old ≤ at → Written old at s old at
+written_outside old at s h = rw (clipped-none old at s h) (wrote_none old at)
 
 outside-same : (old : List ℕ) (at : ℕ) (s : List ℕ) {new : List ℕ} {next : ℕ} → length old ≤ at → Written old at s new next → (next ≡ at) × (new ≡ old)
 outside-same old at s h w =
@@ -144,7 +144,7 @@ written-more old at s t {mid} {new} {next} {end} one two =
     (λ outside.
     let first : (next ≡ at) × (mid ≡ old) = outside-same old at s outside one in
     let second : (end ≡ next) × (new ≡ mid) = outside-same mid next t (rw (first.0, first.1) outside) two in
-    rw (second.0, second.1, first.0, first.1) (written-outside old at (s ++ t) outside))
+    rw (second.0, second.1, first.0, first.1) (written_outside old at (s ++ t) outside))
     (side at (length old))
 
 -- ---- loops

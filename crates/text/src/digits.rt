@@ -9,6 +9,7 @@ pub enum Grown {
     Refused,
 }
 
+#[tactic(auto, unfolding(crate::specs::Digits::grown))]
 pub fn with_digit(value: u64, byte: u8, most: u64) -> Grown
     ensures { result ≡ grown value byte most }
 {
@@ -35,6 +36,7 @@ pub fn is_hex_digit(byte: u8) -> bool
 }
 
 // A hexadecimal digit's number; 0 for any other byte.
+#[tactic(auto, unfolding(crate::specs::Digits::hex_value))]
 pub fn hex_value(byte: u8) -> u8
     ensures { (result ≡ hex_value byte) × (result < 16) }
 {
@@ -54,6 +56,7 @@ pub fn hex_value(byte: u8) -> u8
 }
 
 // The digit of the last four bits of a number.
+#[tactic(auto, unfolding(crate::specs::Digits::hex_digit))]
 pub fn hex_digit(number: u8) -> u8
     ensures { result ≡ hex_digit number }
 {

@@ -62,6 +62,7 @@ fn refused() -> Read64
 }
 
 // The word that begins at `from`, as a number of at most `most`.
+#[tactic(auto, using(crate::proofs::WordLaws::word_inside))]
 fn number_from(line: &[u8], from: usize, most: u64) -> Read64
     ensures { (result ≡ number_from line.now from most) × (result.value ≤ most) }
 {

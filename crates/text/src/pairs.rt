@@ -36,6 +36,7 @@ fn pair(line: &[u8], at: usize) -> u8
 }
 
 // Whether the word that begins at `from` is pairs of digits.
+#[tactic(auto, using(crate::proofs::WordLaws::word_inside))]
 fn are_pairs(line: &[u8], from: usize) -> bool
     ensures { result ≡ isPairs (word_at line.now from) }
 {

@@ -7,16 +7,23 @@ ghost use Rattle.text.specs.Words.{find_from, in_word, start_of, end_of, is_word
 pub const LOST: usize = usize::MAX;
 
 // The place of the next such byte from `from` on; the end where there is none, and `from` behind the end.
+#[tactic(auto, unfolding(crate::specs::Words::up_to), using(crate::proofs::WordLaws::found_here, crate::proofs::WordLaws::found_next))]
 pub fn find(bytes: &[u8], from: usize, byte: u8) -> usize
     ensures { (result ≡ find_from bytes.now from byte) × (from ≤ result) × (result ≤ max from (length bytes.now)) }
 {
     if bytes.len() <= from {
         return from;
     }
-    bytes::scan::find(bytes, from, bytes.len(), byte)
+    for i in from..bytes.len() {
+        if bytes[i] == byte {
+            return i;
+        }
+    }
+    bytes.len()
 }
 
 // Whether a byte of a word is at `at`.
+#[tactic(auto, using(crate::proofs::WordLaws::in_by, crate::proofs::WordLaws::word_outside))]
 pub fn in_word(line: &[u8], at: usize) -> bool
     ensures { result ≡ in_word line.now at }
 {
@@ -46,6 +53,7 @@ pub fn end(line: &[u8], from: usize) -> usize
 }
 
 // Whether the word that begins at `from` is `text`.
+#[tactic(auto, using(crate::proofs::WordLaws::word_inside))]
 pub fn is(line: &[u8], from: usize, text: &[u8]) -> bool
     ensures { result ≡ is_word line.now from text.now }
 {
