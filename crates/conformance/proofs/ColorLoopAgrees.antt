@@ -15,7 +15,6 @@ use Rattle.matter.specs.Flags.{has_flag, update_action}
 use Rattle.tasks.specs.declared.GivenTask.{GivenTask}
 use Rattle.tasks.specs.declared.Task.{Task}
 use Rattle.tasks.specs.declared.ColorLoopRun.{ColorLoopRun}
-use Rattle.tasks.specs.declared.Running.{Running}
 use Rattle.tasks.specs.Runs.{loop_running}
 use Rattle.lamp.specs.declared.Answer.{Answer}
 use Rattle.lamp.specs.declared.Lamp.{Lamp}

@@ -1,6 +1,6 @@
 -- The port's bounds of a move or a step of mireds are the text's, a started move runs between them, and a target is brought to
 -- the closest mireds.
-use Prim.Native.Nat.{ℕ, zero, suc, ◌≤◌, ◌<◌, min, max}
+use Prim.Native.Nat.{ℕ, zero, suc, ◌≤◌, ◌<◌}
 use mathlib.Core.Bool.{Bool, true, false, cond, true≢false}
 use mathlib.Core.Path.{◌≡◌, refl, sym, ap, ◌∙◌}
 use native.Mathlib.Omega.{arith}

@@ -19,7 +19,6 @@ use Rattle.progress.specs.Progress.{delta_at_rate, clamped_sum, loop_turn, loop_
 use Rattle.color.specs.declared.Color.{Color}
 use Rattle.tasks.specs.declared.ColorLoop.{ColorLoop}
 use Rattle.tasks.specs.declared.ColorLoopRun.{ColorLoopRun}
-use Rattle.tasks.specs.declared.ColorTemperatureMove.{ColorTemperatureMove}
 use Rattle.tasks.specs.declared.ColorTemperatureRun.{ColorTemperatureRun}
 use Rattle.tasks.specs.declared.HueMove.{HueMove}
 use Rattle.tasks.specs.declared.HueRun.{HueRun}

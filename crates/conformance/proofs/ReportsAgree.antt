@@ -70,16 +70,16 @@ module _ (old new : ℕ) where
   to-zero : eqb new 0 ≡ true → eqb old 0 ≡ false → (start : Bool) → Reportable old new start
   to-zero a b start = rw (eqb-true new 0 a) (to_zero old start (omega (arith, eqb-false old 0 b)))
 
-  from_zero : eqb old 0 ≡ true → ltb 10 new ≡ true → (start : Bool) → Reportable old new start
-  from_zero b c start = rw (eqb-true old 0 b) (from_zero new start (ltb-true 10 new c))
+  from-zero : eqb old 0 ≡ true → ltb 10 new ≡ true → (start : Bool) → Reportable old new start
+  from-zero b c start = rw (eqb-true old 0 b) (from_zero new start (ltb-true 10 new c))
 
   by : (a b c d start : Bool) → eqb new 0 ≡ a → eqb old 0 ≡ b → ltb 10 new ≡ c → ltb 10 (apart new old) ≡ d → ((a && not b) || (b && c) || (d && start)) ≡ true → Reportable old new start
   by true false c d start ea eb ec ed e = to-zero ea eb start
-  by true true true d start ea eb ec ed e = from_zero eb ec start
+  by true true true d start ea eb ec ed e = from-zero eb ec start
   by true true false true true ea eb ec ed e = changed-by (ltb old new) refl (ltb-true 10 (apart new old) ed)
   by true true false true false ea eb ec ed e = absurd (true≢false (sym e))
   by true true false false start ea eb ec ed e = absurd (true≢false (sym e))
-  by false true true d start ea eb ec ed e = from_zero eb ec start
+  by false true true d start ea eb ec ed e = from-zero eb ec start
   by false true false true true ea eb ec ed e = changed-by (ltb old new) refl (ltb-true 10 (apart new old) ed)
   by false true false true false ea eb ec ed e = absurd (true≢false (sym e))
   by false true false false start ea eb ec ed e = absurd (true≢false (sym e))

@@ -1,5 +1,5 @@
 -- A start and steps after it: the lamps that they leave, when a lamp shows what it shows, and what a start saves.
-use Rattle.std.specs.Prelude.{ℕ, ◌-◌, ◌≤◌, ◌⊎◌, ◌≡◌, pos}
+use Rattle.std.specs.Prelude.{ℕ, ◌≤◌, ◌⊎◌, ◌≡◌, pos}
 use Rattle.progress.specs.Progress.{clamp}
 use Rattle.tasks.specs.declared.Running.{Running}
 use Rattle.tasks.specs.declared.Task.{Task}

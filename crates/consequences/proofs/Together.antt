@@ -11,7 +11,7 @@ use Rattle.lamp.specs.declared.Answer.{Answer}
 use Rattle.lamp.specs.declared.Call.{Call}
 use Rattle.commands.specs.Answers.{clock_of}
 use Rattle.schedule.specs.Calls.{next, after, accepts, accepted_step, steps}
-use Rattle.schedule.specs.Schedule.{Fed, Shown, shown_at, target, takes, followed, scheduled_from, scheduled}
+use Rattle.schedule.specs.Schedule.{Fed, Shown, shown_at, takes, followed, scheduled_from, scheduled}
 use Rattle.schedule.specs.Claim.{fed, KeptFade}
 use Rattle.schedule.specs.Fades.{Fade, finds, begun}
 use Rattle.schedule.proofs.Lists.{after_one, scheduled-one}

@@ -20,7 +20,7 @@ use Rattle.schedule.specs.Calls.{next, after, accepts, idle, accepted_step, is_s
 use Rattle.schedule.specs.Schedule.{Fed, Shown, time, delta_from, over, shown_at}
 use Rattle.schedule.specs.Claim.{fed}
 use Rattle.schedule.specs.Fades.{Fade, finds, command_call, ready, start_call, begun, later, list_of, Premised}
-use Rattle.schedule.proofs.Accepts.{accepts-is, no-cause, refused-keeps}
+use Rattle.schedule.proofs.Accepts.{timely, accepts-is, no-cause, refused-keeps}
 use Rattle.schedule.proofs.Lists.{after-append, after_one, scheduled-one, in-range-split, valid-after}
 use Rattle.consequences.specs.Together.{Alike}
 use Rattle.consequences.proofs.Kept.{kept}
@@ -39,8 +39,8 @@ use Rattle.row_consequences.specs.RowTogether.{FadeAt, RowTogether}
 grows : (l : Lamp) (x : Call) → lamp_valid l ≡ true → l.clock ≤ (next l x).clock
 grows l x v =
     either (accepts l x)
-    (λ a. let timely = and_left _ _ (sym (accepts-is l x v) ∙ a) in
-    omega (arith, leb-true l.clock (clock_of x) (and_left (leb l.clock (clock_of x)) _ timely), accepted-clock l x (no-cause l x a)))
+    (λ a. let t : timely l.clock (clock_of x) ≡ true = and_left _ _ (sym (accepts-is l x v) ∙ a) in
+    omega (arith, leb-true l.clock (clock_of x) (and_left (leb l.clock (clock_of x)) _ t), accepted-clock l x (no-cause l x a)))
     (λ a. rw (refused-keeps l x a) (omega arith))
 
 grows-after : (l : Lamp) (xs : List Call) → lamp_valid l ≡ true → l.clock ≤ (after l xs).clock

@@ -1,12 +1,12 @@
 -- The arithmetic of a fade: the way travelled, read off a hue, is the size of the part; the end is permille 1000; the remaining
 -- time fits its sixteen bits.
-use Prim.Native.Nat.{ℕ, zero, suc, ◌*◌, ◌-◌, ◌/◌, ◌≤◌, ◌<◌}
+use Prim.Native.Nat.{ℕ, suc, ◌*◌, ◌-◌, ◌/◌, ◌≤◌, ◌<◌}
 use mathlib.Core.Bool.{cond}
 use mathlib.Core.Logic.{inl, inr}
-use mathlib.Core.Path.{◌≡◌, refl, sym, ◌∙◌, ap}
+use mathlib.Core.Path.{◌≡◌, sym, ◌∙◌, ap}
 use native.Mathlib.Nat.{le_refl}
 use native.Mathlib.Omega.{arith}
-use lib.Dec.{leb, eqb, leb-zero, leb-suc-zero, eqb-suc-zero}
+use lib.Dec.{leb, leb-zero}
 use lib.IntN.{ℤ, pos, negsuc, neg_ℤ, nat_abs}
 use lib.Signed.{le_z}
 use borrow.Author.Tests.{leb-true, leb-false, le-leb, lt-leb}
@@ -17,7 +17,6 @@ use Rattle.hue.proofs.Laws.{moved-small, moved_up, moved_down, distance_is, way-
 use Rattle.progress.specs.Progress.{permille_of, part_of, tenths_of}
 use Rattle.progress.proofs.Laws.{permille-full, permille-short, part-down, part-whole, part-size, part-within}
 use Rattle.remaining_time.specs.RemainingTime.{new_tenths}
-use Rattle.tasks.specs.declared.HueDelta.{HueDelta}
 use Rattle.schedule.proofs.Tests.{either}
 
 -- ---- the way travelled, read off a hue

@@ -15,7 +15,7 @@ use Rattle.tasks.specs.declared.Running.{Running}
 use Rattle.lamp.specs.declared.Lamp.{Lamp}
 use Rattle.lamp.specs.declared.Answer.{Answer}
 use Rattle.lamp.specs.Answers.{at_clock}
-use Rattle.lamp.specs.Calls.{stepped, started, done, hue_saturation_start, start_permille, no_hue_delta}
+use Rattle.lamp.specs.Calls.{stepped, started, hue_saturation_start, start_permille, no_hue_delta}
 use Rattle.lamp.specs.Valid.{lamp_valid}
 use Rattle.lamp.specs.Passes.{hue_saturation_pass}
 use Rattle.lamp.proofs.Passed.{with_full_time}

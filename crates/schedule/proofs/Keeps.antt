@@ -100,7 +100,7 @@ task-is : (l : Lamp) (h : HueCommand) (on_off : OnOff) (clock : ℕ) → accepts
 unfolding command_effect
 task-is l h on_off clock a e =
     rw (accepted-is l (Call.Command (as_request h) on_off clock) a)
-    (elim (either h.enhanced) [ inl z ↦ rw (z, rw z at e) | inr z ↦ rw (z, rw z at e) ])
+    (elim (either h.enhanced) [ inl z ↦ rw (z, e) | inr z ↦ rw (z, e) ])
 
 -- the target of a command in range is a hue
 pub target_small : (h : HueCommand) → InRangeRequest (as_request h) → target h < 65536

@@ -23,7 +23,7 @@ use Rattle.schedule.proofs.Lists.{quiet-call}
 pub fades-after : {f : Fed} {l : Lamp} {s : Shown} (xs : List Call) → Sane f → Fading f l s → quiet l xs ≡ true → Fading f (after l xs) (scheduled_from f s xs)
 unfolding after scheduled_from
 fades-after [] n k q = k
-fades-after {f} {l} {s} (x ∷ xs) n k q = let r = quiet-call l x xs q in fades-after xs n (fades-on k n x r.0) r.1
+fades-after {f} {l} {s} (x ∷ xs) n k q = let r = quiet-call l x xs q in fades-after {l = next l x} {s = followed f s x} xs n (fades-on k n x r.0) r.1
 
 -- an accepted step is one that the schedule takes
 step_same : {f : Fed} {l : Lamp} {s : Shown} → Fading f l s → (x : Call) → accepted_step l x ≡ step_taken s x
@@ -36,7 +36,7 @@ unfolding scheduled_from reached
 done-exactly {f} {l} {s} [] n k q = sym (or-false s.done)
 done-exactly {f} {l} {s} (x ∷ xs) n k q =
     let r = quiet-call l x xs q in
-    done-exactly xs n (fades-on k n x r.0) r.1
+    done-exactly {l = next l x} {s = followed f s x} xs n (fades-on k n x r.0) r.1
     ∙ rw (followed-done f n s k.right x, step_same k x) (or_assoc s.done _ _)
 
 -- ---- at most one step for each tenth
@@ -55,7 +55,7 @@ done-stays {f} {l} {s} (x ∷ xs) n k q d =
     let r = quiet-call l x xs q in
     let e = no_step k x d in
     let o = other-is f s x (sym (step_same k x) ∙ e) in
-    rw e (done-stays xs n (fades-on k n x r.0) r.1 (o ∙ d))
+    rw e (done-stays {l = next l x} {s = followed f s x} xs n (fades-on k n x r.0) r.1 (o ∙ d))
 
 pub pace-kept : {f : Fed} {l : Lamp} {s : Shown} (due m : ℕ) (xs : List Call) → Sane f → Fading f l s → quiet l xs ≡ true → s.done ≡ false → paced due l xs ≡ true → f.start + time f.fade ≤ due + 100 * m → steps l xs + left (scheduled_from f s xs).done ≤ m + 1
 unfolding steps scheduled_from paced
@@ -77,8 +77,8 @@ pace-kept {f} {l} {s} due m (x ∷ xs) n k q o h z =
                 let a = at_open f c (sym (ap (λ (u : Shown). u.done) i) ∙ d) in
                 let w : (answer l x).wait ≡ min 100 (time f.fade - (c - f.start)) = wait-is k n x e ∙ ap (λ (u : Shown). u.wait) i ∙ a.wait in
                 let v = a.early in
-                let ih = pace-kept (c + (answer l x).wait) (m - 1) xs n k' r.1 d (and_right (leb due c) _ h') (omega arith) in
+                let ih = pace-kept {l = next l x} {s = followed f s x} (c + (answer l x).wait) (m - 1) xs n k' r.1 d (and_right (leb due c) _ h') (omega arith) in
                 rw e (omega arith)
           ]
-      | inr e ↦ rw e (pace-kept due m xs n k' r.1 (other-is f s x (sym (step_same k x) ∙ e) ∙ o) (rw e at h) z)
+      | inr e ↦ rw e (pace-kept {l = next l x} {s = followed f s x} due m xs n k' r.1 (other-is f s x (sym (step_same k x) ∙ e) ∙ o) (rw e at h) z)
     ]

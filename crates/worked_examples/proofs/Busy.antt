@@ -18,7 +18,7 @@ use Rattle.lamp.specs.declared.Lamp.{Lamp}
 use Rattle.lamp.specs.declared.Answer.{Answer}
 use Rattle.lamp.specs.Calls.{step_answer, halt_answer, hue_saturation_start, temperature_to_start, temperature_start, started as started_of, stepped, start_answer}
 use Rattle.worked_examples.specs.Cases.{plain, started, next, listed, idled, bare, loop, up_between, busy, steps_at}
-use Rattle.worked_examples.proofs.Answers.{now, later}
+use Rattle.worked_examples.proofs.LampAnswers.{now, later}
 use Rattle.worked_examples.proofs.Runs.{Run, run, RunsReported, going, done, hue, enhanced, warmth}
 use Rattle.matter.specs.All.{all_true}
 use Rattle.matter.specs.Flags.{has_flag}

@@ -1,6 +1,6 @@
 pub mod Claim
 pub mod Lists
-pub mod Answers
+pub mod LampAnswers
 pub mod Runs
 pub mod Busy
 pub mod Validity

@@ -19,7 +19,7 @@ use Rattle.tasks.specs.declared.Running.{Running}
 use Rattle.lamp.specs.declared.Lamp.{Lamp}
 use Rattle.lamp.specs.Calls.{start_answer, step_answer, halt_answer}
 use Rattle.worked_examples.specs.Cases.{lamp, plain}
-use Rattle.worked_examples.proofs.Answers.{hue_move, saturation_move, mireds_move}
+use Rattle.worked_examples.proofs.LampAnswers.{hue_move, saturation_move, mireds_move}
 use Rattle.worked_examples.proofs.Runs.{Modes, xy, hue, enhanced, warmth}
 use Rattle.matter.specs.All.{all_true}
 use Rattle.matter.specs.Flags.{has_flag}
