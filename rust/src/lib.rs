@@ -119,6 +119,7 @@
     clippy::manual_is_multiple_of,
     clippy::manual_range_contains,
     clippy::new_ret_no_self,
+    clippy::new_without_default,
     clippy::nonminimal_bool,
     clippy::redundant_field_names,
     clippy::too_many_arguments

@@ -6,17 +6,24 @@ use std::path::{Path, PathBuf};
 
 const MADE: &str = "// Made by rust/make from ";
 
-/// The lines of a source without its clauses and its `ghost use` items.
+/// The lines of a source without its clauses, its `ghost use` items and its attributes for the prover.
 fn without_clauses(source: &str) -> Vec<&str> {
+    let erased = [
+        "requires ",
+        "ensures ",
+        "ghost use ",
+        "#[tactic(",
+        "#![tactic(",
+        "#[cycle(",
+    ];
     let mut depth = 0;
     let mut kept = Vec::new();
     for line in source.lines() {
         let words = line.trim_start();
-        let clause = ["requires {", "ensures {", "ghost {"];
-        let inside = depth > 0 || clause.iter().any(|c| words.starts_with(c));
-        if inside {
-            depth += line.matches('{').count() as i32 - line.matches('}').count() as i32;
-        } else if !words.starts_with("ghost use ") {
+        if depth > 0 || erased.iter().any(|e| words.starts_with(e)) {
+            let of = |marks: [char; 2]| line.matches(marks).count() as i32;
+            depth += of(['{', '[']) - of(['}', ']']);
+        } else {
             kept.push(line);
         }
     }
@@ -39,17 +46,35 @@ fn tokens(text: &str) -> Vec<String> {
     found
 }
 
+/// The imports of a `use` item, which may have one group at its end.
+fn imports_of(item: &str) -> Vec<String> {
+    let (visibility, path) = item.trim_end_matches(';').split_once("use ").unwrap();
+    let (front, group) = match path.split_once('{') {
+        Some((front, group)) => (front, group.trim_end_matches('}')),
+        None => ("", path),
+    };
+    let names = group.split(',').map(str::trim).filter(|n| !n.is_empty());
+    names
+        .map(|n| format!("{visibility}use {front}{n};"))
+        .collect()
+}
+
 /// Code in one form for both: no comments, imports apart, paths without the crate, core's sums, no comma at an end.
 fn one_form(lines: &[&str], library: &str) -> (Vec<String>, Vec<String>) {
     let own = format!("crate::{library}::");
     let mut text = String::new();
     let mut imports = Vec::new();
+    let mut item = String::new();
     for line in lines {
         let code = line.split("//").next().unwrap();
         let code = code.replace(&format!("pub(in crate::{library})"), "pub(crate)");
         let code = code.replace(&own, "").replace("crate::", "");
-        if code.starts_with("use ") {
-            imports.push(code);
+        if !item.is_empty() || code.starts_with("use ") || code.starts_with("pub use ") {
+            item += code.trim();
+            if item.ends_with(';') {
+                imports.extend(imports_of(&item));
+                item.clear();
+            }
         } else if !code.starts_with("#[derive(") {
             text += &code;
             text.push('\n');
@@ -57,7 +82,10 @@ fn one_form(lines: &[&str], library: &str) -> (Vec<String>, Vec<String>) {
     }
     for sum in ["wrapping_add", "wrapping_sub"] {
         for number in ["u8", "u16", "u32", "u64", "usize"] {
-            for ours in [format!("std::num::{sum}_{number}"), format!("{sum}_{number}")] {
+            for ours in [
+                format!("std::num::{sum}_{number}"),
+                format!("{sum}_{number}"),
+            ] {
                 text = text.replace(&ours, &format!("{number}::{sum}"));
             }
         }
@@ -100,5 +128,7 @@ fn made_files_are_their_sources_without_the_contracts() {
         let around = first.map(|i| &found[i.saturating_sub(10)..found.len().min(i + 10)]);
         assert_eq!((around, found.len()), (None, wanted.len()), "{name}");
         assert!(imports.iter().all(|i| all.contains(i)), "{name}: imports");
+        let mut passed_on = all.iter().filter(|i| i.starts_with("pub"));
+        assert!(passed_on.all(|i| imports.contains(i)), "{name}: exports");
     }
 }

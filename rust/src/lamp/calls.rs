@@ -2,11 +2,11 @@
 //! Starts, steps and halts: document 01, leaf 6, and halt. Each takes the lamp and hands it back inside its answer.
 //! Carried over from project-chip/rs-matter, commit 43f61585a4 (Apache-2.0, see NOTICE), and changed.
 
-use crate::lamp::Answer;
-use crate::lamp::Lamp;
 use crate::lamp::passes::Found;
 use crate::lamp::passes::Left;
 use crate::lamp::passes::left_by;
+use crate::lamp::Answer;
+use crate::lamp::Lamp;
 use crate::matter::ACCEPTED;
 use crate::matter::CLOCK_LIMIT;
 use crate::matter::CLOCK_REFUSED;
