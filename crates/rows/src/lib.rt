@@ -87,11 +87,8 @@ fn copy(from: &[u8], many: usize, out: &mut [u8], at: usize)
     requires { (many ≤ length from.now) × (at + many ≤ length out.old) }
     ensures { (take (at + many) out.new ≡ take at out.old ++ take many from.now) × (drop (at + many) out.new ≡ drop (at + many) out.old) }
 {
-    let mut j: usize = 0;
-    while j < many {
-        out[at + j] = from[j];
-        j += 1;
-    }
+    let end = at + many;
+    out[at..end].copy_from_slice(&from[..many]);
 }
 
 // Sixteen bytes at a place of a slice.
