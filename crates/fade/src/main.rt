@@ -1,29 +1,34 @@
 // Runs a fade: the line on standard input says which, and each line on standard output reports of its start or of a step.
+#![tactic(auto)]
+
 ghost use Rattle.std.specs.Prelude.{◌≤◌, length};
 
 use fade_line::reader::Reader;
 use fade_run::Fade;
-use libc::{STDIN_FILENO, STDOUT_FILENO};
+use std::io::{Read, Write};
 
-// The line, as far as it is needed: what comes after it is settled is not read. Nothing says that the input ends, so its
-// blocks are counted, down from a number that no run uses up.
-fn read_line(block: &mut [u8]) -> Reader {
+// A block of the input, or of the output.
+const BLOCK: usize = 65536;
+
+// The line, as far as it is needed: what comes after it is settled is not read, and an input that cannot be read is at its
+// end. Nothing says that the input ends, so its blocks are counted, to a number that no run reaches.
+fn read_line(from: &mut impl Read, block: &mut [u8]) -> Reader {
     let mut reader = Reader::new();
-    let mut turns = u64::MAX;
-    while turns > 0 && !reader.is_settled() {
-        let got = libc::read(STDIN_FILENO, block);
-        if got <= 0 {
-            return reader;
+    for _ in 0..u64::MAX {
+        if reader.is_settled() {
+            break;
         }
-        let n = io::count(got, block);
+        let n = from.read(block).unwrap_or(0);
+        if n == 0 {
+            break;
+        }
         reader = reader.read(&block[..n]);
-        turns -= 1;
     }
     reader
 }
 
 // Writes the run's text, a block at a time, until it is over or nobody reads it.
-fn write_run(start: Fade, block: &mut [u8])
+fn write_run(start: Fade, block: &mut [u8], to: &mut impl Write)
     requires { 512 ≤ length block.old }
 {
     let mut fade = start;
@@ -31,15 +36,14 @@ fn write_run(start: Fade, block: &mut [u8])
     while is_read && !fade.is_over() {
         let written = fade.write(block);
         let n = written.len;
-        is_read = io::write_all(STDOUT_FILENO, &block[..n]);
+        is_read = to.write_all(&block[..n]).is_ok();
         let next = written.fade;
         fade = next;
     }
 }
 
-fn main() {
-    let mut space = io::large_buffer();
-    let block: &mut [u8] = &mut space;
-    let reader = read_line(block);
-    write_run(Fade::new(reader.asked()), block);
+fn main(rt: HostRuntime) {
+    let mut block = [0u8; BLOCK];
+    let reader = read_line(&mut rt.stdin(), &mut block);
+    write_run(Fade::new(reader.asked()), &mut block, &mut rt.stdout());
 }
