@@ -51,6 +51,7 @@ fn with_direction(found: DirectionFound, hue: u8, tenths: u16, clock: u64) -> As
 }
 
 // The fade of four numbers, where each is within its field.
+#[tactic(auto, unfolding(crate::specs::Line::wanted))]
 fn wanted_of(hue: u64, direction: u64, tenths: u64, clock: u64) -> Asked
     ensures { result ≡ wanted hue direction tenths clock }
 {
@@ -101,6 +102,7 @@ impl Reader {
     }
 
     // A blank ends a word that has a digit, and a fifth word spoils the line.
+    #[tactic(auto, unfolding(crate::specs::Reading::next_word))]
     fn next_word(self) -> Reader
         ensures { result ≡ next_word self }
     {
@@ -122,6 +124,7 @@ impl Reader {
     }
 
     // One digit more. Any other byte, and a number past 64 bits, spoils the line.
+    #[tactic(auto, unfolding(crate::specs::Reading::next_digit))]
     fn next_digit(self, byte: u8) -> Reader
         ensures { result ≡ next_digit self byte }
     {
@@ -136,6 +139,7 @@ impl Reader {
     }
 
     // One byte more. Nothing after the newline counts.
+    #[tactic(auto, unfolding(crate::specs::Reading::read_byte))]
     fn read_byte(self, byte: u8) -> Reader
         ensures { result ≡ read_byte self byte }
     {
@@ -152,6 +156,7 @@ impl Reader {
     }
 
     // The next part of the input.
+    #[tactic(auto, unfolding(crate::specs::Reading::read_all))]
     pub fn read(self, part: &[u8]) -> Reader
         ensures { result ≡ read_all self part.now }
     {
@@ -172,6 +177,7 @@ impl Reader {
     }
 
     // What the line asks for, once the input has come to its end.
+    #[tactic(auto, unfolding(crate::specs::Reading::line_read))]
     pub fn asked(self) -> Asked
         ensures { result ≡ line_read self }
     {
@@ -189,6 +195,7 @@ impl Reader {
 }
 
 // What a whole input asks for.
+#[tactic(auto, using(crate::proofs::LineLaws::reads))]
 pub fn asked_by(input: &[u8]) -> Asked
     ensures { result ≡ asked_by input.now }
 {

@@ -21,6 +21,7 @@ pub struct Line {
     pub notices: Notices,
 }
 
+#[tactic(auto, unfolding(crate::specs::Text::room_for))]
 fn has_room(at: usize, len: usize) -> bool
     ensures { result ≡ room_for at len }
 {
