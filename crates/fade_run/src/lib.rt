@@ -1,4 +1,6 @@
 // The run of `fade`: the lamp, its command, its start and its steps, and the lines that they give.
+#![tactic(auto)]
+
 ghost use Rattle.std.specs.Prelude.{◌≡◌, ◌+◌, ◌<◌, ◌≤◌, ◌^◌, ◌++◌, length, take, true};
 ghost use Rattle.text.specs.Written.{Wrote};
 ghost use Rattle.fade_line.specs.Text.{fitting};
