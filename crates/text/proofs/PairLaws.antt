@@ -96,8 +96,8 @@ module _ (line : List ℕ) (at : ℕ) (out : List ℕ) where
   unfolding bytes_read bytes_taken
   are-bytes {new} {next} e room w =
       let all = wrote-all out 0 (bytes_of (word_at line (start_of line at))) (omega arith) w in
-      let count : next ≡ length (bytes_of (word_at line (start_of line at))) = omega (arith, all.0) in
-      rw (e, count) (refl, all.1)
+      let count : next ≡ length (bytes_of (word_at line (start_of line at))) = omega (arith, all.place) in
+      rw (e, count) (refl, all.bytes)
 
 -- ---- what is written reads back
 

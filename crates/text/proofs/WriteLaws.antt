@@ -32,7 +32,7 @@ unfolding pasted
 pasted-none old at = simp (append-nil, add-zero, take-append-drop)
 
 pub wrote_none : (old : List ℕ) (at : ℕ) → Wrote old at [] old at
-wrote_none old at = (sym (add-zero at), sym (pasted-none old at))
+wrote_none old at = record { place = sym (add-zero at); bytes = sym (pasted-none old at) }
 
 -- up to its end, the slice is what was before the text, and the text
 pub take-pasted : (old : List ℕ) (at : ℕ) (text : List ℕ) → at ≤ length old → take (at + length text) (pasted old at text) ≡ take at old ++ text
@@ -64,7 +64,10 @@ pasted-pasted old at s t h =
 pub wrote-more : (old : List ℕ) (at : ℕ) (s t : List ℕ) {mid new : List ℕ} {next end : ℕ} → at ≤ length old
     → Wrote old at s mid next → Wrote mid next t new end → Wrote old at (s ++ t) new end
 wrote-more old at s t h one two =
-    (rw (length-append, ← add_assoc, ← one.0) two.0, rw (← (pasted-pasted old at s t h), ← one.0, ← one.1) two.1)
+    record {
+      place = rw (length-append, ← add_assoc, ← one.place) two.place;
+      bytes = rw (← (pasted-pasted old at s t h), ← one.place, ← one.bytes) two.bytes;
+    }
 
 -- ---- how much of a text fits
 
@@ -115,7 +118,7 @@ written_outside old at s h = rw (clipped-none old at s h) (wrote_none old at)
 outside-same : (old : List ℕ) (at : ℕ) (s : List ℕ) {new : List ℕ} {next : ℕ} → length old ≤ at → Written old at s new next → (next ≡ at) × (new ≡ old)
 outside-same old at s h w =
     let none : clipped old at s ≡ [] = clipped-none old at s h in
-    (w.0 ∙ rw none (add-zero at), w.1 ∙ rw none (pasted-none old at))
+    (w.place ∙ rw none (add-zero at), w.bytes ∙ rw none (pasted-none old at))
 
 pub written_none : (old : List ℕ) (at : ℕ) → Written old at [] old at
 unfolding clipped
@@ -128,18 +131,19 @@ wrote-all old at s h w = rw (clipped-all old at s h) at w
 -- a byte in the slice
 pub written_byte : (old : List ℕ) (at byte : ℕ) → at < length old → Written old at (byte ∷ []) (set old at byte) (at + 1)
 unfolding pasted
-written_byte old at byte h = rw (clipped-all old at (byte ∷ []) (omega arith)) (refl, simp (set_split, add-one, append_snoc))
+written_byte old at byte h =
+    rw (clipped-all old at (byte ∷ []) (omega arith)) (record { place = refl; bytes = simp (set_split, add-one, append_snoc) })
 
 written_same : (old : List ℕ) (at : ℕ) (s : List ℕ) {new : List ℕ} {next : ℕ} → Written old at s new next → length new ≡ length old
-written_same old at s w = rw w.1 (length-clipped old at s)
+written_same old at s w = rw w.bytes (length-clipped old at s)
 
 -- two writes, one after the other, are the write of the texts joined
-pub written-more : (old : List ℕ) (at : ℕ) (s t : List ℕ) {mid new : List ℕ} {next end : ℕ} → Written old at s mid next → Written mid next t new end → Written old at (s ++ t) new end
-written-more old at s t {mid} {new} {next} {end} one two =
+pub written_more : (old : List ℕ) (at : ℕ) (s t : List ℕ) {mid new : List ℕ} {next end : ℕ} → Written old at s mid next → Written mid next t new end → Written old at (s ++ t) new end
+written_more old at s t {mid} {new} {next} {end} one two =
     ⊎_elim
     (λ inside.
     let within : at ≤ length old = omega arith in
-    rw (← (clipped-joined old at s t mid next (written_same old at s one) one.0))
+    rw (← (clipped-joined old at s t mid next (written_same old at s one) one.place))
     (wrote-more old at (clipped old at s) (clipped mid next t) within one two))
     (λ outside.
     let first : (next ≡ at) × (mid ≡ old) = outside-same old at s outside one in
@@ -155,7 +159,7 @@ Completes old at text mid next rest = (new : List ℕ) (end : ℕ) → Written m
 
 pub completes-less : (old : List ℕ) (at : ℕ) (text mid : List ℕ) (next : ℕ) (s rest : List ℕ) {less : List ℕ} {then : ℕ} → Completes old at text mid next (s ++ rest)
     → Written mid next s less then → Completes old at text less then rest
-completes-less old at text mid next s rest h w = λ new end v. h new end (written-more mid next s rest w v)
+completes-less old at text mid next s rest h w = λ new end v. h new end (written_more mid next s rest w v)
 
 pub completed : (old : List ℕ) (at : ℕ) (text mid : List ℕ) (next : ℕ) → Completes old at text mid next [] → Written old at text mid next
 completed old at text mid next h = h mid next (written_none mid next)

@@ -10,8 +10,9 @@ unfoldable pub clipped : List ℕ → ℕ → List ℕ → List ℕ
 clipped old at text = take (length old - at) text
 
 -- all of a text was written from `at` on, and `next` is the place after it
-abbrev pub Wrote : List ℕ → ℕ → List ℕ → List ℕ → ℕ → Type 0
-Wrote old at text new next = (next ≡ at + length text) × (new ≡ pasted old at text)
+pub record Wrote (old : List ℕ) (at : ℕ) (text new : List ℕ) (next : ℕ) : Type 0 where
+  pub place : next ≡ at + length text
+  pub bytes : new ≡ pasted old at text
 
 -- and where what does not fit is left out
 abbrev pub Written : List ℕ → ℕ → List ℕ → List ℕ → ℕ → Type 0

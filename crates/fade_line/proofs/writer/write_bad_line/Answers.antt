@@ -7,9 +7,9 @@ use Rattle.fade_line.proofs.writer.write_bad_line.Goals as goal
 pub returns-then-not-has_room : goal.returns-then-not-has_room
 returns-then-not-has_room c =
     let none = wrote_nothing c.args.out.now c.args.at bad_line_text (sym c.if-not-has_room.ensures) in
-    record { value = none.0; out_after = none.1 }
+    record { value = none.place; out_after = none.bytes }
 
 pub returns : goal.returns
 returns c =
     let all = wrote-fitting c.args.out.now c.args.at bad_line_text (sym c.if-not-has_room.ensures) (omega arith) c.text.ensures in
-    record { value = all.0; out_after = all.1 }
+    record { value = all.place; out_after = all.bytes }

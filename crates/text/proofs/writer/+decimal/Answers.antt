@@ -2,7 +2,7 @@
 use Rattle.std.proofs.Common.{[], ◌∷◌, ◌+◌, ◌/◌, ◌%◌, arith}
 use Rattle.text.specs.Digits.{decimal}
 use Rattle.text.proofs.DigitLaws.{decimal-one, decimal-more}
-use Rattle.text.proofs.WriteLaws.{written-more}
+use Rattle.text.proofs.WriteLaws.{written_more}
 use Rattle.text.proofs.writer.+decimal.Goals as goal
 
 pub returns-then-n-lt10 : goal.returns-then-n-lt10
@@ -12,5 +12,5 @@ pub returns-else-n-lt10 : goal.returns-else-n-lt10
 returns-else-n-lt10 t c =
     let n = c.args.n in
     rw (decimal-more n c.if-n-lt10.false (omega arith))
-    (written-more c.args.out.now c.args.at (decimal (n / 10)) ((48 + n % 10) ∷ []) c.decimal-next.ensures
+    (written_more c.args.out.now c.args.at (decimal (n / 10)) ((48 + n % 10) ∷ []) c.decimal-next.ensures
     (rw c.last_digit-else-n-lt10.ensures at c.byte-else-n-lt10.ensures))
