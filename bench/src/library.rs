@@ -7,7 +7,7 @@ extern "C" {
     /// Runs the calls on the lamp, and answers the checksum (crate `measure`).
     fn yemkruos_run(lamp: *const u64, words: usize, calls: *const u64, words: usize) -> u64;
 
-    /// Sends one call to the lamp and writes the answer (crate `exports`).
+    /// Sends one call to the lamp and writes the answer (crate `yemkruos_c`).
     fn yemkruos_call(
         lamp: *mut u64,
         words: usize,
