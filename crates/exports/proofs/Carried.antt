@@ -2,7 +2,7 @@
 -- lamp's own definitions leave, and no call finds them to be no lamp. Whatever the words of a call are, and whether its
 -- answer has room or not; a call's clock is a word of 64 bits.
 use Prim.Native.Nat.{ℕ, zero, suc, ◌%◌, ◌^◌, ◌<◌, ◌≤◌}
-use mathlib.Core.Bool.{Bool, true, false, cond, not, ◌&&◌}
+use mathlib.Core.Bool.{Bool, true, false, ◌&&◌}
 use mathlib.Core.List.{List, [], ◌∷◌}
 use mathlib.Core.Path.{◌≡◌, refl, sym, ap, ◌∙◌}
 use native.Mathlib.Omega.{arith}
@@ -22,11 +22,9 @@ use Rattle.tasks.specs.InRange.{Signed64, InRangeDelta, InRangeTarget, InRangeTa
 use Rattle.lamp.specs.declared.Lamp.{Lamp}
 use Rattle.lamp.specs.declared.Answer.{Answer}
 use Rattle.lamp.specs.Answers.{refusal}
-use Rattle.lamp.specs.Valid.{lamp_valid}
 use Rattle.lamp.proofs.Laws.{fresh-valid}
 use Rattle.lamp.specs.Making.{fresh_lamp, making}
-use Rattle.lamp.specs.declared.Call.{Call}
-use Rattle.lamp.specs.InRange.{InRangeLamp, InRangeCall}
+use Rattle.lamp.specs.InRange.{InRangeCall}
 use Rattle.lamp.proofs.InRangeKept.{in-range-of}
 use Rattle.commands.specs.Answers.{answer}
 use Rattle.commands.proofs.Kept.{number-is-cause, valid-kept, in-range-kept}
@@ -38,7 +36,7 @@ use Rattle.exports.specs.Words.{at, signed}
 use Rattle.exports.specs.Moves.{delta_of, target_of, move_to_of, hue_move_of, saturation_move_of, mireds_to_of, mireds_move_of, color_loop_of, task_of}
 use Rattle.exports.specs.Lamps.{lamp_words}
 use Rattle.exports.specs.Calls.{hue_command, saturation_command, enhanced_command, mireds_command, loop_command, command_of, request_of, command_numbers, start_numbers, call_of, unreadable, call_known, sent}
-use Rattle.exports.specs.Exported.{Answered, unreadable_lamp, no_room, made, taken, away, answered}
+use Rattle.exports.specs.Exported.{Answered, unreadable_lamp, made, answered}
 use Rattle.exports.specs.RoundTrips.{Good, replied, left, Sending, words_after, lamp_after, Clocks, RoundTrips}
 use Rattle.exports.proofs.Laws.{lamp-back}
 

@@ -1,7 +1,7 @@
 -- The words for C, literally: what docs/WORDS.md and examples/yemkruos.h say of each kind, in numbers.
 use Prim.Native.Nat.{ℕ}
-use mathlib.Core.Bool.{Bool, true, false}
-use mathlib.Core.List.{List, [], ◌∷◌, ◌++◌, map}
+use mathlib.Core.Bool.{true, false}
+use mathlib.Core.List.{List, [], ◌∷◌, map}
 use mathlib.Core.Path.{◌≡◌, refl}
 use lib.IntN.{pos, neg_ℤ}
 use lib.ListN.{replicate}
@@ -30,7 +30,7 @@ use Rattle.exports.specs.Moves.{record_numbers, delta_of, target_of, move_to_of,
 use Rattle.exports.specs.Lamps.{record_words, lamp_words, lamp_fits, lamp_known}
 use Rattle.exports.specs.Calls.{call_of, call_known, hue_command, saturation_command, enhanced_command, mireds_command, loop_command, command_of, request_of, command_fits, command_known}
 use Rattle.exports.specs.Answers.{answer_words}
-use Rattle.exports.specs.Exported.{Left, made, answered}
+use Rattle.exports.specs.Exported.{made, answered}
 use Rattle.matter.specs.Flags.{has_flag}
 use Rattle.matter.specs.Rules.{default_color_mode}
 use Rattle.progress.specs.Progress.{clamp}

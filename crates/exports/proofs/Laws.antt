@@ -2,7 +2,7 @@
 -- was. Of a lamp this asks that its numbers are within their types and that it is valid, which bounds its ways: the
 -- smallest number of 64 bits with a sign has a size that no field takes.
 use Prim.Native.Nat.{ℕ, suc, ◌%◌, ◌^◌, ◌<◌}
-use mathlib.Core.Bool.{Bool, true, false, not, ◌&&◌}
+use mathlib.Core.Bool.{Bool, true, false, not}
 use mathlib.Core.Path.{◌≡◌, refl, ap}
 use native.Mathlib.Nat.{mod-eq_of_lt}
 use native.Mathlib.Omega.{arith}

@@ -1,7 +1,6 @@
 -- What the exported functions leave: their number, and the words of the slices that they may change.
 use Rattle.std.specs.Prelude.{ℕ, cond, not, List, eqb, length}
 use Rattle.matter.specs.declared.limits.Bounds.{Bounds}
-use Rattle.lamp.specs.declared.Lamp.{Lamp}
 use Rattle.lamp.specs.declared.Answer.{Answer}
 use Rattle.lamp.specs.declared.Made.{Made}
 use Rattle.lamp.specs.Making.{making}

@@ -11,7 +11,7 @@ use matter::{
     StepModeFound,
 };
 
-#[tactic(auto, unfolding(crate::specs::Enums::direction_read))]
+#[tactic(auto, using(crate::proofs::Found::capped_test), unfolding(crate::specs::Enums::direction_read))]
 pub(crate) fn direction(n: u64) -> DirectionEnum
     ensures { result ≡ direction_read n }
 {
@@ -21,7 +21,7 @@ pub(crate) fn direction(n: u64) -> DirectionEnum
     }
 }
 
-#[tactic(auto, unfolding(crate::specs::Enums::move_mode_read))]
+#[tactic(auto, using(crate::proofs::Found::capped_test), unfolding(crate::specs::Enums::move_mode_read))]
 pub(crate) fn move_mode(n: u64) -> MoveModeEnum
     ensures { result ≡ move_mode_read n }
 {
@@ -31,7 +31,7 @@ pub(crate) fn move_mode(n: u64) -> MoveModeEnum
     }
 }
 
-#[tactic(auto, unfolding(crate::specs::Enums::step_mode_read))]
+#[tactic(auto, using(crate::proofs::Found::capped_test), unfolding(crate::specs::Enums::step_mode_read))]
 pub(crate) fn step_mode(n: u64) -> StepModeEnum
     ensures { result ≡ step_mode_read n }
 {
@@ -41,7 +41,7 @@ pub(crate) fn step_mode(n: u64) -> StepModeEnum
     }
 }
 
-#[tactic(auto, unfolding(crate::specs::Enums::loop_action_read))]
+#[tactic(auto, using(crate::proofs::Found::capped_test), unfolding(crate::specs::Enums::loop_action_read))]
 pub(crate) fn loop_action(n: u64) -> ColorLoopActionEnum
     ensures { result ≡ loop_action_read n }
 {
@@ -51,7 +51,7 @@ pub(crate) fn loop_action(n: u64) -> ColorLoopActionEnum
     }
 }
 
-#[tactic(auto, unfolding(crate::specs::Enums::loop_direction_read))]
+#[tactic(auto, using(crate::proofs::Found::capped_test), unfolding(crate::specs::Enums::loop_direction_read))]
 pub(crate) fn loop_direction(n: u64) -> ColorLoopDirectionEnum
     ensures { result ≡ loop_direction_read n }
 {
@@ -61,7 +61,7 @@ pub(crate) fn loop_direction(n: u64) -> ColorLoopDirectionEnum
     }
 }
 
-#[tactic(auto, unfolding(crate::specs::Enums::color_mode_read))]
+#[tactic(auto, using(crate::proofs::Found::capped_test), unfolding(crate::specs::Enums::color_mode_read))]
 pub(crate) fn color_mode(n: u64) -> ColorModeEnum
     ensures { result ≡ color_mode_read n }
 {
@@ -71,7 +71,7 @@ pub(crate) fn color_mode(n: u64) -> ColorModeEnum
     }
 }
 
-#[tactic(auto, unfolding(crate::specs::Enums::enhanced_mode_read))]
+#[tactic(auto, using(crate::proofs::Found::capped_test), unfolding(crate::specs::Enums::enhanced_mode_read))]
 pub(crate) fn enhanced_mode(n: u64) -> EnhancedColorModeEnum
     ensures { result ≡ enhanced_mode_read n }
 {
@@ -81,7 +81,7 @@ pub(crate) fn enhanced_mode(n: u64) -> EnhancedColorModeEnum
     }
 }
 
-#[tactic(auto, unfolding(crate::specs::Enums::on_off_read))]
+#[tactic(auto, using(crate::proofs::Found::capped_test), unfolding(crate::specs::Enums::on_off_read))]
 pub(crate) fn on_off(n: u64) -> OnOff
     ensures { result ≡ on_off_read n }
 {
@@ -92,7 +92,7 @@ pub(crate) fn on_off(n: u64) -> OnOff
 }
 
 // Whether a case has the number.
-#[tactic(auto, unfolding(crate::specs::Enums::direction_known))]
+#[tactic(auto, using(crate::proofs::Found::capped_test), unfolding(crate::specs::Enums::direction_known))]
 pub(crate) fn direction_known(number: u64) -> bool
     ensures { result ≡ direction_known number }
 {
@@ -102,7 +102,7 @@ pub(crate) fn direction_known(number: u64) -> bool
     }
 }
 
-#[tactic(auto, unfolding(crate::specs::Enums::move_mode_known))]
+#[tactic(auto, using(crate::proofs::Found::capped_test), unfolding(crate::specs::Enums::move_mode_known))]
 pub(crate) fn move_mode_known(number: u64) -> bool
     ensures { result ≡ move_mode_known number }
 {
@@ -112,7 +112,7 @@ pub(crate) fn move_mode_known(number: u64) -> bool
     }
 }
 
-#[tactic(auto, unfolding(crate::specs::Enums::step_mode_known))]
+#[tactic(auto, using(crate::proofs::Found::capped_test), unfolding(crate::specs::Enums::step_mode_known))]
 pub(crate) fn step_mode_known(number: u64) -> bool
     ensures { result ≡ step_mode_known number }
 {
@@ -122,7 +122,7 @@ pub(crate) fn step_mode_known(number: u64) -> bool
     }
 }
 
-#[tactic(auto, unfolding(crate::specs::Enums::loop_action_known))]
+#[tactic(auto, using(crate::proofs::Found::capped_test), unfolding(crate::specs::Enums::loop_action_known))]
 pub(crate) fn loop_action_known(number: u64) -> bool
     ensures { result ≡ loop_action_known number }
 {
@@ -132,7 +132,7 @@ pub(crate) fn loop_action_known(number: u64) -> bool
     }
 }
 
-#[tactic(auto, unfolding(crate::specs::Enums::loop_direction_known))]
+#[tactic(auto, using(crate::proofs::Found::capped_test), unfolding(crate::specs::Enums::loop_direction_known))]
 pub(crate) fn loop_direction_known(number: u64) -> bool
     ensures { result ≡ loop_direction_known number }
 {
@@ -142,7 +142,7 @@ pub(crate) fn loop_direction_known(number: u64) -> bool
     }
 }
 
-#[tactic(auto, unfolding(crate::specs::Enums::color_mode_known))]
+#[tactic(auto, using(crate::proofs::Found::capped_test), unfolding(crate::specs::Enums::color_mode_known))]
 pub(crate) fn color_mode_known(number: u64) -> bool
     ensures { result ≡ color_mode_known number }
 {
@@ -152,7 +152,7 @@ pub(crate) fn color_mode_known(number: u64) -> bool
     }
 }
 
-#[tactic(auto, unfolding(crate::specs::Enums::enhanced_mode_known))]
+#[tactic(auto, using(crate::proofs::Found::capped_test), unfolding(crate::specs::Enums::enhanced_mode_known))]
 pub(crate) fn enhanced_mode_known(number: u64) -> bool
     ensures { result ≡ enhanced_mode_known number }
 {
@@ -162,7 +162,7 @@ pub(crate) fn enhanced_mode_known(number: u64) -> bool
     }
 }
 
-#[tactic(auto, unfolding(crate::specs::Enums::on_off_known))]
+#[tactic(auto, using(crate::proofs::Found::capped_test), unfolding(crate::specs::Enums::on_off_known))]
 pub(crate) fn on_off_known(number: u64) -> bool
     ensures { result ≡ on_off_known number }
 {
