@@ -1,10 +1,6 @@
-<<<<<<< HEAD
 // Functions for C and Rust, on numbers and slices of 64-bit words; `yemkruos_c` exports them.
-=======
-// Functions for C and Rust, on numbers and slices of 64-bit words.
 #![tactic(auto)]
 
->>>>>>> 2663263f (exports proved)
 mod answers;
 mod calls;
 mod enums;
@@ -39,13 +35,8 @@ fn copy(src: &[u64], dst: &mut [u64])
 
 // Makes a fresh lamp in `words`, of which there are 28. 0, or the number of the refusal: 4 (clock), 5 (crossed bounds),
 // 101 (not 28 words); then nothing changes.
-<<<<<<< HEAD
-pub fn yemkruos_new(
-=======
 #[tactic(auto, unfolding(crate::specs::Exported::made))]
-#[unsafe(no_mangle)]
-pub extern "C" fn yemkruos_new(
->>>>>>> 2663263f (exports proved)
+pub fn yemkruos_new(
     words: &mut [u64],
     min: u16,
     max: u16,
@@ -74,13 +65,8 @@ pub extern "C" fn yemkruos_new(
 // Sends the call (10 words) to the lamp (28 words), which is left as the call leaves it, and writes the answer (25
 // words). 0, or the number of the refusal: 1, 2, 4, 6 to 8, or 100 (no call), 101 (no lamp), 102 (the answer has not 25
 // words); after those three nothing changes.
-<<<<<<< HEAD
-pub fn yemkruos_call(words: &mut [u64], call: &[u64], answer: &mut [u64]) -> u64
-=======
 #[tactic(auto, unfolding(crate::specs::Exported::answered))]
-#[unsafe(no_mangle)]
-pub extern "C" fn yemkruos_call(words: &mut [u64], call: &[u64], answer: &mut [u64]) -> u64
->>>>>>> 2663263f (exports proved)
+pub fn yemkruos_call(words: &mut [u64], call: &[u64], answer: &mut [u64]) -> u64
     ensures value { result ≡ (answered words.old call.now answer.old).number }
     ensures words_after { words.new ≡ (answered words.old call.now answer.old).lamp }
     ensures answer_after { answer.new ≡ (answered words.old call.now answer.old).answer }
