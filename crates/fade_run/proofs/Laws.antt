@@ -195,10 +195,10 @@ pub record OneMore (then : Fade) (old new : List ℕ) (at next : ℕ) (whole : L
   pub written : take next new ++ text then ≡ whole
 
 pub one_more : (f then : Fade) (old new : List ℕ) (at next : ℕ) (whole : List ℕ) → is_over f ≡ false → at + 512 ≤ length old → then ≡ rest f → Wrote old at (fitting old at (next_text f)) new next → take at old ++ text f ≡ whole → OneMore then old new at next whole
-one_more f then old new at next whole going room is-rest (at_next, is-pasted) before =
+one_more f then old new at next whole going room is-rest wrote before =
     let fits : fitting old at (next_text f) ≡ next_text f = fitting-all old at (next_text f) room in
-    let end : next ≡ at + length (next_text f) = at_next ∙ ap (λ (t : List ℕ). at + length t) fits in
-    let made : new ≡ pasted old at (next_text f) = is-pasted ∙ ap (pasted old at) fits in
+    let end : next ≡ at + length (next_text f) = wrote.place ∙ ap (λ (t : List ℕ). at + length t) fits in
+    let made : new ≡ pasted old at (next_text f) = wrote.bytes ∙ ap (pasted old at) fits in
     let inside : at + length (next_text f) ≤ length old = omega (arith, next-short f) in
     record {
       length-kept = ap length made ∙ length-pasted old at (next_text f) inside;
