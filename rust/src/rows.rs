@@ -79,11 +79,8 @@ fn limit_cause(clock: u64) -> u8 {
 
 /// The first bytes of one slice at a place of another.
 fn copy(from: &[u8], many: usize, out: &mut [u8], at: usize) {
-    let mut j: usize = 0;
-    while j < many {
-        out[at + j] = from[j];
-        j += 1;
-    }
+    let end = at + many;
+    out[at..end].copy_from_slice(&from[..many]);
 }
 
 /// Sixteen bytes at a place of a slice.
