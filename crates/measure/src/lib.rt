@@ -1,4 +1,6 @@
 // Calls that are run one after another, with a checksum over every number of every answer: what `bench/` measures.
+#![tactic(auto)]
+
 mod sums;
 
 ghost use Rattle.std.specs.Prelude.{◌≡◌};
@@ -22,14 +24,12 @@ fn run(lamp: Lamp, calls: &[u64]) -> Ran
     let mut now = lamp;
     let mut sums = Sums { a: 0, b: 0 };
     let count = calls.len() / CALL_WORDS;
-    let mut i = 0;
-    while i < count {
+    for i in 0..count {
         let from = i * CALL_WORDS;
         let to = from + CALL_WORDS;
         let answer = sent(now, &calls[from..to]);
         sums = sums.add_answer(answer);
         now = answer.lamp;
-        i += 1;
     }
     Ran {
         lamp: now,
