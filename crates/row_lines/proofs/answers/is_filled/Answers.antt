@@ -9,10 +9,10 @@ returns-then-bytes-i c =
 
 pub loop-i-preserved : goal.loop-i-preserved
 loop-i-preserved c = record {
-      in_range = omega arith;
-      whole =
-          same_more c.args.bytes.now c.args.from c.loop-i.i c.loop-i-test.true (c.if-bytes-i.false ∙ c.byte_at.ensures) c.loop-i.invariant.whole;
-    }
+  in_range = omega arith;
+  whole =
+      same_more c.args.bytes.now c.args.from c.loop-i.i c.loop-i-test.true (c.if-bytes-i.false ∙ c.byte_at.ensures) c.loop-i.invariant.whole;
+}
 
 pub returns : goal.returns
 returns c = same-all c.args.bytes.now c.args.from c.loop-i.i c.loop-i-test.false c.loop-i.invariant.whole

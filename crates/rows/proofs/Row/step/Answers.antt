@@ -48,6 +48,6 @@ returns c =
     let front = rw zero-add at c.copy.ensures.0 in
     let back = rw zero-add at c.copy.ensures.1 in
     let whole : c.copy.new.out ≡ bytes_of c.args.clock (placed c.args.self) ++ drop many c.args.out.now =
-        sym (take-append-drop many c.copy.new.out) ∙ rw (front, back, visits.3) in
+    sym (take-append-drop many c.copy.new.out) ∙ rw (front, back, visits.3) in
     let number : c.visit_all-next.result.number ≡ 0 = omega (arith, c.first_of-number.ensures, c.if-number-ne-ACCEPTED.false) in
     (simp zero (by_parts _ number visits.0 visits.1), simp zero whole)
