@@ -8,7 +8,7 @@ use Rattle.remaining_time.specs.declared.Written.{Written}
 use Rattle.remaining_time.specs.RemainingTime.{written_quietly}
 use Rattle.text.specs.Ascii.{ascii}
 use Rattle.text.specs.Digits.{decimal, signed_decimal}
-use Rattle.text.specs.Readers.{Read, Reader, give, ◌then◌, number8, number16, number64, flag, Row, ◌means◌, by_name}
+use Rattle.text.specs.Readers.{Reader, give, ◌then◌, number8, number16, number64, flag, Row, ◌means◌, by_name}
 use Rattle.lamp_lines.specs.Enums.{direction_at, enhanced_mode_at, on_off_at}
 use Rattle.call_lines.specs.declared.leaves.DeltaAsked.{DeltaAsked}
 use Rattle.call_lines.specs.declared.leaves.RemainingAsked.{RemainingAsked}

@@ -8,7 +8,7 @@ use Rattle.lamp.specs.declared.Lamp.{Lamp}
 use Rattle.lamp.specs.Answers.{at_clock, first_cause}
 use Rattle.lamp.specs.Calls.{choose, done}
 use Rattle.lamp.specs.Passes.{Effect, changed}
-use Rattle.text.specs.Readers.{Read, Reader, give, ◌then◌, number8, number16, number64, flag, Row, ◌means◌, by_name}
+use Rattle.text.specs.Readers.{Reader, give, ◌then◌, number8, number16, number64, flag, Row, ◌means◌, by_name}
 use Rattle.call_lines.specs.declared.setters.NewValue.{NewValue}
 use Rattle.call_lines.specs.declared.setters.Setting.{Setting}
 

@@ -1,6 +1,8 @@
 // The colour: hue, saturation, mireds, the two modes, and when each was last reported. Its making and its validity, and the
 // setters with what they tell: document 01, leaves 4 and 5.
 // Carried over from project-chip/rs-matter, commit 43f61585a4 (Apache-2.0, see NOTICE), and changed.
+#![tactic(auto)]
+
 ghost use Rattle.std.specs.Prelude.{◌≡◌, cond};
 ghost use Rattle.notices.specs.Numerals.{in_front};
 ghost use Rattle.color.specs.Setters.{due, change_reported, hue_mode, kept_hue_mode, no_change, set_hue, set_saturation, set_mireds};

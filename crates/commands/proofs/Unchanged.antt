@@ -1,5 +1,5 @@
 -- What a call leaves as it was.
-use mathlib.Core.Bool.{true, false, true≢false}
+use mathlib.Core.Bool.{false, true≢false}
 use mathlib.Core.Path.{◌≡◌, refl}
 use lib.Dec.{leb}
 use Rattle.matter.specs.Bounds.{lower, upper}

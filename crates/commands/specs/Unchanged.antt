@@ -1,5 +1,5 @@
 -- What a call leaves as it was, for every lamp; a refusal and an accepted halt, written out.
-use Rattle.std.specs.Prelude.{ℕ, Bool, true, false, List, [], ◌∷◌, ◌≡◌}
+use Rattle.std.specs.Prelude.{ℕ, Bool, true, false, [], ◌∷◌, ◌≡◌}
 use Rattle.matter.specs.declared.commands.Request.{Request}
 use Rattle.matter.specs.declared.enums.OnOff.{OnOff}
 use Rattle.tasks.specs.declared.GivenTask.{GivenTask}

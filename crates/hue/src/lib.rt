@@ -1,6 +1,8 @@
 // Hues on their circle of 65,536 places: the delta from one to another, a hue moved by a partial delta, and CurrentHue.
 // Document 01, leaf 1.
 // Carried over from project-chip/rs-matter, commit 43f61585a4 (Apache-2.0, see NOTICE), and changed.
+#![tactic(auto)]
+
 ghost use Rattle.std.specs.Prelude.{◌≡◌, pos, ◌+ℤ◌, neg_ℤ};
 ghost use Rattle.hue.specs.Hue.{distance, chosen, tied, hue_path, moved_hue, current_hue};
 

@@ -1,6 +1,8 @@
 // The lamp: its state, its making and its validity, and the answer that a call gives. Document 01, leaf 4 and "Why a call is
 // refused".
 // Carried over from project-chip/rs-matter, commit 43f61585a4 (Apache-2.0, see NOTICE), and changed.
+#![tactic(auto)]
+
 mod calls;
 mod passes;
 

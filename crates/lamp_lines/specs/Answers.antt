@@ -1,5 +1,5 @@
 -- The texts of answers.
-use Rattle.std.specs.Prelude.{ℕ, Bool, true, false, cond, List, [], ◌∷◌, ◌++◌, eqb, ℤ, take}
+use Rattle.std.specs.Prelude.{ℕ, Bool, cond, List, [], ◌∷◌, ◌++◌, eqb, ℤ, take}
 use Rattle.matter.specs.Causes.{accepted}
 use Rattle.matter.specs.Numbers.{move_mode_number, loop_direction_number, color_mode_number, enhanced_color_mode_number}
 use Rattle.notices.specs.declared.Notices.{Notices}

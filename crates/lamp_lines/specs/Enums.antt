@@ -13,7 +13,7 @@ use Rattle.matter.specs.declared.enums.MoveModeEnum.{MoveModeEnum}
 use Rattle.matter.specs.declared.enums.OnOff.{OnOff}
 use Rattle.matter.specs.declared.enums.StepModeEnum.{StepModeEnum}
 use Rattle.text.specs.Words.{lost}
-use Rattle.text.specs.Readers.{Read, Reader, Row, give, number8, ◌means◌, by_name}
+use Rattle.text.specs.Readers.{Reader, Row, give, number8, ◌means◌, by_name}
 
 -- the case whose number is the next word; where no case has it, no position
 abbrev pub enum : {E : Type 0} → (E → ℕ) → List E → E → Reader E

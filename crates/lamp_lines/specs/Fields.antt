@@ -1,12 +1,11 @@
 -- A lamp's fields, in the protocol's order.
-use Rattle.std.specs.Prelude.{ℕ}
 use Rattle.matter.specs.declared.limits.Bounds.{Bounds}
 use Rattle.color.specs.declared.Color.{Color}
 use Rattle.color.specs.declared.Stamps.{Stamps}
 use Rattle.lamp.specs.declared.Lamp.{Lamp}
 use Rattle.lamp.specs.declared.LoopSettings.{LoopSettings}
 use Rattle.tasks.specs.declared.Running.{Running}
-use Rattle.text.specs.Readers.{Read, Reader, give, ◌then◌, number8, number16, number64, flag}
+use Rattle.text.specs.Readers.{Reader, give, ◌then◌, number8, number16, number64, flag}
 use Rattle.lamp_lines.specs.Enums.{loop_direction_at, color_mode_at, enhanced_mode_at}
 
 -- min max

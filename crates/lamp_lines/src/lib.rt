@@ -1,4 +1,6 @@
 // A lamp in the lines of `replay`: its fields, tasks and running records read, and answers written.
+#![tactic(auto)]
+
 pub mod answers;
 pub mod enums;
 pub mod fields;

@@ -1,4 +1,6 @@
 // The vocabulary of the Color Control cluster: enums, bitmaps, commands, limits, and the causes of a refusal.
+#![tactic(auto)]
+
 mod causes;
 mod commands;
 mod enums;

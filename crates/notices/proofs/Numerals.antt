@@ -1,8 +1,7 @@
 -- A list that is put in front of the empty numeral, notice by notice, and then placed, is that list.
-use Rattle.std.proofs.Common.{◌≡◌, ℕ, zero, suc, ◌+◌, ◌-◌, ◌*◌, ◌/◌, ◌%◌, ◌<◌, ◌≤◌, Bool, true, false, List, [], ◌∷◌, ◌++◌, length, get_or, take, replicate, sym, refl, ap, ◌∙◌, lt_of_lt_of_le, mod-eq_of_lt, arith}
+use Rattle.std.proofs.Common.{◌≡◌, ℕ, zero, suc, ◌+◌, ◌-◌, ◌*◌, ◌/◌, ◌%◌, ◌<◌, ◌≤◌, Bool, true, false, List, [], ◌∷◌, ◌++◌, length, get_or, take, replicate, refl, ap, ◌∙◌, lt_of_lt_of_le, arith}
 use native.Mathlib.Nat.{div-div-eq-div-mul}
 use lib.Arith.{mod-mul}
-use Rattle.notices.specs.declared.Notices.{Notices}
 use Rattle.notices.specs.declared.Numeral.{Numeral}
 use Rattle.notices.specs.Notices.{only, filled, noted}
 use Rattle.notices.specs.Numerals.{last, empty, consed, in_front, digits, placed}

@@ -1,4 +1,6 @@
 // What a call reports, in the order in which it comes: a list of notice numbers in sixteen places, unused places 0.
+#![tactic(auto)]
+
 ghost use Rattle.std.specs.Prelude.{◌≡◌, []};
 ghost use Rattle.notices.specs.Notices.{only, noted};
 ghost use Rattle.notices.specs.Numerals.{empty, consed, in_front, placed};

@@ -19,7 +19,6 @@ use Rattle.call_lines.specs.declared.lines.OnLamp.{OnLamp}
 use Rattle.call_lines.specs.Lines.{shown_answer, on_lamp}
 use Rattle.row_lines.specs.declared.answers.Asked.{Asked}
 use Rattle.row_lines.specs.declared.answers.RowTurn.{RowTurn}
-use Rattle.row_lines.specs.declared.lines.AtPlace.{AtPlace}
 use Rattle.row_lines.specs.declared.lines.OnRow.{OnRow}
 use Rattle.row_lines.specs.declared.lines.RowStep.{RowStep}
 

@@ -1,6 +1,6 @@
 -- What other demands promise of every answer, for rows: notice 18 in its cause alone, and at most 14 notices with zeros behind them.
 use Prim.Native.Nat.{ℕ, ◌≤◌}
-use mathlib.Core.Bool.{true, false, true≢false}
+use mathlib.Core.Bool.{true≢false}
 use mathlib.Core.List.{List, []}
 use mathlib.Core.Logic.{◌↔◌}
 use mathlib.Core.Path.{◌≡◌, refl, ap, sym}

@@ -1,5 +1,7 @@
 // Rows of lamps: up to 32 of them, each at its place. One call steps every lamp that runs; a single call goes to one place.
 // Document 02, A.1.
+#![tactic(auto)]
+
 ghost use Rattle.std.specs.Prelude.{◌≡◌, ◌++◌, ◌*◌, ◌+◌, ◌≤◌, ◌<◌, max, ltb, length, take, drop, set, get_or};
 ghost use Rattle.rows.specs.Rows.{placed, visited, visits_cause, limit_cause, slice_cause, lesser, map_to, least_wait, bytes_of, row_of, with_lamps, row_stepped, row_bytes, row_refusal, place_cause, answered_at, place_refusal, put_at};
 ghost use Rattle.lamp.specs.Answers.{first_cause};

@@ -1,6 +1,8 @@
 // The tasks that commands give, the records of what runs, and the form of both: document 01, "Task out of form" and the
 // running record of "Lamp out of form".
 // Carried over from project-chip/rs-matter, commit 43f61585a4 (Apache-2.0, see NOTICE), and changed.
+#![tactic(auto)]
+
 ghost use Rattle.std.specs.Prelude.{◌≡◌};
 ghost use Rattle.tasks.specs.Valid.{time_valid, delta_valid, delta_given, saturation_valid, saturation_given, moves, within_bounds, rate_valid, move_to_valid, hue_move_valid, saturation_move_valid, task_valid, running_valid};
 ghost use Rattle.tasks.specs.Runs.{runs};

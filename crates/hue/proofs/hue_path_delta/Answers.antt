@@ -1,5 +1,5 @@
 -- `hue_path_delta`: the parts are the distances and what the direction makes of them.
-use Rattle.std.proofs.Common.{w32, rules}
+use Rattle.std.proofs.Common.{w32}
 use Rattle.std.proofs.Math.Facts.{to_z-of_z}
 use borrow.Author.Rules.{sfits_of}
 use Rattle.hue.specs.Hue.{path_delta, is_tie}

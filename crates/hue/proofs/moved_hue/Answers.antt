@@ -1,5 +1,5 @@
 -- `moved_hue`: whole turns move nothing, and what is left of the part is less than a turn.
-use Rattle.std.proofs.Common.{◌≡◌, ℕ, ◌+◌, ◌-◌, ◌%◌, ◌<◌, true, false, ℤ, pos, neg_ℤ, nat_abs, sym, ap, ◌∙◌, arith, w64, SFits, to_z, of_z, rules}
+use Rattle.std.proofs.Common.{◌≡◌, ℕ, ◌+◌, ◌-◌, ◌%◌, ◌<◌, true, false, ℤ, pos, neg_ℤ, nat_abs, sym, ap, ◌∙◌, arith, w64, SFits, to_z, of_z}
 use lib.IntN.{+ℤ_idl}
 use lib.Signed.{le_z, rem_z}
 use Rattle.std.proofs.Math.Facts.{to_z-of_z}

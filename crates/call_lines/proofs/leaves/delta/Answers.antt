@@ -1,5 +1,5 @@
 -- The delta, which fits 64 bits, a blank, and the tie.
-use Rattle.std.proofs.Common.{◌≡◌, sym, ap, w32, w64, SFits, rules}
+use Rattle.std.proofs.Common.{sym, ap, w32, w64, SFits, rules}
 use Rattle.std.proofs.Math.Facts.{to_z-of_z}
 use Rattle.integers.proofs.Sizes.{wider}
 use Rattle.hue.specs.declared.HuePath.{HuePath}

@@ -1,5 +1,5 @@
 -- Whether it is reported, a blank, and the new number.
-use Rattle.std.proofs.Common.{◌≡◌, sym, ap}
+use Rattle.std.proofs.Common.{sym, ap}
 use Rattle.remaining_time.specs.declared.Written.{Written}
 use Rattle.text.proofs.WriteLaws.{written_more}
 use Rattle.call_lines.specs.Leaves.{remaining_text}

@@ -1,5 +1,5 @@
 -- A byte filled is one that is left to fill no more.
-use Rattle.std.proofs.Common.{◌≡◌, ◌<◌, ◌≤◌, length, length-set, arith}
+use Rattle.std.proofs.Common.{◌<◌, ◌≤◌, length, length-set, arith}
 use Rattle.row_lines.proofs.Lent.{lent-more, lent-all}
 use Rattle.row_lines.proofs.answers.fill.Goals as goal
 

@@ -1,5 +1,5 @@
 -- No cause of the place's own: the place is there.
-use Rattle.std.proofs.Common.{◌<◌, sym, ◌∙◌, arith}
+use Rattle.std.proofs.Common.{sym, ◌∙◌, arith}
 use Rattle.rows.proofs.Causes.{place-there}
 use Rattle.rows.proofs.Row.call_at.Goals as goal
 
