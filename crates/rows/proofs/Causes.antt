@@ -11,7 +11,7 @@ use Rattle.lamp.specs.declared.Lamp.{Lamp}
 use Rattle.lamp.specs.Valid.{lamp_valid}
 use Rattle.lamp.specs.Answers.{first_cause}
 use Rattle.rows.specs.declared.Row.{Row}
-use Rattle.rows.specs.Rows.{placed, all_valid, any_later, row_cause, slice_cause, limit_cause, visits_cause, place_cause}
+use Rattle.rows.specs.Rows.{placed, mask_true, all_valid, any_later, row_cause, slice_cause, limit_cause, visits_cause, place_cause}
 
 small : (b : Bool) → cond b 4 0 ≤ 4
 small true = omega arith
@@ -48,18 +48,20 @@ all-lamps clock (l ∷ ls) =
     one_more (lamp_valid l) (ltb clock l.clock) (ltb clock_limit clock) (all_valid ls) (any_later ls clock) (visits_cause clock ls)
     (all-lamps clock ls)
 
-by_parts : (a b : Bool) (x y : ℕ) → x ≡ y →
-    cond a 8 (cond b 9 y) ≡ cond (eqb (cond a 8 (cond b 9 0)) 0) x (cond a 8 (cond b 9 0))
-by_parts true b x y e = refl
-by_parts false true x y e = refl
-by_parts false false x y e = sym e
+by_parts : (a b m v : Bool) (x y : ℕ) → x ≡ cond (not v) 8 y →
+    cond a 8 (cond b 9 (cond (not (m && v)) 8 y))
+    ≡ cond (eqb (cond a 8 (cond b 9 (cond (not m) 8 0))) 0) x (cond a 8 (cond b 9 (cond (not m) 8 0)))
+by_parts true b m v x y e = refl
+by_parts false true m v x y e = refl
+by_parts false false true v x y e = sym e
+by_parts false false false v x y e = refl
 
 -- before the lamps, then over them
 pub row-cause : (r : Row) (size clock : ℕ) →
     row_cause r size clock ≡ cond (eqb (slice_cause r size) 0) (max (limit_cause clock) (visits_cause clock (placed r))) (slice_cause r size)
 unfolding row_cause slice_cause
 row-cause r size clock =
-    by_parts (ltb 32 r.count) (ltb size (16 * r.count)) _ _ (all-lamps clock (placed r))
+    by_parts (ltb 32 r.count) (ltb size (16 * r.count)) (mask_true r) (all_valid (placed r)) _ _ (all-lamps clock (placed r))
 
 pub slice_first : (r : Row) (size clock : ℕ) → eqb (slice_cause r size) 0 ≡ false → row_cause r size clock ≡ slice_cause r size
 slice_first r size clock e = row-cause r size clock ∙ rw e
@@ -68,19 +70,20 @@ pub lamps-next : (r : Row) (size clock : ℕ) → slice_cause r size ≡ 0 →
     row_cause r size clock ≡ max (limit_cause clock) (visits_cause clock (placed r))
 lamps-next r size clock e = row-cause r size clock ∙ rw e
 
-first_two : (a b : Bool) (n m : ℕ) → cond a 8 (cond b n m) ≡ 0 → 0 < n → (a ≡ false) × (b ≡ false)
-first_two true b n m e p = absurd (omega arith)
-first_two false true n m e p = absurd (omega arith)
-first_two false false n m e p = (refl, refl)
+no_first : (a b m : Bool) (n : ℕ) → ◌≡◌ {A = ℕ} (cond a 8 (cond b n (cond (not m) 8 0))) 0 → 0 < n → (a ≡ false) × (b ≡ false) × (m ≡ true)
+no_first true b m n e p = absurd (omega (arith, e))
+no_first false true m n e p = absurd (omega (arith, e))
+no_first false false false n e p = absurd (omega (arith, e))
+no_first false false true n e p = (refl, refl, refl)
 
-pub slice_fits : (r : Row) (size : ℕ) → slice_cause r size ≡ 0 → (r.count ≤ 32) × (16 * r.count ≤ size)
+pub slice_fits : (r : Row) (size : ℕ) → slice_cause r size ≡ 0 → (r.count ≤ 32) × (16 * r.count ≤ size) × (mask_true r ≡ true)
 unfolding slice_cause
 slice_fits r size e =
-    let f = first_two (ltb 32 r.count) (ltb size (16 * r.count)) 9 0 e (omega arith) in
-    (ltb-false 32 r.count f.0, ltb-false size (16 * r.count) f.1)
+    let f = no_first (ltb 32 r.count) (ltb size (16 * r.count)) (mask_true r) 9 e (omega arith) in
+    (ltb-false 32 r.count f.0, ltb-false size (16 * r.count) f.1, f.2)
 
-pub place-there : (r : Row) (place : ℕ) → place_cause r place ≡ 0 → (r.count ≤ 32) × (place < r.count)
+pub place-there : (r : Row) (place : ℕ) → place_cause r place ≡ 0 → (r.count ≤ 32) × (place < r.count) × (mask_true r ≡ true)
 unfolding place_cause
 place-there r place e =
-    let f = first_two (ltb 32 r.count) (leb r.count place) 10 0 e (omega arith) in
-    (ltb-false 32 r.count f.0, leb-false r.count place f.1)
+    let f = no_first (ltb 32 r.count) (leb r.count place) (mask_true r) 10 e (omega arith) in
+    (ltb-false 32 r.count f.0, leb-false r.count place f.1, f.2)

@@ -8,7 +8,7 @@ use native.Mathlib.Omega.{arith}
 use lib.Dec.{leb, ltb, eqb}
 use lib.ListN.{length, get_or, set}
 use lib.Seq.{get_or-take, get_or-set_same, get_or-set_other, set-get_or, length-take-le}
-use borrow.Author.Tests.{le-ltb, le-leb, lt-leb, leb-false, ltb-false, eqb-true, ne_eqb}
+use borrow.Author.Tests.{eq-eqb, le-ltb, le-leb, lt-leb, leb-false, ltb-false, eqb-true, ne_eqb}
 use Rattle.matter.specs.Limits.{clock_limit}
 use Rattle.notices.specs.Notices.{noted}
 use Rattle.tasks.specs.declared.GivenTask.{GivenTask}
@@ -23,9 +23,9 @@ use Rattle.commands.specs.Answers.{cause, answer}
 use Rattle.commands.proofs.Kept.{refused-same, number-is-cause}
 use Rattle.rows.specs.declared.Row.{Row}
 use Rattle.rows.specs.RowTable.{AnswersAs}
-use Rattle.rows.specs.Rows.{map_to, visited, no_lamp, lamp_at, placed, row_cause, row_stepped, row_bytes, slice_cause, limit_cause, visits_cause, place_cause, answered_at, row_of, put_at, with_lamps}
+use Rattle.rows.specs.Rows.{map_to, visited, no_lamp, lamp_at, placed, mask_true, row_cause, row_stepped, row_bytes, slice_cause, limit_cause, visits_cause, place_cause, answered_at, row_of, put_at, with_lamps}
 use Rattle.rows.proofs.Visiting.{step-map_to, length-map_to, step-number}
-use Rattle.rows.proofs.Causes.{lamps-next, row-cause, slice_fits}
+use Rattle.rows.proofs.Causes.{lamps-next, row-cause, slice_fits, place-there}
 
 -- a row's own count and array, and a place of it
 pub record Room (r : Row) : Type 0 where
@@ -35,6 +35,7 @@ pub record Room (r : Row) : Type 0 where
 pub record InRow (k : ℕ) (r : Row) : Type 0 where
   pub there : k < r.count
   pub room : Room r
+  pub mask : mask_true r ≡ true
 
 in_array : (k : ℕ) (r : Row) → InRow k r → k < length r.lamps
 in_array k r h = omega (arith, h.there, h.room.few, h.room.places)
@@ -96,6 +97,9 @@ accepted-few r size clock e = (slice_fits r size (accepted-slice r size clock e)
 
 pub accepted-lamps : (r : Row) (size clock : ℕ) → row_cause r size clock ≡ 0 → visits_cause clock (placed r) ≡ 0
 accepted-lamps r size clock e = omega (arith, lamps-next r size clock (accepted-slice r size clock e), e)
+
+pub accepted-mask : (r : Row) (size clock : ℕ) → row_cause r size clock ≡ 0 → mask_true r ≡ true
+accepted-mask r size clock e = (slice_fits r size (accepted-slice r size clock e)).2
 
 -- its places are the row's
 pub placed-many : (r : Row) → Room r → length (placed r) ≡ r.count
@@ -159,22 +163,29 @@ all_first : (clock : ℕ) (ls : List Lamp) → ((k : ℕ) → k < length ls → 
 all_first clock [] f = refl
 all_first clock (l ∷ ls) f = omega (arith, f 0 (omega arith), all_first clock ls (λ k h. f (suc k) (omega arith)))
 
-pub row-accepts : (r : Row) (size clock : ℕ) → Room r → 16 * r.count ≤ size → clock ≤ clock_limit →
+pub row-accepts : (r : Row) (size clock : ℕ) → Room r → mask_true r ≡ true → 16 * r.count ≤ size → clock ≤ clock_limit →
     ((k : ℕ) → k < r.count → first_cause (lamp_at r k) clock ≡ 0) → (row_stepped r size clock).number ≡ 0
 unfolding slice_cause
-row-accepts r size clock h fits low f =
-    let slice : slice_cause r size ≡ 0 = rw (le-ltb 32 r.count h.few, le-ltb size (16 * r.count) fits) in
+row-accepts r size clock h mask fits low f =
+    let slice : slice_cause r size ≡ 0 = rw (le-ltb 32 r.count h.few, le-ltb size (16 * r.count) fits, mask) in
     let limit : limit_cause clock ≡ 0 = rw (le-ltb clock_limit clock low) in
     let lamps = all_first clock (placed r) (λ k m.
     let there : k < r.count = omega (arith, placed-many r h, m) in
     ap (λ l. first_cause l clock) (get_or-take r.count r.lamps k no_lamp there) ∙ f k there) in
     row_number r size clock ∙ lamps-next r size clock slice ∙ omega (arith, limit, lamps)
 
+-- a row made of lamps has their mask, and so has each row that a call leaves
+pub with-true : (r : Row) (ls : List Lamp) → mask_true (with_lamps r ls) ≡ true
+with-true r ls = eq-eqb _ _ refl
+
+pub same-row : (r : Row) → mask_true r ≡ true → with_lamps r r.lamps ≡ r
+same-row r e = ap (λ m. record { count = r.count; running_mask = m; lamps = r.lamps }) (sym (eqb-true _ _ e))
+
 -- ---- the row call is the single steps of its places, one after another in rising place
 
 pub no-cause : (r : Row) (k : ℕ) → InRow k r → place_cause r k ≡ 0
 unfolding place_cause
-no-cause r k h = rw (le-ltb 32 r.count h.room.few, lt-leb r.count k h.there)
+no-cause r k h = rw (le-ltb 32 r.count h.room.few, lt-leb r.count k h.there, h.mask)
 
 abbrev pub step_each : ℕ → ℕ → Row → ℕ → Row
 step_each zero k r clock = r
@@ -198,7 +209,7 @@ module _ (clock : ℕ) where
   from r (suc left) k h m =
       let room : Room (with_lamps r (map_to k visit r.lamps)) = record { few = h.few; places = length-map_to k visit r.lamps ∙ h.places } in
       let e : suc k + left ≡ k + suc left = omega arith in
-      ap (λ q. step_each left (suc k) q clock) (at_place (with_lamps r (map_to k visit r.lamps)) k (record { there = omega arith; room = room }) ∙ ap (with_lamps r) (one_more k r.lamps))
+      ap (λ q. step_each left (suc k) q clock) (at_place (with_lamps r (map_to k visit r.lamps)) k (record { there = omega arith; room = room; mask = with-true r (map_to k visit r.lamps) }) ∙ ap (with_lamps r) (one_more k r.lamps))
       ∙ from r left (suc k) h (omega arith) ∙ ap (λ n. with_lamps r (map_to n visit r.lamps)) e
 
   pub singly-is : (r : Row) (size : ℕ) → length r.lamps ≡ 32 → row_cause r size clock ≡ 0 →
@@ -207,7 +218,8 @@ module _ (clock : ℕ) where
   singly-is r size len e =
       let room : Room r = record { few = accepted-few r size clock e; places = len } in
       let all : 0 + r.count ≡ r.count = omega arith in
-      rw e (from r r.count 0 room (omega arith) ∙ ap (λ n. with_lamps r (map_to n visit r.lamps)) all)
+      let start = ap (λ q. step_each r.count 0 q clock) (sym (same-row r (accepted-mask r size clock e))) in
+      rw e (start ∙ from r r.count 0 room (omega arith) ∙ ap (λ n. with_lamps r (map_to n visit r.lamps)) all)
 
 -- ---- a single call is the lamp's own answer at that place, with every other lamp and the count as they were
 
@@ -239,7 +251,8 @@ unfolding answered_at
 single-refused r k x n =
     either (eqb (place_cause r k) 0)
     (λ e. let same = refused-same (lamp_at r k) x (λ z. (rw e at n) (number-is-cause (lamp_at r k) x ∙ z)) in
-    rw (e, same) (ap (λ (ls : List Lamp). record { number = cause (lamp_at r k) x; row = with_lamps r ls; notices = noted []; task = GivenTask.Nothing; wait = 0 }) (set-get_or r.lamps k no_lamp)))
+    let stays = ap (with_lamps r) (set-get_or r.lamps k no_lamp) ∙ same-row r (place-there r k (eqb-true _ _ e)).2 in
+    rw (e, same) (ap (λ (q : Row). record { number = cause (lamp_at r k) x; row = q; notices = noted []; task = GivenTask.Nothing; wait = 0 }) stays))
     (λ e. rw e)
 
 -- ---- making a row, and putting a lamp into it
@@ -247,12 +260,12 @@ single-refused r k x n =
 pub made : (count : ℕ) (ls : List Lamp) → ((row_of count ls).count ≡ count) × ((row_of count ls).lamps ≡ ls)
 made count ls = (refl, refl)
 
-pub put_in : (r : Row) (k : ℕ) (l : Lamp) → InRow k r →
+pub put_in : (r : Row) (k : ℕ) (l : Lamp) → k < r.count → Room r →
     (lamp_at (put_at r k l) k ≡ l) × ((put_at r k l).count ≡ r.count) × ((j : ℕ) → (j ≡ k → ⊥) → lamp_at (put_at r k l) j ≡ lamp_at r j)
 unfolding put_at
-put_in r k l h =
-    rw (lt-leb r.count k h.there, lt-leb 32 k (omega (arith, h.there, h.room.few)))
-    (get_or-set_same r.lamps k l no_lamp (in_array k r h), refl, λ j n. get_or-set_other r.lamps k j l no_lamp n)
+put_in r k l there room =
+    rw (lt-leb r.count k there, lt-leb 32 k (omega (arith, there, room.few)))
+    (get_or-set_same r.lamps k l no_lamp (omega (arith, there, room.few, room.places)), refl, λ j n. get_or-set_other r.lamps k j l no_lamp n)
 
 -- at and past the count nothing is put, and nothing past the array
 pub put-past : (r : Row) (k : ℕ) (l : Lamp) → min r.count 32 ≤ k → put_at r k l ≡ r

@@ -1,6 +1,8 @@
 pub mod Places
 pub mod Visiting
 pub mod Causes
+pub mod Masks
+pub mod MaskLaws
 pub mod Laws
 pub mod Waits
 pub mod Bytes

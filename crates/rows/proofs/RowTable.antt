@@ -1,6 +1,6 @@
 -- The table of causes for rows, case by case.
 use Prim.Native.Nat.{ℕ, ◌*◌}
-use mathlib.Core.Bool.{Bool, true, false, cond, not, ◌||◌}
+use mathlib.Core.Bool.{Bool, true, false, cond, not, ◌&&◌, ◌||◌, and-false}
 use mathlib.Core.Path.{◌≡◌, sym, ◌∙◌}
 use native.Mathlib.Omega.{arith}
 use lib.Dec.{ltb, leb}
@@ -9,7 +9,7 @@ use Rattle.matter.specs.Limits.{clock_limit}
 use Rattle.lamp.specs.declared.Call.{Call}
 use Rattle.commands.proofs.Table.{table}
 use Rattle.rows.specs.declared.Row.{Row}
-use Rattle.rows.specs.Rows.{placed, all_valid, any_later, lamp_at, row_cause, place_cause, answered_at}
+use Rattle.rows.specs.Rows.{placed, mask_true, all_valid, any_later, lamp_at, row_cause, place_cause, answered_at}
 use Rattle.rows.specs.RowTable.{RowCauses, PlaceCauses, TableOfRows}
 use Rattle.rows.proofs.Laws.{either, row_number}
 
@@ -20,9 +20,10 @@ row-causes r size clock =
     record {
       count-8 = λ h. n ∙ rw (lt-ltb 32 r.count h);
       slice-9 = λ h k. n ∙ rw (le-ltb 32 r.count h, lt-ltb size (16 * r.count) k);
-      lamp-8 = λ h k v. n ∙ rw (le-ltb 32 r.count h, le-ltb size (16 * r.count) k, v);
-      clock-4 = λ h k v c. n ∙ rw (le-ltb 32 r.count h, le-ltb size (16 * r.count) k, v, c);
-      accepted-0 = λ h k v c. n ∙ rw (le-ltb 32 r.count h, le-ltb size (16 * r.count) k, v, c);
+      mask-8 = λ h k m. n ∙ rw (le-ltb 32 r.count h, le-ltb size (16 * r.count) k, m);
+      lamp-8 = λ h k v. n ∙ rw (le-ltb 32 r.count h, le-ltb size (16 * r.count) k, v, and-false);
+      clock-4 = λ h k m v c. n ∙ rw (le-ltb 32 r.count h, le-ltb size (16 * r.count) k, m, v, c);
+      accepted-0 = λ h k m v c. n ∙ rw (le-ltb 32 r.count h, le-ltb size (16 * r.count) k, m, v, c);
     }
 
 place-causes : (r : Row) (place : ℕ) (x : Call) → PlaceCauses r place x
@@ -31,7 +32,8 @@ place-causes r place x =
     record {
       count-8 = λ h. rw (lt-ltb 32 r.count h);
       place-10 = λ h k. rw (le-ltb 32 r.count h, le-leb r.count place k);
-      own = λ h k. let e : place_cause r place ≡ 0 = rw (le-ltb 32 r.count h, lt-leb r.count place k) in
+      mask-8 = λ h k m. rw (le-ltb 32 r.count h, lt-leb r.count place k, m);
+      own = λ h k m. let e : place_cause r place ≡ 0 = rw (le-ltb 32 r.count h, lt-leb r.count place k, m) in
           record { number = rw e; notices = rw e; task = rw e; wait = rw e };
     }
 
@@ -48,11 +50,13 @@ table-of-rows =
     record {
       rows = row-causes;
       places = place-causes;
-      no-3 = λ r size clock e. never-3 (ltb 32 r.count) (ltb size (16 * r.count)) (all_valid (placed r)) (any_later (placed r) clock || ltb clock_limit clock) (sym (row_number r size clock) ∙ e);
+      no-3 = λ r size clock e. never-3 (ltb 32 r.count) (ltb size (16 * r.count)) (mask_true r && all_valid (placed r)) (any_later (placed r) clock || ltb clock_limit clock) (sym (row_number r size clock) ∙ e);
       place-no-3 = λ r place x e.
           either (ltb 32 r.count)
           (λ h. omega (arith, (place-causes r place x).count-8 (ltb-true 32 r.count h), e))
           (λ h. either (leb r.count place)
           (λ k. omega (arith, (place-causes r place x).place-10 (ltb-false 32 r.count h) (leb-true r.count place k), e))
-          (λ k. table.no-3 (lamp_at r place) x (sym ((place-causes r place x).own (ltb-false 32 r.count h) (leb-false r.count place k)).number ∙ e)));
+          (λ k. either (mask_true r)
+          (λ m. table.no-3 (lamp_at r place) x (sym ((place-causes r place x).own (ltb-false 32 r.count h) (leb-false r.count place k) m).number ∙ e))
+          (λ m. omega (arith, (place-causes r place x).mask-8 (ltb-false 32 r.count h) (leb-false r.count place k) m, e))));
     }

@@ -51,9 +51,9 @@ length-map_to (suc n) f [] = refl
 length-map_to (suc n) f (x ∷ xs) = ap suc (length-map_to n f xs)
 
 module _ (xs : List Lamp) (n i clock : ℕ) (h : i < n) (k : n ≤ length xs) (d : Lamp) where
-  pub lamps-more : (next : Row) (count : ℕ) → next ≡ row_of count (map_to i (λ l. (visited l clock).lamp) xs)
-      → with_lamps next (set next.lamps i (visited (get_or xs i d) clock).lamp) ≡ row_of count (map_to (i + 1) (λ l. (visited l clock).lamp) xs)
-  lamps-more next count e = rw (e, add-one i) (ap (row_of count) (step-map_to i (λ l. (visited l clock).lamp) xs d))
+  pub lamps-more : (next : List Lamp) → next ≡ map_to i (λ l. (visited l clock).lamp) xs
+      → set next i (visited (get_or xs i d) clock).lamp ≡ map_to (i + 1) (λ l. (visited l clock).lamp) xs
+  lamps-more next e = rw (e, add-one i) (step-map_to i (λ l. (visited l clock).lamp) xs d)
 
   pub wait-more : (w : ℕ) {whole : ℕ} → lesser w (least_wait clock (left n i xs)) ≡ whole
       → lesser (lesser w (visited (get_or xs i d) clock).wait) (least_wait clock (left n (i + 1) xs)) ≡ whole

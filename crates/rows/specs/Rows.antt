@@ -1,5 +1,7 @@
--- Rows of lamps: document 02, A.1. A row has up to 32 lamps; those at and past its count are no part of it.
-use Rattle.std.specs.Prelude.{ℕ, zero, suc, ◌*◌, min, max, Bool, true, false, not, cond, ◌&&◌, ◌||◌, List, [], ◌∷◌, ◌++◌, leb, ltb, eqb, length, set, take, drop, get_or}
+-- Rows of lamps: document 02, A.1 and A.3. A row has up to 32 lamps; those at and past its count are no part of it.
+use Rattle.std.specs.Prelude.{ℕ, zero, suc, ◌+◌, ◌*◌, ◌^◌, ◌<◌, ◌≤◌, min, max, Bool, true, false, not, cond, ◌&&◌, ◌||◌, ◌==◌, List, [], ◌∷◌, ◌++◌, ◌≡◌, leb, ltb, eqb, map, length, set, take, drop, get_or, count_by, bit_and, bit_or, count_ones}
+use Rattle.std.specs.Int.{w32, bit_not, bit_at, trailing_zeros}
+use Rattle.std.specs.Simd.Lanes.{mask_l}
 use Rattle.matter.specs.Causes.{accepted, clock_refused, invalid_lamp, short_slice, no_place}
 use Rattle.matter.specs.Limits.{clock_limit}
 use Rattle.notices.specs.Notices.{noted}
@@ -16,16 +18,27 @@ use Rattle.lamp.specs.Answers.{first_cause, refusal}
 use Rattle.lamp.specs.Calls.{step_answer}
 use Rattle.lamp.specs.Valid.{lamp_valid}
 use Rattle.commands.specs.Answers.{answer}
+use Rattle.rows.specs.declared.Lowest.{Lowest}
 use Rattle.rows.specs.declared.Row.{Row}
 use Rattle.rows.specs.declared.RowStepped.{RowStepped}
 use Rattle.rows.specs.declared.RowAnswer.{RowAnswer}
 
+-- document 02, A.3: "one 32-bit word whose bit k is set exactly when lamp k runs"; "Bits past the last lamp are 0".
+-- The first lamp's bit is the lowest (`mask_l` of std: `b + 2 * ..`)
+abbrev pub mask_of : List Lamp → ℕ
+mask_of ls = mask_l (map (λ l. runs l.running) ls)
+
+-- a row of so many of these lamps, its running mask made from them
 abbrev pub row_of : ℕ → List Lamp → Row
-row_of count ls = record { count = count; lamps = ls }
+row_of count ls = record { count = count; running_mask = mask_of (take count ls); lamps = ls }
 
 -- the lamps of the row
 abbrev pub placed : Row → List Lamp
 placed r = take r.count r.lamps
+
+-- "a row whose word disagrees"
+abbrev pub mask_true : Row → Bool
+mask_true r = r.running_mask == mask_of (placed r)
 
 -- the row with these lamps
 abbrev pub with_lamps : Row → List Lamp → Row
@@ -51,12 +64,14 @@ unfoldable pub row_cause : Row → ℕ → ℕ → ℕ
 row_cause r size clock =
     cond (ltb 32 r.count) invalid_lamp
     (cond (ltb size (16 * r.count)) short_slice
-    (cond (not (all_valid (placed r))) invalid_lamp
+    (cond (not (mask_true r && all_valid (placed r))) invalid_lamp
     (cond (any_later (placed r) clock || ltb clock_limit clock) clock_refused accepted)))
 
--- the same as the code goes through it: before the lamps, and over them, where 8 is above 4 and 4 above none
+-- the same as the code goes through it: before the lamps' own causes, and over them, where 8 is above 4 and 4 above none
 unfoldable pub slice_cause : Row → ℕ → ℕ
-slice_cause r size = cond (ltb 32 r.count) invalid_lamp (cond (ltb size (16 * r.count)) short_slice accepted)
+slice_cause r size =
+    cond (ltb 32 r.count) invalid_lamp
+    (cond (ltb size (16 * r.count)) short_slice (cond (not (mask_true r)) invalid_lamp accepted))
 
 abbrev pub limit_cause : ℕ → ℕ
 limit_cause clock = cond (ltb clock_limit clock) clock_refused accepted
@@ -110,9 +125,11 @@ row_bytes r out clock =
 -- ---- a call at a place
 
 -- "10, place not in the row, looked at in that same place for a single call, which then checks the form of its own lamp
--- only"
+-- only"; A.3: "a row whose word disagrees is refused with 8, after 9 or 10, in single calls too"
 unfoldable pub place_cause : Row → ℕ → ℕ
-place_cause r place = cond (ltb 32 r.count) invalid_lamp (cond (leb r.count place) no_place accepted)
+place_cause r place =
+    cond (ltb 32 r.count) invalid_lamp
+    (cond (leb r.count place) no_place (cond (not (mask_true r)) invalid_lamp accepted))
 
 abbrev pub place_refusal : Row → ℕ → RowAnswer
 place_refusal r number =
@@ -160,6 +177,43 @@ answered_at r place x =
     cond (eqb (place_cause r place) accepted) (with_answer r place (answer (lamp_at r place) x))
     (place_refusal r (place_cause r place))
 
--- ---- putting a lamp into a row: "as it was" at or past the count, and at no place of the array
+-- ---- putting a lamp into a row
+
+-- a mask with one bit set or cleared, its other bits as they are
+abbrev pub with_bit : ℕ → ℕ → Bool → ℕ
+with_bit mask place set = cond set (bit_or mask (2 ^ place)) (bit_and mask (bit_not w32 (2 ^ place)))
+
+-- the row with another lamp at a place, and that lamp's bit
+abbrev pub stored : Row → ℕ → Lamp → Row
+stored r place l =
+    record {
+      count = r.count;
+      running_mask = with_bit r.running_mask place (runs l.running);
+      lamps = set r.lamps place l;
+    }
+
+-- "as it was" at or past the count, and at no place of the array
 unfoldable pub put_at : Row → ℕ → Lamp → Row
-put_at r place l = cond (leb r.count place || leb 32 place) r (with_lamps r (set r.lamps place l))
+put_at r place l = cond (leb r.count place || leb 32 place) r (stored r place l)
+
+-- ---- readings of the mask alone
+
+-- "the lowest running place, or that there is none"
+abbrev pub lowest_of : ℕ → Lowest
+lowest_of mask = cond (mask == 0) Lowest.Nothing (Lowest.At (trailing_zeros w32 mask))
+
+-- what reading each lamp gives
+abbrev pub running_count : List Lamp → ℕ
+running_count ls = count_by (λ l. runs l.running) ls
+
+-- the first lamp that runs, from place k on
+abbrev pub first_running : ℕ → List Lamp → Lowest
+first_running k [] = Lowest.Nothing
+first_running k (l ∷ ls) = cond (runs l.running) (Lowest.At k) (first_running (suc k) ls)
+
+-- "for a row in form all equal what reading each lamp gives"
+pub record Readings (r : Row) : Type 0 where
+  pub bits : (k : ℕ) → k < r.count → bit_at r.running_mask k ≡ cond (runs (lamp_at r k).running) 1 0
+  pub past : (k : ℕ) → r.count ≤ k → bit_at r.running_mask k ≡ 0
+  pub count : count_ones r.running_mask ≡ running_count (placed r)
+  pub lowest : lowest_of r.running_mask ≡ first_running 0 (placed r)

@@ -1,9 +1,9 @@
 // Rows of lamps: up to 32 of them, each at its place. One call steps every lamp that runs; a single call goes to one place.
-// Document 02, A.1.
+// A word beside them tells which run. Document 02, A.1 and A.3.
 #![tactic(auto)]
 
-ghost use Rattle.std.specs.Prelude.{◌≡◌, ◌++◌, ◌*◌, ◌+◌, ◌≤◌, ◌<◌, max, ltb, length, take, drop, set, get_or};
-ghost use Rattle.rows.specs.Rows.{placed, visited, visits_cause, limit_cause, slice_cause, lesser, map_to, least_wait, bytes_of, row_of, with_lamps, row_stepped, row_bytes, row_refusal, place_cause, answered_at, place_refusal, put_at};
+ghost use Rattle.std.specs.Prelude.{◌≡◌, ◌++◌, ◌*◌, ◌+◌, ◌≤◌, ◌<◌, max, min, ltb, length, take, drop, set, get_or, count_ones};
+ghost use Rattle.rows.specs.Rows.{placed, visited, visits_cause, limit_cause, slice_cause, lesser, map_to, least_wait, bytes_of, mask_of, mask_true, row_of, with_lamps, row_stepped, row_bytes, row_refusal, place_cause, answered_at, place_refusal, with_bit, stored, put_at, lowest_of};
 ghost use Rattle.lamp.specs.Answers.{first_cause};
 
 use commands::call;
@@ -15,11 +15,20 @@ use tasks::GivenTask;
 // The most lamps of a row.
 pub const MOST: u8 = 32;
 
-// The first `count` lamps are the row; those behind them are no part of it.
+// The first `count` lamps are the row; those behind them are no part of it. Bit k of the running mask is set exactly where
+// lamp k of the row runs; a row whose mask says otherwise is invalid.
 #[derive(Clone, Copy)]
 pub struct Row {
     pub count: u8,
+    pub running_mask: u32,
     pub lamps: [Lamp; 32],
+}
+
+// The lowest place of a row at which a lamp runs.
+#[derive(Clone, Copy)]
+pub enum Lowest {
+    Nothing,
+    At(u8),
 }
 
 // What a row call gives: 0 or the number of its refusal, the row after it, and the least wait of the lamps that run on.
@@ -38,6 +47,53 @@ pub struct RowAnswer {
     pub notices: Notices,
     pub task: GivenTask,
     pub wait: u64,
+}
+
+// How many lamps run, from a row's running mask alone.
+pub fn running_count(mask: u32) -> u32
+    ensures { result ≡ count_ones mask }
+{
+    mask.count_ones()
+}
+
+// The lowest place at which a lamp runs, from a row's running mask alone.
+pub fn lowest_running(mask: u32) -> Lowest
+    ensures { result ≡ lowest_of mask }
+{
+    if mask == 0 {
+        return Lowest::Nothing;
+    }
+    Lowest::At(mask.trailing_zeros() as u8)
+}
+
+// The mask of these lamps.
+fn mask_of(lamps: &[Lamp]) -> u32
+    requires { length lamps.now ≤ 32 }
+    ensures { result ≡ mask_of lamps.now }
+{
+    let mut mask: u32 = 0;
+    let mut i = lamps.len();
+    while 0 < i {
+        i -= 1;
+        mask = 2 * mask + (lamps[i].running.is_running() as u32);
+    }
+    mask
+}
+
+// A mask with one bit set or cleared.
+fn with_bit(mask: u32, place: u8, is_set: bool) -> u32
+    requires { place < 32 }
+    ensures { result ≡ with_bit mask place is_set }
+{
+    let bit = 1u32 << place;
+    if is_set { mask | bit } else { mask & !bit }
+}
+
+// How many places of the array are a row's.
+fn placed_count(count: u8) -> usize
+    ensures { result ≡ min count 32 }
+{
+    if count < MOST { count as usize } else { 32 }
 }
 
 // What a row call does at one place: a lamp that runs is stepped, an idle one stays. The number is the lamp's own cause.
@@ -106,7 +162,12 @@ impl Row {
     pub fn new(count: u8, lamps: [Lamp; 32]) -> Row
         ensures { result ≡ row_of count lamps }
     {
-        Row { count, lamps }
+        let running_mask = mask_of(&lamps[..placed_count(count)]);
+        Row {
+            count,
+            running_mask,
+            lamps,
+        }
     }
 
     // The row with another lamp at a place; as it was where it has no such place.
@@ -122,12 +183,20 @@ impl Row {
 
     fn with_lamp_at(self, place: u8, lamp: Lamp) -> Row
         requires { place < 32 }
-        ensures { result ≡ with_lamps self (set self.lamps place lamp) }
+        ensures { result ≡ stored self place lamp }
     {
         let at = place as usize;
         let mut row = self;
         row.lamps[at] = lamp;
+        row.running_mask = with_bit(self.running_mask, place, lamp.running.is_running());
         row
+    }
+
+    // Whether the mask is that of the lamps.
+    fn is_mask_true(self) -> bool
+        ensures { result ≡ mask_true self }
+    {
+        self.running_mask == mask_of(&self.lamps[..placed_count(self.count)])
     }
 
     fn refused(self, number: u8) -> RowStepped
@@ -159,7 +228,7 @@ impl Row {
         MOST < self.count
     }
 
-    // What is checked before the lamps: the count, and the slice.
+    // What is checked before the lamps' own causes: the count, the slice, and the mask.
     #[tactic(auto, unfolding(crate::specs::Rows::slice_cause))]
     fn slice_cause(self, size: usize) -> u8
         ensures { result ≡ slice_cause self size }
@@ -169,6 +238,9 @@ impl Row {
         }
         if size < 16 * (self.count as usize) {
             return SHORT_SLICE;
+        }
+        if !self.is_mask_true() {
+            return INVALID_LAMP;
         }
         ACCEPTED
     }
@@ -197,6 +269,7 @@ impl Row {
             number = first_of(number, a.number);
             i += 1;
         }
+        next.running_mask = mask_of(&next.lamps[..n]);
         RowStepped {
             number,
             row: next,
@@ -223,7 +296,7 @@ impl Row {
         next
     }
 
-    // What is checked before the lamp: the count, and the place.
+    // What is checked before the lamp: the count, the place, and the mask.
     #[tactic(auto, unfolding(crate::specs::Rows::place_cause))]
     fn place_cause(self, place: u8) -> u8
         ensures { result ≡ place_cause self place }
@@ -233,6 +306,9 @@ impl Row {
         }
         if self.count <= place {
             return NO_PLACE;
+        }
+        if !self.is_mask_true() {
+            return INVALID_LAMP;
         }
         ACCEPTED
     }

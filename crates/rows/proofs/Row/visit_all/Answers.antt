@@ -7,17 +7,20 @@ pub loop-i-preserved : goal.loop-i-preserved
 loop-i-preserved c =
     let a = c.args in
     let l = c.loop-i in
+    let was = l.invariant in
     let v = c.visit-a.ensures in
-    let low : l.i < a.self.count = omega (arith, c.loop-i-test.true, l.invariant.0, l.invariant.1) in
-    let room : a.self.count ≤ length a.self.lamps = omega (arith, l.invariant.2) in
-    let next16 : 16 * (l.i + 1) ≡ 16 * l.i + 16 = omega arith in (
-      omega (arith, low),
-      refl,
-      l.invariant.2,
-      omega (arith, c.put.auto.out),
-      rw v.0 (lamps-more a.self.lamps a.self.count l.i a.clock low room _ l.next a.self.count l.invariant.4),
-      rw (c.least-wait.ensures, v.2) (wait-more a.self.lamps a.self.count l.i a.clock low room _ l.wait l.invariant.5),
-      rw (c.first_of-number.ensures, v.3) (cause-more a.self.lamps a.self.count l.i a.clock low room _ l.number l.invariant.6),
-      rw (next16, c.put.ensures.0, v.1)
-          (bytes-more a.self.lamps a.self.count l.i a.clock low room _ (take (16 * l.i) l.bytes) l.invariant.7),
-    )
+    let low : l.i < a.self.count = omega (arith, c.loop-i-test.true, was.in_range, was.all) in
+    let room : a.self.count ≤ length a.self.lamps = omega (arith, was.array) in
+    let next16 : 16 * (l.i + 1) ≡ 16 * l.i + 16 = omega arith in record {
+      in_range = omega (arith, low);
+      all = refl;
+      array = was.array;
+      room = omega (arith, c.put.auto.out);
+      count = was.count;
+      lamps = rw v.0 (lamps-more a.self.lamps a.self.count l.i a.clock low room _ l.next.lamps was.lamps);
+      wait = rw (c.least-wait.ensures, v.2) (wait-more a.self.lamps a.self.count l.i a.clock low room _ l.wait was.wait);
+      cause = rw (c.first_of-number.ensures, v.3) (cause-more a.self.lamps a.self.count l.i a.clock low room _ l.number was.cause);
+      reported =
+          rw (next16, c.put.ensures.0, v.1)
+          (bytes-more a.self.lamps a.self.count l.i a.clock low room _ (take (16 * l.i) l.bytes) was.reported);
+    }

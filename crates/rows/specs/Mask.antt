@@ -1,0 +1,32 @@
+-- What is promised of the running mask: document 02, A.3.
+use Rattle.std.specs.Prelude.{ℕ, ◌<◌, ◌≡◌, true, false, cond}
+use Rattle.std.specs.Int.{bit_at}
+use Rattle.matter.specs.declared.commands.Request.{Request}
+use Rattle.matter.specs.declared.enums.OnOff.{OnOff}
+use Rattle.tasks.specs.declared.Task.{Task}
+use Rattle.tasks.specs.Runs.{runs}
+use Rattle.lamp.specs.declared.Call.{Call}
+use Rattle.lamp.specs.declared.Lamp.{Lamp}
+use Rattle.commands.specs.Answers.{answer}
+use Rattle.rows.specs.declared.Row.{Row}
+use Rattle.rows.specs.Rows.{mask_true, lamp_at, row_stepped, answered_at, put_at}
+
+-- of a row whose mask is true
+pub record MaskKept (r : Row) : Type 0 where
+  -- "Every row call and every single call keeps the word true", refused ones too
+  pub row_call : (size clock : ℕ) → mask_true (row_stepped r size clock).row ≡ true
+  pub single : (place : ℕ) (x : Call) → mask_true (answered_at r place x).row ≡ true
+  -- a call changes the bit of its own place at most: it is then whether the lamp runs after its answer
+  pub own : (k : ℕ) (x : Call) → k < r.count →
+      bit_at (answered_at r k x).row.running_mask k ≡ cond (runs (answer (lamp_at r k) x).lamp.running) 1 0
+  pub others : (place k : ℕ) (x : Call) → (k ≡ place → ⊥) →
+      bit_at (answered_at r place x).row.running_mask k ≡ bit_at r.running_mask k
+  -- a command never changes the mask
+  pub command : (place : ℕ) (request : Request) (on_off : OnOff) (clock : ℕ) →
+      (answered_at r place (Call.Command request on_off clock)).row.running_mask ≡ r.running_mask
+  -- a start that is done at once clears the bit, whatever ran before
+  pub at_once : (k : ℕ) (task : Task) (clock : ℕ) → k < r.count →
+      runs (answer (lamp_at r k) (Call.Start task clock)).lamp.running ≡ false →
+      bit_at (answered_at r k (Call.Start task clock)).row.running_mask k ≡ 0
+  -- "Making and putting keep it true"
+  pub put : (place : ℕ) (l : Lamp) → mask_true (put_at r place l) ≡ true
