@@ -65,7 +65,7 @@ together =
     let command : InRangeCall (command_call first) = (in-range-plain _ (lit< tt, lit< tt), lit< tt) in
     let start : InRangeCall (start_call first) = (record { delta = lit< tt; saturation = tt; ms = lit< tt }, lit< tt) in
     row-together two calls 32 5100 0 1 first second
-    (record { places = refl; count = omega arith; lamps = refl })
+    (record { places = refl; count = omega arith; mask = refl; lamps = refl })
     (record {
       there = omega arith;
       lamp = refl;

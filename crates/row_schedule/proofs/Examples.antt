@@ -28,7 +28,7 @@ use Rattle.row_schedule.specs.RowCalls.{RowCall, each, at, next_row, after_row}
 
 -- idle lamps at hue 0
 abbrev pub of_idle : ℕ → Row
-of_idle count = record { count = count; lamps = replicate 32 (schedule.lamp_at 0) }
+of_idle count = record { count = count; running_mask = 0; lamps = replicate 32 (schedule.lamp_at 0) }
 
 abbrev pub ten : Row
 ten = of_idle 10

@@ -64,7 +64,7 @@ calls =
 kept : RowKept 1 two calls
 unfolding lamp_valid all_true color_valid running_valid path_delta distance
 kept =
-    row_keeps two calls (record { places = refl; count = omega arith; lamps = refl })
+    row_keeps two calls (record { places = refl; count = omega arith; mask = refl; lamps = refl })
     ((in-range-plain _ (lit< tt, lit< tt), lit< tt), (lit< tt, ((record { delta = lit< tt; saturation = tt; ms = lit< tt }, lit< tt), (lit< tt, (lit< tt, (lit< tt, (lit< tt, (lit< tt, tt))))))))
     1 (omega arith) (in-range-lamp 0 (lit< tt))
 
@@ -119,7 +119,7 @@ in-range-down clock h = (record { delta = lit< tt; saturation = tt; ms = lit< tt
 kept_at4 : RowKept 4 ten ten_calls
 unfolding lamp_valid all_true color_valid running_valid path_delta distance
 kept_at4 =
-    row_keeps ten ten_calls (record { places = refl; count = omega arith; lamps = refl })
+    row_keeps ten ten_calls (record { places = refl; count = omega arith; mask = refl; lamps = refl })
     ((in-range-plain _ (lit< tt, lit< tt), lit< tt), (in-range-down 5000 (lit< tt), (in-range-down 5050 (lit< tt), (lit< tt, (in-range-down 5060 (lit< tt), (lit< tt, (lit< tt, (lit< tt, (lit< tt, (lit< tt, (lit< tt, (lit< tt, tt))))))))))))
     4 (omega arith) (in-range-lamp 0 (lit< tt))
 

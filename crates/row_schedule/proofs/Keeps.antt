@@ -51,7 +51,7 @@ step-bytes l clock =
 
 module _ (r : Row) (valid : RowValid r) (k : ℕ) (h : k < r.count) where
   pub in_row : InRow k r
-  in_row = record { there = h; room = record { few = valid.count; places = valid.places } }
+  in_row = record { there = h; room = record { few = valid.count; places = valid.places }; mask = valid.mask }
 
   single-after : (ys : List RowCall) (x : Call) → AnswersAs (answered_at (after_row r ys) k x) (answer (own k r ys) x)
   single-after ys x = rw (its-calls k r ys in_row) at (single-is (after_row r ys) k x (kept-after k r ys in_row))

@@ -19,7 +19,7 @@ use Rattle.rows.specs.declared.Row.{Row}
 use Rattle.rows.specs.Rows.{map_to, visited, no_lamp, lamp_at, all_valid, row_cause, row_stepped, place_cause, answered_at, with_lamps}
 use Rattle.rows.proofs.Causes.{place-there}
 use Rattle.rows.proofs.Visiting.{length-map_to}
-use Rattle.rows.proofs.Laws.{InRow, either, visited-step, row-lamp, row-past, single-lamp, single-others, single-count}
+use Rattle.rows.proofs.Laws.{InRow, either, visited-step, row-lamp, row-past, single-lamp, single-others, single-count, with-true}
 use Rattle.row_schedule.specs.RowClaim.{RowValid}
 use Rattle.row_schedule.specs.RowCalls.{RowCall, each, at, next_row, after_row, given_by, given}
 
@@ -65,11 +65,11 @@ one k r (at place x) h = one_at k r place x h
 kept : (k : ℕ) (r : Row) (x : RowCall) → InRow k r → InRow k (next_row r x)
 kept k r (each size clock) h =
     either (eqb (row_cause r size clock) 0)
-    (λ e. subst (InRow k) (sym (each-yes r size clock e)) (record { there = h.there; room = record { few = h.room.few; places = simp length-map_to h.room.places } }))
+    (λ e. subst (InRow k) (sym (each-yes r size clock e)) (record { there = h.there; room = record { few = h.room.few; places = simp length-map_to h.room.places }; mask = with-true r _ }))
     (λ e. subst (InRow k) (sym (each-no r size clock e)) h)
 kept k r (at place x) h =
     either (eqb (place_cause r place) 0)
-    (λ e. subst (InRow k) (sym (at-yes r place x e)) (record { there = h.there; room = record { few = h.room.few; places = simp length-set h.room.places } }))
+    (λ e. subst (InRow k) (sym (at-yes r place x e)) (record { there = h.there; room = record { few = h.room.few; places = simp length-set h.room.places }; mask = with-true r _ }))
     (λ e. subst (InRow k) (sym (at-no r place x e)) h)
 
 -- no call changes the count
@@ -124,13 +124,13 @@ each-valid (suc n) (suc k) (l ∷ ls) v h m = each-valid n k ls (and_right (lamp
 pub row-valid-kept : (r : Row) (x : RowCall) → RowValid r → RowValid (next_row r x)
 row-valid-kept r (each size clock) v =
     either (eqb (row_cause r size clock) 0)
-    (λ e. subst RowValid (sym (each-yes r size clock e)) (record { places = simp length-map_to v.places; count = v.count; lamps = all-visited clock r.count r.lamps v.lamps }))
+    (λ e. subst RowValid (sym (each-yes r size clock e)) (record { places = simp length-map_to v.places; count = v.count; mask = with-true r _; lamps = all-visited clock r.count r.lamps v.lamps }))
     (λ e. subst RowValid (sym (each-no r size clock e)) v)
 row-valid-kept r (at place x) v =
     either (eqb (place_cause r place) 0)
     (λ e. let there = place-there r place (eqb-true _ _ e) in
     let old = each-valid r.count place r.lamps v.lamps there.1 (omega (arith, there, v.places)) in
-    subst RowValid (sym (at-yes r place x e)) (record { places = simp length-set v.places; count = v.count; lamps = all_set r.count place r.lamps _ (valid-kept (lamp_at r place) x old) v.lamps }))
+    subst RowValid (sym (at-yes r place x e)) (record { places = simp length-set v.places; count = v.count; mask = with-true r _; lamps = all_set r.count place r.lamps _ (valid-kept (lamp_at r place) x old) v.lamps }))
     (λ e. subst RowValid (sym (at-no r place x e)) v)
 
 pub row-valid-after : (r : Row) (xs : List RowCall) → RowValid r → RowValid (after_row r xs)

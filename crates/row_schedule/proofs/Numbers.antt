@@ -61,14 +61,14 @@ no-8 false false e = omega (arith, e)
 valid-row-no-8 : (r : Row) (x : RowCall) → RowValid r → number_of r x ≡ 8 → ⊥
 unfolding row_cause
 valid-row-no-8 r (each size clock) v e =
-    no-8 (ltb size (16 * r.count)) (any_later (placed r) clock || ltb clock_limit clock) (rw (le-ltb 32 r.count v.count, v.lamps) at (sym (row_number r size clock) ∙ e))
+    no-8 (ltb size (16 * r.count)) (any_later (placed r) clock || ltb clock_limit clock) (rw (le-ltb 32 r.count v.count, v.mask, v.lamps) at (sym (row_number r size clock) ∙ e))
 valid-row-no-8 r (at place x) v e =
     let t = table-of-rows.places r place x in
     either (leb r.count place)
     (λ h. omega (arith, t.place-10 v.count (leb-true _ _ h), e))
     (λ h. let there = leb-false r.count place h in
     valid-no-8 (lamp_at r place) x (each-valid r.count place r.lamps v.lamps there (omega (arith, v.places, v.count)))
-    (sym (number-is-cause (lamp_at r place) x) ∙ sym (t.own v.count there).number ∙ e))
+    (sym (number-is-cause (lamp_at r place) x) ∙ sym (t.own v.count there v.mask).number ∙ e))
 
 -- 8 never occurs in any list of calls
 pub never-8 : (r : Row) (ys : List RowCall) (x : RowCall) → RowValid r → number_of (after_row r ys) x ≡ 8 → ⊥
@@ -79,7 +79,7 @@ pub never-10 : (r : Row) (ys : List RowCall) (k : ℕ) (x : Call) → RowValid r
 never-10 r ys k x v h e =
     let w = row-valid-after r ys v in
     let l = lamp_at (after_row r ys) k in
-    let own = ((table-of-rows.places (after_row r ys) k x).own w.count (omega (arith, count-after r ys, h))).number in
+    let own = ((table-of-rows.places (after_row r ys) k x).own w.count (omega (arith, count-after r ys, h)) w.mask).number in
     omega (arith, table.most l x, number-is-cause l x, own, e)
 
 -- the widths of every lamp of the row

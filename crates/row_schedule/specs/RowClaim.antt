@@ -11,14 +11,15 @@ use Rattle.commands.specs.Answers.{answer}
 use Rattle.schedule.specs.Calls.{after}
 use Rattle.schedule.specs.Claim.{Everywhere}
 use Rattle.rows.specs.declared.Row.{Row}
-use Rattle.rows.specs.Rows.{lamp_at, placed, all_valid, row_cause, row_stepped, row_bytes, answered_at, least_wait}
+use Rattle.rows.specs.Rows.{lamp_at, placed, mask_true, all_valid, row_cause, row_stepped, row_bytes, answered_at, least_wait}
 use Rattle.rows.specs.RowTable.{AnswersAs}
 use Rattle.row_schedule.specs.RowCalls.{RowCall, each, at, after_row, given, InRangeRowCalls}
 
--- a valid row, of 32 places
+-- a valid row, of 32 places; its mask is part of that (document 02, A.3)
 pub record RowValid (r : Row) : Type 0 where
   pub places : length r.lamps ≡ 32
   pub count : r.count ≤ 32
+  pub mask : mask_true r ≡ true
   pub lamps : all_valid (placed r) ≡ true
 
 -- the lamp at place k after the calls `ys`: the one that the calls given to it leave
