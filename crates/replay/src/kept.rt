@@ -94,6 +94,10 @@ fn run(kept: Kept, line: RowLine, out: &mut [u8], at: usize) -> Reply {
     match line {
         RowLine::Make(count) => make_row(kept, count, out, at),
         RowLine::OnRow(what) => on_row(kept, what, out, at),
+        RowLine::Running(mask) => Reply {
+            kept: kept,
+            at: answers::turning(mask, out, at),
+        },
         RowLine::Lamp(line) => on_lamp(kept, line, out, at),
     }
 }

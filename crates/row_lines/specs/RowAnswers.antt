@@ -1,16 +1,17 @@
--- What the lines of a row come to, and the texts of their answers: document 02, A.1; docs/PROTOCOL.md.
-use Rattle.std.specs.Prelude.{ℕ, zero, suc, ◌+◌, ◌*◌, ◌%◌, Bool, cond, ◌||◌, List, [], ◌∷◌, ◌++◌, ◌≡◌, leb, ltb, eqb, length, drop, replicate}
+-- What the lines of a row come to, and the texts of their answers: document 02, A.1 and A.3; docs/PROTOCOL.md.
+use Rattle.std.specs.Prelude.{ℕ, zero, suc, ◌+◌, ◌*◌, ◌%◌, Bool, cond, ◌||◌, List, [], ◌∷◌, ◌++◌, ◌≡◌, leb, ltb, eqb, length, drop, replicate, count_ones}
 use Rattle.tasks.specs.declared.GivenTask.{GivenTask}
 use Rattle.lamp.specs.declared.Answer.{Answer}
 use Rattle.lamp.specs.declared.Call.{Call}
 use Rattle.lamp.specs.declared.Lamp.{Lamp}
 use Rattle.lamp.specs.Making.{fresh_lamp}
+use Rattle.rows.specs.declared.Lowest.{Lowest}
 use Rattle.rows.specs.declared.Row.{Row}
 use Rattle.rows.specs.declared.RowAnswer.{RowAnswer}
 use Rattle.rows.specs.declared.RowStepped.{RowStepped}
-use Rattle.rows.specs.Rows.{row_of, placed, row_stepped, row_bytes, lamp_at, answered_at, put_at}
+use Rattle.rows.specs.Rows.{row_of, placed, row_stepped, row_bytes, lamp_at, answered_at, put_at, lowest_of}
 use Rattle.text.specs.Ascii.{ascii}
-use Rattle.text.specs.Digits.{hex_text}
+use Rattle.text.specs.Digits.{decimal, hex_text}
 use Rattle.text.specs.Words.{same}
 use Rattle.text.specs.Written.{Written}
 use Rattle.lamp_lines.specs.Answers.{number_text, numbers_text, lamp_numbers, running_text, status_text, answer_text}
@@ -41,9 +42,9 @@ lamps_text (l ∷ ls) = lamp_text l ++ lamps_text ls
 unfoldable pub row_sum : Row → ℕ
 row_sum r = summed 0 (lamps_text (placed r))
 
--- <count> <word> <sum>: "The word is in decimal, and `-` before A.3"
+-- <count> <word> <sum>: "The word is in decimal"
 unfoldable pub row_text : Row → List ℕ
-row_text r = number_text r.count ++ ascii " -" ++ number_text (row_sum r)
+row_text r = number_text r.count ++ number_text r.running_mask ++ number_text (row_sum r)
 
 -- | <row>
 abbrev pub then_row : Row → List ℕ
@@ -82,6 +83,24 @@ fresh_place = fresh_lamp (record { min = 153; max = 500 }) 31 0 0
 -- "Above 32: the count is kept, and there are lamps at places 0 to 31"
 unfoldable pub fresh_row : ℕ → Row
 fresh_row count = row_of count (replicate 32 fresh_place)
+
+-- "another count, nothing else"
+abbrev pub with_count : Row → ℕ → Row
+with_count r count = record { count = count; running_mask = r.running_mask; lamps = r.lamps }
+
+-- "sets the word, true or not"
+abbrev pub with_mask : Row → ℕ → Row
+with_mask r mask = record { count = r.count; running_mask = mask; lamps = r.lamps }
+
+-- ---- how many are still turning, from the word alone
+
+abbrev pub lowest_text : Lowest → List ℕ
+lowest_text Lowest.Nothing = ascii " -"
+lowest_text (Lowest.At place) = number_text place
+
+-- "`<count> <lowest>`, or `0 -`"
+unfoldable pub turning_text : ℕ → List ℕ
+turning_text mask = decimal (count_ones mask) ++ lowest_text (lowest_of mask)
 
 -- ---- a row call
 
@@ -190,7 +209,9 @@ answered_place r place Asked.Nothing = unread r
 -- ---- the lines of the row that there is, where this task was given last
 
 unfoldable pub on_row : Row → OnRow → GivenTask → Turn
-on_row r (OnRow.Count count) last = shown_row (row_of count r.lamps)
+on_row r (OnRow.Count count) last = shown_row (with_count r count)
+on_row r (OnRow.Mask mask) last = shown_row (with_mask r mask)
 on_row r OnRow.Show last = shown_row r
 on_row r (OnRow.Step s) last = step_row r s
+on_row r OnRow.Turning last = says r (turning_text r.running_mask)
 on_row r (OnRow.At a) last = answered_place r a.place (asked_of a.line last)

@@ -5,9 +5,8 @@ ghost use Rattle.text.specs.Ascii.{ascii};
 ghost use Rattle.text.specs.Digits.{decimal};
 ghost use Rattle.text.specs.Words.{same};
 ghost use Rattle.text.specs.Written.{Written};
-ghost use Rattle.rows.specs.Rows.{row_of};
 ghost use Rattle.lamp_lines.specs.Answers.{number_text, numbers_text, lamp_numbers, status_text, answer_text};
-ghost use Rattle.row_lines.specs.RowAnswers.{summed, lamp_text, lamps_text, row_text, then_row, Turned, shown_row, unread, fresh_place, fresh_row, lent_bytes, slice_text, kept_text, lent_text, step_with, step_row, last_start, on_lamp_asked, asked_of, lamp_answer, lamp_hidden, called_at, lamp_missing, edited_at, edited_on, answered_place, on_row};
+ghost use Rattle.row_lines.specs.RowAnswers.{summed, lamp_text, lamps_text, row_text, then_row, Turned, shown_row, unread, fresh_place, fresh_row, with_count, with_mask, lowest_text, turning_text, says, lent_bytes, slice_text, kept_text, lent_text, step_with, step_row, last_start, on_lamp_asked, asked_of, lamp_answer, lamp_hidden, called_at, lamp_missing, edited_at, edited_on, answered_place, on_row};
 
 use crate::lines::{AtPlace, OnRow, RowStep};
 use call_lines::lines;
@@ -17,9 +16,9 @@ use lamp::{Answer, Call, Lamp, LoopSettings};
 use lamp_lines::answers::{answer, bar, lamp_numbers, number, status};
 use matter::{Bounds, ColorLoopDirectionEnum};
 use remaining_time::RemainingTime;
-use rows::{MOST, Row, RowAnswer};
+use rows::{Lowest, MOST, Row, RowAnswer, lowest_running, running_count};
 use tasks::{GivenTask, Running};
-use text::writer::{hex, text};
+use text::writer::{decimal, hex, text};
 
 // The longest slice that is lent.
 const LONGEST: usize = 1024;
@@ -138,13 +137,13 @@ fn sum_lamps(lamps: [Lamp; 32], count: u8) -> u32
     sum
 }
 
-// A row's count and sum. The word between them is A.3's.
+// A row's count, word and sum.
 #[tactic(auto, unfolding(crate::specs::RowAnswers::row_text, crate::specs::RowAnswers::row_sum))]
 fn row_numbers(out: &mut [u8], at: usize, row: Row) -> usize
     ensures { Written out.old at (row_text row) out.new result }
 {
     let a = number(out, at, row.count as u64);
-    let b = text(out, a, b" -");
+    let b = number(out, a, row.running_mask as u64);
     let lamps = row.lamps;
     number(out, b, sum_lamps(lamps, row.count) as u64)
 }
@@ -220,12 +219,52 @@ pub fn make(count: u8, out: &mut [u8], at: usize) -> RowTurn
     shown(fresh_row(count), out, at)
 }
 
-// The row with another count, and the same lamps.
+// The row with another count, and the same word and lamps.
 fn with_count(row: Row, count: u8) -> Row
-    ensures { result ≡ row_of count row.lamps }
+    ensures { result ≡ with_count row count }
 {
-    let lamps = row.lamps;
-    Row::new(count, lamps)
+    Row { count, ..row }
+}
+
+// The row with another word, true or not.
+fn with_mask(row: Row, running_mask: u32) -> Row
+    ensures { result ≡ with_mask row running_mask }
+{
+    Row {
+        running_mask,
+        ..row
+    }
+}
+
+// The lowest place that runs; `-` where none does.
+fn lowest(out: &mut [u8], at: usize, place: Lowest) -> usize
+    ensures { Written out.old at (lowest_text place) out.new result }
+{
+    match place {
+        Lowest::Nothing => text(out, at, b" -"),
+        Lowest::At(k) => number(out, at, k as u64),
+    }
+}
+
+// How many run, and the lowest place, from the word alone.
+#[tactic(auto, unfolding(crate::specs::RowAnswers::turning_text))]
+pub fn turning(mask: u32, out: &mut [u8], at: usize) -> usize
+    ensures { Written out.old at (turning_text mask) out.new result }
+{
+    let a = decimal(out, at, running_count(mask) as u64);
+    lowest(out, a, lowest_running(mask))
+}
+
+// The row's own.
+fn row_turning(row: Row, out: &mut [u8], at: usize) -> RowTurn
+    ensures { Turned (says row (turning_text row.running_mask)) out.old at out.new result }
+{
+    let end = turning(row.running_mask, out, at);
+    RowTurn {
+        row: row,
+        task: GivenTask::Nothing,
+        at: end,
+    }
 }
 
 // The byte at a place of a slice that is lent.
@@ -476,8 +515,10 @@ pub fn on_row(row: Row, what: OnRow, last: GivenTask, out: &mut [u8], at: usize)
 {
     match what {
         OnRow::Count(count) => shown(with_count(row, count), out, at),
+        OnRow::Mask(mask) => shown(with_mask(row, mask), out, at),
         OnRow::Show => shown(row, out, at),
         OnRow::Step(asked) => step(row, asked, out, at),
+        OnRow::Turning => row_turning(row, out, at),
         OnRow::At(asked) => at_place(row, asked, last, out, at),
     }
 }

@@ -1,7 +1,7 @@
 // The lines of a row, read. Any other line is the lamp's.
 ghost use Rattle.std.specs.Prelude.{◌≡◌};
 ghost use Rattle.text.specs.Readers.{Reads};
-ghost use Rattle.row_lines.specs.RowLines.{make_at, count_at, step_row_at, place_at, lamp_line_at, row_line_at, row_line_read};
+ghost use Rattle.row_lines.specs.RowLines.{make_at, count_at, mask_at, running_at, step_row_at, place_at, lamp_line_at, leaf_line_at, row_line_at, row_line_read};
 
 use call_lines::lines;
 use call_lines::lines::Line;
@@ -26,15 +26,19 @@ pub struct AtPlace {
 #[derive(Clone, Copy)]
 pub enum OnRow {
     Count(u8),
+    Mask(u32),
     Show,
     Step(RowStep),
+    Turning,
     At(AtPlace),
 }
 
+// A line: a row is made, or asked, or a mask is read, which needs no row; any other is the lamp's.
 #[derive(Clone, Copy)]
 pub enum RowLine {
     Make(u8),
     OnRow(OnRow),
+    Running(u32),
     Lamp(Line),
 }
 
@@ -63,6 +67,28 @@ fn count_line(line: &[u8], at: usize) -> RowLineRead
     RowLineRead {
         value: RowLine::OnRow(OnRow::Count(count.value)),
         at: count.at,
+    }
+}
+
+#[tactic(auto, unfolding(crate::specs::RowLines::mask_at))]
+fn mask_line(line: &[u8], at: usize) -> RowLineRead
+    ensures { Reads (mask_at line.now at) result.value result.at }
+{
+    let mask = numbers::number_32(line, at);
+    RowLineRead {
+        value: RowLine::OnRow(OnRow::Mask(mask.value)),
+        at: mask.at,
+    }
+}
+
+#[tactic(auto, unfolding(crate::specs::RowLines::running_at))]
+fn running_line(line: &[u8], at: usize) -> RowLineRead
+    ensures { Reads (running_at line.now at) result.value result.at }
+{
+    let mask = numbers::number_32(line, at);
+    RowLineRead {
+        value: RowLine::Running(mask.value),
+        at: mask.at,
     }
 }
 
@@ -113,6 +139,19 @@ fn lamp_line(line: &[u8], name: usize, at: usize) -> RowLineRead
     }
 }
 
+// A leaf: the readings of a mask, or the lamp's.
+#[tactic(auto, unfolding(crate::specs::RowLines::leaf_line_at))]
+fn leaf_line(line: &[u8], at: usize) -> RowLineRead
+    ensures { Reads (leaf_line_at line.now at) result.value result.at }
+{
+    let name = words::start(line, at);
+    let end = words::end(line, name);
+    if words::is(line, name, b"running") {
+        return running_line(line, end);
+    }
+    lamp_line(line, 0, at)
+}
+
 #[tactic(auto, unfolding(crate::specs::RowLines::row_line_at))]
 fn any_line(line: &[u8], at: usize) -> RowLineRead
     ensures { Reads (row_line_at line.now at) result.value result.at }
@@ -123,6 +162,9 @@ fn any_line(line: &[u8], at: usize) -> RowLineRead
     if words::is(line, 0, b"rowcount") {
         return count_line(line, at);
     }
+    if words::is(line, 0, b"rowword") {
+        return mask_line(line, at);
+    }
     if words::is(line, 0, b"rowshow") {
         return RowLineRead {
             value: RowLine::OnRow(OnRow::Show),
@@ -132,8 +174,17 @@ fn any_line(line: &[u8], at: usize) -> RowLineRead
     if words::is(line, 0, b"rowstep") {
         return step_line(line, at);
     }
+    if words::is(line, 0, b"turning") {
+        return RowLineRead {
+            value: RowLine::OnRow(OnRow::Turning),
+            at,
+        };
+    }
     if words::is(line, 0, b"at") {
         return place_line(line, at);
+    }
+    if words::is(line, 0, b"leaf") {
+        return leaf_line(line, at);
     }
     lamp_line(line, 0, at)
 }

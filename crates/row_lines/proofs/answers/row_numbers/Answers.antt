@@ -7,4 +7,4 @@ pub returns : goal.returns
 unfolding row_text row_sum
 returns c =
     rw (← c.sum_lamps.ensures)
-    (written_more _ _ _ _ (written_more _ _ _ _ c.number-a.ensures c.text-b.ensures) c.number.ensures)
+    (written_more _ _ _ _ (written_more _ _ _ _ c.number-a.ensures c.number-b.ensures) c.number.ensures)
