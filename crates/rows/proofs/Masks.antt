@@ -73,8 +73,8 @@ pub stored-true : (r : Row) (k : ℕ) (l : Lamp) → mask_true r ≡ true → k 
 stored-true r k l m there few len =
     let many : length (placed r) ≡ r.count = length-take-le r.count r.lamps (omega arith) in
     let mask : with_bit r.running_mask k (runs l.running) ≡ mask_of (take r.count (set r.lamps k l)) =
-        ap (λ n. with_bit n k (runs l.running)) (eqb-true _ _ m) ∙ mask-set (placed r) k l (omega arith) (omega arith)
-        ∙ ap mask_of (sym (take-set-lt r.count r.lamps k l there)) in
+    ap (λ n. with_bit n k (runs l.running)) (eqb-true _ _ m) ∙ mask-set (placed r) k l (omega arith) (omega arith)
+    ∙ ap mask_of (sym (take-set-lt r.count r.lamps k l there)) in
     ap (λ n. record { count = r.count; running_mask = n; lamps = set r.lamps k l }) mask
 
 -- ---- readings

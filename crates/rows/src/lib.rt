@@ -99,7 +99,10 @@ fn placed_count(count: u8) -> usize
 // What a row call does at one place: a lamp that runs is stepped, an idle one stays. The number is the lamp's own cause.
 #[tactic(auto, unfolding(crate::specs::Rows::visited))]
 fn visit(lamp: Lamp, clock: u64) -> Answer
-    ensures { (result.lamp ≡ (visited lamp clock).lamp) × (result.notices ≡ (visited lamp clock).notices) × (result.wait ≡ (visited lamp clock).wait) × (result.number ≡ first_cause lamp clock) }
+    ensures lamp { result.lamp ≡ (visited lamp clock).lamp }
+    ensures notices { result.notices ≡ (visited lamp clock).notices }
+    ensures wait { result.wait ≡ (visited lamp clock).wait }
+    ensures cause { result.number ≡ first_cause lamp clock }
 {
     let running = lamp.running;
     if running.is_running() {
@@ -142,8 +145,10 @@ fn limit_cause(clock: u64) -> u8
 
 // The first bytes of one slice at a place of another.
 fn copy(from: &[u8], many: usize, out: &mut [u8], at: usize)
-    requires { (many ≤ length from.now) × (at + many ≤ length out.old) }
-    ensures { (take (at + many) out.new ≡ take at out.old ++ take many from.now) × (drop (at + many) out.new ≡ drop (at + many) out.old) }
+    requires given { many ≤ length from.now }
+    requires room { at + many ≤ length out.old }
+    ensures front { take (at + many) out.new ≡ take at out.old ++ take many from.now }
+    ensures back { drop (at + many) out.new ≡ drop (at + many) out.old }
 {
     let end = at + many;
     out[at..end].copy_from_slice(&from[..many]);
@@ -152,7 +157,8 @@ fn copy(from: &[u8], many: usize, out: &mut [u8], at: usize)
 // Sixteen bytes at a place of a slice.
 fn put(bytes: [u8; 16], out: &mut [u8], at: usize)
     requires { at + 16 ≤ length out.old }
-    ensures { (take (at + 16) out.new ≡ take at out.old ++ bytes) × (drop (at + 16) out.new ≡ drop (at + 16) out.old) }
+    ensures front { take (at + 16) out.new ≡ take at out.old ++ bytes }
+    ensures back { drop (at + 16) out.new ≡ drop (at + 16) out.old }
 {
     copy(&bytes, 16, out, at)
 }
@@ -249,8 +255,12 @@ impl Row {
     // they report goes into `bytes`.
     #[tactic(auto, unfolding(crate::specs::Rows::lesser))]
     fn visit_all(self, bytes: &mut [u8], clock: u64) -> RowStepped
-        requires { (self.count ≤ 32) × (16 * self.count ≤ length bytes.old) }
-        ensures { (result.row ≡ with_lamps self (map_to self.count (λ l. (visited l clock).lamp) self.lamps)) × (result.wait ≡ least_wait clock (placed self)) × (result.number ≡ visits_cause clock (placed self)) × (take (16 * self.count) bytes.new ≡ bytes_of clock (placed self)) }
+        requires few { self.count ≤ 32 }
+        requires room { 16 * self.count ≤ length bytes.old }
+        ensures row { result.row ≡ with_lamps self (map_to self.count (λ l. (visited l clock).lamp) self.lamps) }
+        ensures wait { result.wait ≡ least_wait clock (placed self) }
+        ensures cause { result.number ≡ visits_cause clock (placed self) }
+        ensures reported { take (16 * self.count) bytes.new ≡ bytes_of clock (placed self) }
     {
         let n = self.count as usize;
         let mut next = self;
@@ -280,7 +290,8 @@ impl Row {
     // One call at one clock: every lamp that runs is stepped, in rising place, and reports into its sixteen bytes.
     #[tactic(auto, unfolding(crate::specs::Rows::row_stepped, crate::specs::Rows::row_bytes))]
     pub fn step(self, out: &mut [u8], clock: u64) -> RowStepped
-        ensures { (result ≡ row_stepped self (length out.old) clock) × (out.new ≡ row_bytes self out.old clock) }
+        ensures answer { result ≡ row_stepped self (length out.old) clock }
+        ensures slice { out.new ≡ row_bytes self out.old clock }
     {
         let early = self.slice_cause(out.len());
         if early != ACCEPTED {

@@ -8,4 +8,7 @@ pub returns : goal.returns
 returns c =
     let n : length (take c.args.many c.args.from.now) ≡ c.args.many = length-take-le c.args.many c.args.from.now (omega arith) in
     rw c.copy_from_slice.ensures.after
-    (take-put_mid c.args.at _ c.args.out.now _ _ (omega (arith, n)) (omega arith), drop-put_mid c.args.at _ c.args.out.now _ _ (omega arith) (omega arith) (omega (arith, n)))
+    (record {
+      front = take-put_mid c.args.at _ c.args.out.now _ _ (omega (arith, n)) (omega arith);
+      back = drop-put_mid c.args.at _ c.args.out.now _ _ (omega arith) (omega arith) (omega (arith, n));
+    })

@@ -8,4 +8,5 @@ pub returns-then-is_running : goal.returns-then-is_running
 unfolding visited
 returns-then-is_running c =
     let yes = sym c.is_running.ensures ∙ c.if-is_running.true in
-    rw (c.step.ensures, yes) (refl, refl, refl, step-number c.args.lamp c.args.clock yes)
+    rw (c.step.ensures, yes)
+    (record { lamp = refl; notices = refl; wait = refl; cause = step-number c.args.lamp c.args.clock yes })

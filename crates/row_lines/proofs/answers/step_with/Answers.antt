@@ -6,5 +6,5 @@ use Rattle.row_lines.proofs.answers.step_with.Goals as goal
 
 pub returns : goal.returns
 returns c =
-    rw (step-turn c.args.row c.args.asked.fill c.args.asked.clock c.args.bytes.now _ _ _ c.fill.ensures c.step-stepped.ensures.0 c.step-stepped.ensures.1)
+    rw (step-turn c.args.row c.args.asked.fill c.args.asked.clock c.args.bytes.now _ _ _ c.fill.ensures c.step-stepped.ensures.answer c.step-stepped.ensures.slice)
     (refl, refl, written_more _ _ _ _ (written_more _ _ _ _ c.status-a.ensures c.then_row-b.ensures) c.lent-end.ensures)

@@ -17,37 +17,37 @@ returns-then-early-ne-ACCEPTED c =
     let e = c.slice_cause-early.ensures in
     let n = rw e at (ne_eqb _ _ c.if-early-ne-ACCEPTED.true) in
     let first = slice_first c.args.self (length c.args.out.now) c.args.clock n in
-    (simp (first, n) (c.refused.ensures ∙ rw e), simp (first, n))
+    record { answer = simp (first, n) (c.refused.ensures ∙ rw e); slice = simp (first, n) }
 
 pub visit_all-next-requires : goal.visit_all-next-requires
 visit_all-next-requires c =
     let ok = slice_fits c.args.self (length c.args.out.now) (sym c.slice_cause-early.ensures ∙ c.if-early-ne-ACCEPTED.false) in
-    (ok.0, omega (arith, ok.0))
+    record { few = ok.0; room = omega (arith, ok.0) }
 
 pub returns-then-number-ne-ACCEPTED : goal.returns-then-number-ne-ACCEPTED
 unfolding row_stepped row_bytes
 returns-then-number-ne-ACCEPTED c =
     let ok = sym c.slice_cause-early.ensures ∙ c.if-early-ne-ACCEPTED.false in
-    let e = cause-is c.args.self (length c.args.out.now) c.args.clock _ _ _ ok c.first_of-number.ensures c.limit_cause.ensures c.visit_all-next.ensures.2 in
+    let e = cause-is c.args.self (length c.args.out.now) c.args.clock _ _ _ ok c.first_of-number.ensures c.limit_cause.ensures c.visit_all-next.ensures.cause in
     let n = rw e at (ne_eqb _ _ c.if-number-ne-ACCEPTED.true) in
-    (simp n (c.refused-then-number-ne-ACCEPTED.ensures ∙ rw e), simp n)
+    record { answer = simp n (c.refused-then-number-ne-ACCEPTED.ensures ∙ rw e); slice = simp n }
 
 pub copy-requires : goal.copy-requires
 copy-requires c =
     let ok = slice_fits c.args.self (length c.args.out.now) (sym c.slice_cause-early.ensures ∙ c.if-early-ne-ACCEPTED.false) in
-    (omega (arith, ok.0, c.visit_all-next.auto.bytes), omega (arith, ok.1))
+    record { given = omega (arith, ok.0, c.visit_all-next.auto.bytes); room = omega (arith, ok.1) }
 
 pub returns : goal.returns
 unfolding row_stepped row_bytes
 returns c =
     let ok = sym c.slice_cause-early.ensures ∙ c.if-early-ne-ACCEPTED.false in
-    let e = cause-is c.args.self (length c.args.out.now) c.args.clock _ _ _ ok c.first_of-number.ensures c.limit_cause.ensures c.visit_all-next.ensures.2 in
+    let e = cause-is c.args.self (length c.args.out.now) c.args.clock _ _ _ ok c.first_of-number.ensures c.limit_cause.ensures c.visit_all-next.ensures.cause in
     let zero = sym e ∙ c.if-number-ne-ACCEPTED.false in
     let visits = c.visit_all-next.ensures in
     let many = 16 * c.args.self.count in
-    let front = rw zero-add at c.copy.ensures.0 in
-    let back = rw zero-add at c.copy.ensures.1 in
+    let front = rw zero-add at c.copy.ensures.front in
+    let back = rw zero-add at c.copy.ensures.back in
     let whole : c.copy.new.out ≡ bytes_of c.args.clock (placed c.args.self) ++ drop many c.args.out.now =
-    sym (take-append-drop many c.copy.new.out) ∙ rw (front, back, visits.3) in
+    sym (take-append-drop many c.copy.new.out) ∙ rw (front, back, visits.reported) in
     let number : c.visit_all-next.result.number ≡ 0 = omega (arith, c.first_of-number.ensures, c.if-number-ne-ACCEPTED.false) in
-    (simp zero (by_parts _ number visits.0 visits.1), simp zero whole)
+    record { answer = simp zero (by_parts _ number visits.row visits.wait); slice = simp zero whole }

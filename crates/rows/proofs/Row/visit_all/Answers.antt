@@ -17,10 +17,10 @@ loop-i-preserved c =
       array = was.array;
       room = omega (arith, c.put.auto.out);
       count = was.count;
-      lamps = rw v.0 (lamps-more a.self.lamps a.self.count l.i a.clock low room _ l.next.lamps was.lamps);
-      wait = rw (c.least-wait.ensures, v.2) (wait-more a.self.lamps a.self.count l.i a.clock low room _ l.wait was.wait);
-      cause = rw (c.first_of-number.ensures, v.3) (cause-more a.self.lamps a.self.count l.i a.clock low room _ l.number was.cause);
+      lamps = rw v.lamp (lamps-more a.self.lamps a.self.count l.i a.clock low room _ l.next.lamps was.lamps);
+      wait = rw (c.least-wait.ensures, v.wait) (wait-more a.self.lamps a.self.count l.i a.clock low room _ l.wait was.wait);
+      cause = rw (c.first_of-number.ensures, v.cause) (cause-more a.self.lamps a.self.count l.i a.clock low room _ l.number was.cause);
       reported =
-          rw (next16, c.put.ensures.0, v.1)
+          rw (next16, c.put.ensures.front, v.notices)
           (bytes-more a.self.lamps a.self.count l.i a.clock low room _ (take (16 * l.i) l.bytes) was.reported);
     }
