@@ -2,8 +2,8 @@
 //! row call every tenth of a second.
 
 use yemkruos::{
-    ALL_FEATURES, Bounds, Command, DirectionEnum, NewLamp, Notice, OnOff, Refusal, Row, Task,
-    notices_at,
+    ALL_FEATURES, Bounds, Command, DirectionEnum, Lowest, NewLamp, Notice, OnOff, Refusal, Row,
+    Task, lowest_running, notices_at, running_count,
 };
 
 const BLOCKS: u8 = 10;
@@ -39,7 +39,7 @@ fn main() -> Result<(), Refusal> {
 
     // The starts wrote the device; the first step is due in a tenth of a second.
     let mut wait = 100;
-    while wait > 0 {
+    while lowest_running(row.running_mask) != Lowest::Nothing {
         clock += wait;
         let mut bytes = [0; BYTES];
         let stepped = row.step(&mut bytes, clock).result()?;
@@ -52,7 +52,11 @@ fn main() -> Result<(), Refusal> {
         let written = (0..BLOCKS).filter(|place| {
             notices_at(&bytes, *place).any(|notice| notice == Notice::DeviceHueSaturation)
         });
-        println!("{clock}: hues {hues:?}, {} LEDs written", written.count());
+        let running = running_count(row.running_mask);
+        println!(
+            "{clock}: hues {hues:?}, {} LEDs written, {running} still turn",
+            written.count()
+        );
         assert!(hues.iter().all(|hue| *hue == hues[0]), "the blocks part");
         assert!(!(16_384..27_392).contains(&hues[0]), "green");
     }

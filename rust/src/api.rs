@@ -63,7 +63,7 @@ numbered! {
         CrossedBounds = CROSSED_BOUNDS: "a physical minimum above the maximum",
         InvalidTask = INVALID_TASK: "an invalid task",
         StepWhileIdle = STEP_WHILE_IDLE: "a step while nothing runs",
-        InvalidLamp = INVALID_LAMP: "an invalid lamp, or a row of more than 32",
+        InvalidLamp = INVALID_LAMP: "an invalid lamp, a row of more than 32, or a wrong running mask",
         ShortSlice = SHORT_SLICE: "a slice shorter than sixteen bytes a lamp of the row",
         NoPlace = NO_PLACE: "a place that the row does not have",
     }

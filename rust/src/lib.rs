@@ -107,6 +107,41 @@
 //! # Ok(())
 //! # }
 //! ```
+//!
+//! # Which lamps run
+//!
+//! Bit k of [`Row::running_mask`] is set exactly where lamp k runs. Every call keeps it so. Count and lowest place are read
+//! off it, without a look at the lamps:
+//!
+//! ```
+//! use yemkruos::{
+//!     ALL_FEATURES, Bounds, Command, DirectionEnum, Lowest, NewLamp, OnOff, Refusal, Row, lowest_running, running_count,
+//! };
+//!
+//! # fn main() -> Result<(), Refusal> {
+//! let bounds = Bounds { min: 153, max: 500 };
+//! let lamp = NewLamp { bounds, features: ALL_FEATURES, options: 0, clock: 5000 }.make()?;
+//! let mut row = Row::new(2, [lamp; 32]);
+//! assert_eq!((running_count(row.running_mask), lowest_running(row.running_mask)), (0, Lowest::Nothing));
+//!
+//! // The command gives a task; the lamp runs once that is started.
+//! let command = Command::move_to_hue(128, DirectionEnum::Down, 2);
+//! let answer = row.command_at(1, command, OnOff::On, 5000)?;
+//! assert_eq!(answer.row.running_mask, 0);
+//! row = answer.row.start_at(1, answer.given_task().unwrap(), 5000)?.row;
+//! assert_eq!(row.running_mask, 0b10);
+//! assert_eq!((running_count(row.running_mask), lowest_running(row.running_mask)), (1, Lowest::At(1)));
+//!
+//! // Done.
+//! row = row.step(&mut [0; 32], 5200).result()?.row;
+//! assert_eq!((running_count(row.running_mask), lowest_running(row.running_mask)), (0, Lowest::Nothing));
+//!
+//! // A mask that does not say what the lamps do makes the row invalid.
+//! row.running_mask = 0b10;
+//! assert_eq!(row.step(&mut [0; 32], 5200).result(), Err(Refusal::InvalidLamp));
+//! # Ok(())
+//! # }
+//! ```
 
 #![no_std]
 #![forbid(unsafe_code)]
@@ -146,7 +181,7 @@ pub use matter::{
     Bounds, ColorLoopActionEnum, ColorLoopDirectionEnum, ColorModeEnum, Command, CommandOptions,
     DirectionEnum, EnhancedColorModeEnum, MoveModeEnum, OnOff, Request, StepModeEnum,
 };
-pub use rows::{Row, RowAnswer, RowStepped};
+pub use rows::{Lowest, Row, RowAnswer, RowStepped, lowest_running, running_count};
 pub use tasks::Task;
 
 // The README's example is a test.

@@ -1,6 +1,6 @@
 // Made by rust/make from crates/rows/src/lib.rt: not to be edited.
 //! Rows of lamps: up to 32 of them, each at its place. One call steps every lamp that runs; a single call goes to one place.
-//! Document 02, A.1.
+//! A word beside them tells which run. Document 02, A.1 and A.3.
 
 use crate::commands::call;
 use crate::lamp::Answer;
@@ -18,11 +18,20 @@ use crate::tasks::GivenTask;
 /// The most lamps of a row.
 pub const MOST: u8 = 32;
 
-/// The first `count` lamps are the row; those behind them are no part of it.
+/// The first `count` lamps are the row; those behind them are no part of it. Bit k of the running mask is set exactly where
+/// lamp k of the row runs; a row whose mask says otherwise is invalid.
 #[derive(Clone, Copy, Debug, PartialEq, Eq)]
 pub struct Row {
     pub count: u8,
+    pub running_mask: u32,
     pub lamps: [Lamp; 32],
+}
+
+/// The lowest place of a row at which a lamp runs.
+#[derive(Clone, Copy, Debug, PartialEq, Eq)]
+pub enum Lowest {
+    Nothing,
+    At(u8),
 }
 
 /// What a row call gives: 0 or the number of its refusal, the row after it, and the least wait of the lamps that run on.
@@ -41,6 +50,41 @@ pub struct RowAnswer {
     pub notices: Notices,
     pub task: GivenTask,
     pub wait: u64,
+}
+
+/// How many lamps run, from a row's running mask alone.
+pub fn running_count(mask: u32) -> u32 {
+    mask.count_ones()
+}
+
+/// The lowest place at which a lamp runs, from a row's running mask alone.
+pub fn lowest_running(mask: u32) -> Lowest {
+    if mask == 0 {
+        return Lowest::Nothing;
+    }
+    Lowest::At(mask.trailing_zeros() as u8)
+}
+
+/// The mask of these lamps.
+fn mask_of(lamps: &[Lamp]) -> u32 {
+    let mut mask: u32 = 0;
+    let mut i = lamps.len();
+    while 0 < i {
+        i -= 1;
+        mask = 2 * mask + (lamps[i].running.is_running() as u32);
+    }
+    mask
+}
+
+/// A mask with one bit set or cleared.
+fn with_bit(mask: u32, place: u8, is_set: bool) -> u32 {
+    let bit = 1u32 << place;
+    if is_set { mask | bit } else { mask & !bit }
+}
+
+/// How many places of the array are a row's.
+fn placed_count(count: u8) -> usize {
+    if count < MOST { count as usize } else { 32 }
 }
 
 /// What a row call does at one place: a lamp that runs is stepped, an idle one stays. The number is the lamp's own cause.
@@ -91,7 +135,12 @@ fn put(bytes: [u8; 16], out: &mut [u8], at: usize) {
 impl Row {
     /// A row of so many of these lamps.
     pub fn new(count: u8, lamps: [Lamp; 32]) -> Row {
-        Row { count, lamps }
+        let running_mask = mask_of(&lamps[..placed_count(count)]);
+        Row {
+            count,
+            running_mask,
+            lamps,
+        }
     }
 
     /// The row with another lamp at a place; as it was where it has no such place.
@@ -106,7 +155,13 @@ impl Row {
         let at = place as usize;
         let mut row = self;
         row.lamps[at] = lamp;
+        row.running_mask = with_bit(self.running_mask, place, lamp.running.is_running());
         row
+    }
+
+    /// Whether the mask is that of the lamps.
+    fn is_mask_true(self) -> bool {
+        self.running_mask == mask_of(&self.lamps[..placed_count(self.count)])
     }
 
     fn refused(self, number: u8) -> RowStepped {
@@ -132,13 +187,16 @@ impl Row {
         MOST < self.count
     }
 
-    /// What is checked before the lamps: the count, and the slice.
+    /// What is checked before the lamps' own causes: the count, the slice, and the mask.
     fn slice_cause(self, size: usize) -> u8 {
         if self.too_many() {
             return INVALID_LAMP;
         }
         if size < 16 * (self.count as usize) {
             return SHORT_SLICE;
+        }
+        if !self.is_mask_true() {
+            return INVALID_LAMP;
         }
         ACCEPTED
     }
@@ -163,6 +221,7 @@ impl Row {
             number = first_of(number, a.number);
             i += 1;
         }
+        next.running_mask = mask_of(&next.lamps[..n]);
         RowStepped {
             number,
             row: next,
@@ -186,13 +245,16 @@ impl Row {
         next
     }
 
-    /// What is checked before the lamp: the count, and the place.
+    /// What is checked before the lamp: the count, the place, and the mask.
     fn place_cause(self, place: u8) -> u8 {
         if self.too_many() {
             return INVALID_LAMP;
         }
         if self.count <= place {
             return NO_PLACE;
+        }
+        if !self.is_mask_true() {
+            return INVALID_LAMP;
         }
         ACCEPTED
     }

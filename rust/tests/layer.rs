@@ -2,9 +2,11 @@
 
 use yemkruos::hue;
 use yemkruos::matter::{self, CLOCK_LIMIT};
+use yemkruos::tasks::{HueDelta, HueSaturationMoveTo, TargetSaturation};
 use yemkruos::{
-    ALL_FEATURES, Band, Bounds, Call, Command, DirectionEnum, Lamp, NewLamp, Notice, OnOff,
-    Refusal, Row, notices_at, passes_through, plain_passes_through,
+    ALL_FEATURES, Band, Bounds, Call, Command, DirectionEnum, Lamp, Lowest, NewLamp, Notice, OnOff,
+    Refusal, Row, Task, lowest_running, notices_at, passes_through, plain_passes_through,
+    running_count,
 };
 
 const NEW: NewLamp = NewLamp {
@@ -207,12 +209,10 @@ fn a_row_call_is_refused_in_its_order() {
         .row;
     assert_eq!(row_refusal(late, 48, 5100), Some(Refusal::Clock));
     assert_eq!(row_refusal(late, 48, 5101), None);
-    assert_eq!(
-        row_refusal(Row { count: 0, ..row }, 0, CLOCK_LIMIT + 1),
-        Some(Refusal::Clock)
-    );
-    assert_eq!(row_refusal(Row { count: 0, ..row }, 0, CLOCK_LIMIT), None);
-    assert_eq!(row_refusal(Row { count: 32, ..row }, 512, 5100), None);
+    let none = Row::new(0, row.lamps);
+    assert_eq!(row_refusal(none, 0, CLOCK_LIMIT + 1), Some(Refusal::Clock));
+    assert_eq!(row_refusal(none, 0, CLOCK_LIMIT), None);
+    assert_eq!(row_refusal(Row::new(32, row.lamps), 512, 5100), None);
 }
 
 #[test]
@@ -248,4 +248,168 @@ fn a_place_that_is_not_there_is_refused_or_left() {
     let wide = Row { count: 255, ..row };
     assert_eq!(wide.with_lamp(31, row.lamps[0]).lamps[31], row.lamps[0]);
     assert_eq!(wide.with_lamp(32, row.lamps[0]), wide);
+}
+
+/// What reading each lamp of the row gives: how many run, and the lowest place.
+fn read_each(row: &Row) -> (u32, Lowest) {
+    let runs: Vec<u8> = (0..row.count)
+        .filter(|place| row.lamps[usize::from(*place)].running.is_running())
+        .collect();
+    let lowest = runs
+        .first()
+        .map_or(Lowest::Nothing, |place| Lowest::At(*place));
+    (runs.len() as u32, lowest)
+}
+
+fn readings(mask: u32) -> (u32, Lowest) {
+    (running_count(mask), lowest_running(mask))
+}
+
+/// A fade of so many milliseconds.
+fn fade(ms: u32) -> Task {
+    Task::HueSaturationMoveTo(HueSaturationMoveTo {
+        delta: HueDelta::By(100),
+        saturation: TargetSaturation::Keep,
+        ms,
+        enhanced: true,
+    })
+}
+
+/// One lamp turns; the wrong bit is its own, another's, that at the count, or one past it.
+#[test]
+fn a_wrong_mask_is_refused_in_its_order() {
+    let row = row_of_three();
+    assert_eq!(row.running_mask, 1);
+    for bit in [0, 1, 2, 3, 4, 30, 31] {
+        let wrong = Row {
+            running_mask: row.running_mask ^ (1 << bit),
+            ..row
+        };
+        // After 9, before the clock, and by itself.
+        assert_eq!(row_refusal(wrong, 47, 0), Some(Refusal::ShortSlice));
+        assert_eq!(row_refusal(wrong, 48, 0), Some(Refusal::InvalidLamp));
+        assert_eq!(row_refusal(wrong, 48, 5100), Some(Refusal::InvalidLamp));
+        let wide = Row { count: 33, ..wrong };
+        assert_eq!(row_refusal(wide, 0, 5100), Some(Refusal::InvalidLamp));
+
+        // After 10, before 4 and 7 and by itself, at whichever place.
+        let (now, before) = (Call::Halt { clock: 5000 }, Call::Halt { clock: 4999 });
+        let step = Call::Step { clock: 5100 };
+        for (place, call, cause) in [
+            (3, now, Refusal::NoPlace),
+            (31, now, Refusal::NoPlace),
+            (0, now, Refusal::InvalidLamp),
+            (1, now, Refusal::InvalidLamp),
+            (2, now, Refusal::InvalidLamp),
+            (2, before, Refusal::InvalidLamp),
+            (1, step, Refusal::InvalidLamp),
+        ] {
+            let answer = wrong.call_at(place, call);
+            assert_eq!((answer.result().err(), answer.row), (Some(cause), wrong));
+        }
+        assert_eq!(
+            wide.call_at(40, now).result(),
+            Err(Refusal::InvalidLamp),
+            "a count above 32 comes before the place"
+        );
+    }
+}
+
+#[test]
+fn lamps_past_the_count_have_no_bit() {
+    let row = row_of_three();
+    let turns = row.start_at(2, fade(500), 5000).unwrap().row;
+    assert_eq!(turns.running_mask, 0b101);
+    assert_eq!(Row::new(2, turns.lamps).running_mask, 0b001);
+    let fewer = Row { count: 2, ..turns };
+    assert_eq!(row_refusal(fewer, 32, 5100), Some(Refusal::InvalidLamp));
+    for count in [32, 33, 255] {
+        let all = Row::new(count, [turns.lamps[0]; 32]);
+        assert_eq!(all.running_mask, u32::MAX);
+        assert_eq!(readings(all.running_mask), (32, Lowest::At(0)));
+    }
+    assert_eq!(Row::new(0, turns.lamps).running_mask, 0);
+}
+
+#[test]
+fn readings_are_those_of_reading_each_lamp() {
+    let mut row = Row::new(32, [NEW.make().unwrap(); 32]);
+    assert_eq!(readings(row.running_mask), (0, Lowest::Nothing));
+    for place in [31, 5, 17, 6] {
+        let ms = 100 * u32::from(place);
+        row = row.start_at(place, fade(ms), 5000).unwrap().row;
+        assert_eq!(readings(row.running_mask), read_each(&row));
+    }
+    assert_eq!(readings(row.running_mask), (4, Lowest::At(5)));
+    let mut bytes = [0; 512];
+    for (clock, left) in [
+        (5400, (4, Lowest::At(5))),
+        (5500, (3, Lowest::At(6))),
+        (5600, (2, Lowest::At(17))),
+        (6700, (1, Lowest::At(31))),
+        (8100, (0, Lowest::Nothing)),
+    ] {
+        row = row.step(&mut bytes, clock).result().unwrap().row;
+        assert_eq!(
+            (readings(row.running_mask), read_each(&row)),
+            (left, left),
+            "at {clock}"
+        );
+    }
+}
+
+/// At its own bit, whatever ran there before.
+#[test]
+fn a_start_that_is_done_at_once_clears_the_bit() {
+    let row = row_of_three();
+    let turns = row.start_at(1, fade(500), 5000).unwrap().row;
+    assert_eq!(turns.running_mask, 0b011);
+    let done = turns.start_at(0, fade(0), 5000).unwrap().row;
+    assert_eq!((done.running_mask, read_each(&done).0), (0b010, 1));
+    let idle = done.start_at(2, fade(0), 5000).unwrap().row;
+    assert_eq!(idle.running_mask, 0b010);
+    assert_eq!(idle.halt_at(1, 5000).unwrap().row.running_mask, 0);
+    // A refused one leaves it.
+    let refused = turns.call_at(
+        0,
+        Call::Start {
+            task: fade(50),
+            clock: 5000,
+        },
+    );
+    assert_eq!(refused.result().err(), Some(Refusal::InvalidTask));
+    assert_eq!(refused.row, turns);
+}
+
+#[test]
+fn commands_never_change_the_mask() {
+    let row = row_of_three();
+    for place in 0..3 {
+        for command in [
+            Command::move_to_hue(128, DirectionEnum::Up, 2),
+            Command::move_to_hue(0, DirectionEnum::Shortest, 0),
+            Command::move_saturation(matter::MoveModeEnum::Stop, 0),
+            Command::stop_move_step(),
+        ] {
+            for on_off in [OnOff::On, OnOff::Off, OnOff::NoHandler] {
+                let answer = row.command_at(place, command, on_off, 5000).unwrap();
+                assert_eq!(answer.row.running_mask, row.running_mask);
+            }
+        }
+    }
+}
+
+/// The bit of the place follows the lamp; the others stay.
+#[test]
+fn a_lamp_that_is_put_brings_its_bit() {
+    let row = row_of_three();
+    let (turns, idle) = (row.lamps[0], row.lamps[1]);
+    assert_eq!(row.with_lamp(2, turns).running_mask, 0b101);
+    assert_eq!(row.with_lamp(0, idle).running_mask, 0);
+    let wrong = Row {
+        running_mask: 0b110,
+        ..row
+    };
+    assert_eq!(wrong.with_lamp(2, turns).running_mask, 0b110);
+    assert_eq!(wrong.with_lamp(1, idle).running_mask, 0b100);
 }

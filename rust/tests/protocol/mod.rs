@@ -35,6 +35,7 @@ pub enum Line {
     Leave(OnOff, u8, u8, u8),
     ModeOf(EnhancedColorModeEnum),
     Shown(u16),
+    Running(u32),
     Row(RowLine),
 }
 
@@ -76,6 +77,7 @@ impl Player {
             }
             Line::ModeOf(mode) => color_mode_of(mode).number().to_string(),
             Line::Shown(stored) => current_hue(stored).to_string(),
+            Line::Running(mask) => rows::turning(mask),
             Line::New(bounds, features, options, clock) => {
                 match Lamp::new(bounds, features, options, clock) {
                     Made::Lamp(lamp) => self.put(lamp),

@@ -338,6 +338,7 @@ impl Words<'_> {
             b"leave" => Line::Leave(self.on_off()?, self.u8()?, self.u8()?, self.u8()?),
             b"mode_of" => Line::ModeOf(self.enhanced_mode()?),
             b"shown" => Line::Shown(self.u16()?),
+            b"running" => Line::Running(self.u32()?),
             _ => return None,
         })
     }
@@ -352,8 +353,10 @@ impl Words<'_> {
         Some(match self.0.next()? {
             b"row" => Line::Row(RowLine::Make(self.u8()?)),
             b"rowcount" => Line::Row(RowLine::Count(self.u8()?)),
+            b"rowword" => Line::Row(RowLine::Mask(self.u32()?)),
             b"rowshow" => Line::Row(RowLine::Show),
             b"rowstep" => Line::Row(self.row_step()?),
+            b"turning" => Line::Row(RowLine::Turning),
             b"at" => Line::Row(RowLine::At(self.u8()?, Box::new(self.line()?))),
             b"lamp" => Line::Lamp(self.lamp()?),
             b"new" => Line::New(self.bounds()?, self.u32()?, self.u8()?, self.u64()?),

@@ -2,7 +2,7 @@
 
 use yemkruos::lamp::{Call, Lamp, Made};
 use yemkruos::matter::Bounds;
-use yemkruos::rows::{MOST, Row};
+use yemkruos::rows::{Lowest, MOST, Row, lowest_running, running_count};
 
 use super::write;
 use super::{Line, Player, on_lamp};
@@ -11,7 +11,9 @@ use super::{Line, Player, on_lamp};
 pub enum RowLine {
     Make(u8),
     Count(u8),
+    Mask(u32),
     Show,
+    Turning,
     Step { size: usize, fill: u8, clock: u64 },
     At(u8, Box<Line>),
 }
@@ -32,7 +34,16 @@ fn text(row: &Row) -> String {
     let sum = lines
         .bytes()
         .fold(0u32, |h, b| h.wrapping_mul(31).wrapping_add(u32::from(b)));
-    format!("{} - {sum}", row.count)
+    format!("{} {} {sum}", row.count, row.running_mask)
+}
+
+/// How many run, and the lowest place, from the mask alone.
+pub fn turning(mask: u32) -> String {
+    let lowest = match lowest_running(mask) {
+        Lowest::Nothing => "-".to_string(),
+        Lowest::At(place) => place.to_string(),
+    };
+    format!("{} {lowest}", running_count(mask))
 }
 
 /// The answer to a row line, where there is a row.
@@ -44,7 +55,14 @@ pub fn play(player: &mut Player, line: RowLine) -> Option<String> {
     let row = player.row?;
     match line {
         RowLine::Make(_) | RowLine::Show => {}
-        RowLine::Count(count) => player.row = Some(Row::new(count, row.lamps)),
+        RowLine::Count(count) => player.row = Some(Row { count, ..row }),
+        RowLine::Mask(running_mask) => {
+            player.row = Some(Row {
+                running_mask,
+                ..row
+            })
+        }
+        RowLine::Turning => return Some(turning(row.running_mask)),
         RowLine::Step { size, fill, clock } => return Some(step(player, row, size, fill, clock)),
         RowLine::At(place, line) => return at(player, row, place, *line),
     }
