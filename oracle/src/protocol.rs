@@ -755,7 +755,7 @@ impl<'a> Words<'a> {
         self.unsigned(u64::MAX)
     }
 
-    fn u32(&mut self) -> Option<u32> {
+    pub(crate) fn u32(&mut self) -> Option<u32> {
         self.unsigned(u32::MAX.into()).map(|x| x as u32)
     }
 

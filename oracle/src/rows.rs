@@ -1,6 +1,7 @@
 //! Rows: lamps of the Rust beside one another, each alone at its place. What is compared of a row is so what these lamps
 //! answer: a call at a place is a call of its lamp, an accepted row call a step of each lamp that runs. The count, the
-//! slice, the place and their order are written by hand, from document 02, A.1.
+//! slice, the place, the word and their order are written by hand, from document 02, A.1 and A.3. After each accepted call
+//! the word is worked out anew, by a look at every lamp.
 
 use std::mem::swap;
 
@@ -17,7 +18,11 @@ const LONGEST_SLICE: u64 = 1024;
 pub enum RowCall {
     Make(u8),
     Count(u8),
+    Word(u32),
     Show,
+    Turning,
+    /// Of any word: it needs no row.
+    Running(u32),
     /// The length of the lent slice, the number that it is filled from, and the clock.
     Step(usize, u8, u64),
     At(u8, Call),
@@ -25,6 +30,8 @@ pub enum RowCall {
 
 pub struct Row {
     pub count: u8,
+    /// True or not.
+    pub word: u32,
     /// Always 32 of them.
     pub lamps: Vec<Option<Lamp>>,
 }
@@ -37,6 +44,39 @@ impl Row {
 
     fn has(&self, place: usize) -> bool {
         place < MOST && place < self.count.into()
+    }
+
+    /// Of each lamp in the row, from place 0 on, whether it runs.
+    fn runs(&self) -> impl Iterator<Item = bool> + '_ {
+        self.placed().map(|lamp| lamp.record.is_some())
+    }
+
+    /// The word that the lamps ask for.
+    pub fn true_word(&self) -> u32 {
+        let powers = (0..MOST).map(|place| 1u32 << place);
+        let set = powers.zip(self.runs()).filter(|(_, runs)| *runs);
+        set.map(|(power, _)| power).sum()
+    }
+
+    fn is_word_true(&self) -> bool {
+        self.word == self.true_word()
+    }
+
+    /// The bit of a place follows its lamp. The others stay, true or not.
+    fn follow(&mut self, place: usize) {
+        let runs = self.lamps[place]
+            .as_ref()
+            .is_some_and(|l| l.record.is_some());
+        let rest = self.word & !(1 << place);
+        self.word = rest | u32::from(runs) << place;
+    }
+
+    /// How many run, and the lowest place: of a row whose word is true from a look at every lamp.
+    fn write_turning(&self, out: &mut Vec<u8>) {
+        match self.is_word_true() {
+            true => write_turning(self.runs(), out),
+            false => write_turning(bits(self.word), out),
+        }
     }
 
     /// Stands for all lamps of the row.
@@ -56,7 +96,9 @@ impl Row {
     fn write(&self, out: &mut Vec<u8>) {
         out.extend_from_slice(b" | ");
         number(out, self.count.into());
-        out.extend_from_slice(b" - ");
+        out.push(b' ');
+        number(out, self.word.into());
+        out.push(b' ');
         number(out, self.sum().into());
     }
 
@@ -67,7 +109,7 @@ impl Row {
             8
         } else if size < 16 * usize::from(self.count) {
             9
-        } else if !self.placed().all(in_form) {
+        } else if !self.is_word_true() || !self.placed().all(in_form) {
             8
         } else if clock > guard::LIMIT || self.placed().any(|l| clock < l.fields.clock) {
             4
@@ -75,16 +117,59 @@ impl Row {
             0
         }
     }
+
+    /// Why a call at a place is refused before its lamp is looked at.
+    fn place_cause(&self, place: usize) -> u8 {
+        if usize::from(self.count) > MOST {
+            8
+        } else if usize::from(self.count) <= place {
+            10
+        } else if !self.is_word_true() {
+            8
+        } else {
+            0
+        }
+    }
+
+    /// Whether an answer can show the lamp that a call was for.
+    fn shows(&self, place: usize) -> bool {
+        usize::from(self.count) <= MOST && self.has(place)
+    }
+}
+
+/// The bits of a word, from the lowest on.
+fn bits(word: u32) -> impl Iterator<Item = bool> {
+    (0..MOST).map(move |place| word / (1 << place) % 2 == 1)
+}
+
+fn write_turning(runs: impl Iterator<Item = bool>, out: &mut Vec<u8>) {
+    let (mut count, mut lowest) = (0, None);
+    for (place, runs) in runs.enumerate() {
+        if runs {
+            count += 1;
+            lowest = lowest.or(Some(place as u64));
+        }
+    }
+    number(out, count);
+    out.push(b' ');
+    match lowest {
+        Some(place) => number(out, place),
+        None => out.push(b'-'),
+    }
 }
 
 impl Player {
     /// Answers a line of a row.
     pub fn row_line(&mut self, call: RowCall, out: &mut Vec<u8>) {
+        if let RowCall::Running(word) = call {
+            return write_turning(bits(word), out);
+        }
         if let RowCall::Make(count) = call {
             self.last = None;
             let lamp = || Some(self.lamp_of(driver::fresh(153, 500, 31, 0, 0)));
             let lamps = (0..MOST).map(|_| lamp()).collect();
-            self.row = Some(Row { count, lamps });
+            let word = 0;
+            self.row = Some(Row { count, word, lamps });
         }
         let Some(mut row) = self.row.take() else {
             return out.extend_from_slice(b"error");
@@ -92,9 +177,12 @@ impl Player {
         match call {
             RowCall::Step(size, fill, clock) => self.row_step(&mut row, size, fill, clock, out),
             RowCall::At(place, call) => self.at(&mut row, place.into(), call, out),
+            RowCall::Turning => row.write_turning(out),
             call => {
-                if let RowCall::Count(count) = call {
-                    row.count = count;
+                match call {
+                    RowCall::Count(count) => row.count = count,
+                    RowCall::Word(word) => row.word = word,
+                    _ => {}
                 }
                 out.extend_from_slice(b"ok");
                 row.write(out);
@@ -109,21 +197,20 @@ impl Player {
             (Call::StartLast(clock), Some(task)) => Call::Start(task, clock),
             (call, _) => call,
         };
+        let mut cause = 0;
+        let mut is_edit = false;
         match call {
             Call::Lamp(_) | Call::Poke(_) | Call::Record(_) | Call::Show => {
                 if !row.has(place) {
                     return out.extend_from_slice(b"error");
                 }
+                is_edit = true;
             }
             Call::Command(..) | Call::Start(..) | Call::Step(_) | Call::Halt(_) => {
-                let number = match usize::from(row.count) {
-                    n if n > MOST => "8",
-                    n if n <= place => "10",
-                    _ => "0",
-                };
-                if number != "0" {
+                cause = row.place_cause(place);
+                if !row.shows(place) {
                     out.extend_from_slice(b"refused ");
-                    out.extend_from_slice(number.as_bytes());
+                    number(out, cause.into());
                     out.extend_from_slice(b" | - | - | - | 0 | -");
                     return row.write(out);
                 }
@@ -132,13 +219,21 @@ impl Player {
         }
         swap(&mut self.lamp, &mut row.lamps[place]);
         let last = self.last;
-        let reply = self.play(call);
+        let reply = match cause {
+            0 => self.play(call),
+            cause => Reply::OnLamp(End::Refused(cause)),
+        };
         if let Call::Lamp(_) = call {
             self.last = last;
         }
         let silent = matches!(reply, Reply::OnLamp(End::Uncomparable | End::Broken));
         self.write(reply, out);
         swap(&mut self.lamp, &mut row.lamps[place]);
+        if is_edit {
+            row.follow(place);
+        } else if cause == 0 {
+            row.word = row.true_word();
+        }
         if !silent {
             row.write(out);
         }
@@ -154,6 +249,7 @@ impl Player {
                 Ok(least) => wait = least,
                 Err(why) => return out.extend_from_slice(why.as_bytes()),
             }
+            row.word = row.true_word();
             out.extend_from_slice(b"ok");
         } else {
             out.extend_from_slice(b"refused ");
@@ -216,7 +312,10 @@ impl Words<'_> {
         Some(match self.next()? {
             b"row" => RowCall::Make(self.u8()?),
             b"rowcount" => RowCall::Count(self.u8()?),
+            b"rowword" => RowCall::Word(self.u32()?),
             b"rowshow" => RowCall::Show,
+            b"turning" => RowCall::Turning,
+            b"leaf" if self.next()? == b"running" => RowCall::Running(self.u32()?),
             b"rowstep" => {
                 let size = self.unsigned(LONGEST_SLICE)?;
                 RowCall::Step(size as usize, self.u8()?, self.u64()?)

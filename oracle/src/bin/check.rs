@@ -45,6 +45,7 @@ struct Counts {
     passes: BTreeMap<String, u64>,
     lengths: BTreeMap<usize, u64>,
     row_calls: BTreeMap<String, u64>,
+    turning: BTreeMap<String, u64>,
 }
 
 fn add(map: &mut BTreeMap<String, u64>, key: &str) {
@@ -116,7 +117,8 @@ fn main() {
             std::process::exit(1);
         }
         compared += 1;
-        if text.starts_with(b"row") || text.starts_with(b"at ") {
+        let of_row = [b"row".as_slice(), b"at ", b"turning", b"leaf running"];
+        if of_row.iter().any(|word| text.starts_with(word)) {
             count_of_row(&mut counts, text, answer);
         } else {
             count(&mut counts, text, answer, &mut last, &mut runs);
@@ -150,6 +152,7 @@ fn main() {
     let stepped = !counts.passes.is_empty();
     table("starts and steps", counts.passes.into_iter());
     table("accepted row calls", counts.row_calls.into_iter());
+    table("`turning`", counts.turning.into_iter());
     print_corners(&corners, stepped);
     println!("{compared} calls compared, 0 differences");
 }
@@ -189,12 +192,26 @@ fn count_of_row(counts: &mut Counts, text: &[u8], answer: &str) {
     let kind = match words.as_slice() {
         _ if answer == "error" => "(unreadable, or too early)".to_string(),
         ["at", _, call, ..] => format!("at .. {call}"),
+        ["leaf", leaf, ..] => format!("leaf {leaf}"),
         words => words[0].to_string(),
     };
-    let status = answer.split(" | ").next().unwrap_or("");
+    let status = match kind.as_str() {
+        "turning" | "leaf running" => "numbers alone",
+        _ => answer.split(" | ").next().unwrap_or(""),
+    };
     let whose = if kind == "rowstep" { "row call " } else { "" };
     add(&mut counts.calls, &kind);
     add(&mut counts.statuses, &format!("{whose}{status}"));
+    if kind == "turning" {
+        let many = match answer.split(' ').next().and_then(|n| n.parse().ok()) {
+            Some(0u8) => "none runs",
+            Some(1) => "1 runs",
+            Some(2..=9) => "2 to 9 run",
+            Some(10..=30) => "10 to 30 run",
+            _ => "31 or 32 run",
+        };
+        add(&mut counts.turning, many);
+    }
     if kind == "rowstep" && status == "ok" {
         let wait = answer.split(" | ").nth(2).unwrap_or("");
         let slice = answer.split(" | ").nth(3).unwrap_or("");

@@ -171,6 +171,9 @@ impl Places {
         // Before there is a row.
         row_line!(places, "rowshow");
         row_line!(places, "at 0 show");
+        row_line!(places, "rowword 0");
+        row_line!(places, "turning");
+        row_line!(places, "leaf running 6");
         row_line!(places, "row 3");
         places.look_at(0);
         places
@@ -217,6 +220,63 @@ impl Places {
         }
     }
 
+    fn word(&self) -> u32 {
+        self.text.player.row().map_or(0, |row| row.word)
+    }
+
+    fn true_word(&self) -> u32 {
+        self.text.player.row().map_or(0, |row| row.true_word())
+    }
+
+    /// The row's word with a bit wrong: of the lamp that is looked at, of another, at the count, past it; or any word.
+    fn spoil(&mut self) {
+        let (word, count) = (self.word(), self.count().min(32));
+        let one = |place: u64| 1u32.checked_shl(place as u32).unwrap_or(0);
+        let another = one(self.r.below(count.max(1)));
+        let past = one(self.r.between(count.min(31), 31));
+        let any = self.r.next() as u32;
+        let word = match self.r.below(9) {
+            0 | 1 => word ^ one(self.place as u64),
+            2 | 3 => word ^ another,
+            4 => word ^ one(count),
+            5 => word ^ past,
+            6 => any,
+            7 => self.r.pick(&[0, 1, 1 << 31, u32::MAX, another | past]),
+            _ => self.true_word(),
+        };
+        row_line!(self, "rowword {word}");
+        // With other causes, or with none.
+        let (count, place) = (self.count(), self.place);
+        let now = self.row_clock();
+        for _ in 0..self.r.below(4) {
+            let elsewhere = self.r.below(count.max(1));
+            match self.r.below(8) {
+                0 => row_line!(self, "rowstep {} 3 {now}", (16 * count).saturating_sub(1)),
+                1 => row_line!(self, "rowstep {} 3 0", 16 * count),
+                2 => row_line!(self, "at {count} halt {now}"),
+                3 => row_line!(self, "at {place} step 0"),
+                4 => row_line!(self, "at {elsewhere} halt {now}"),
+                5 => row_line!(self, "at {elsewhere} show"),
+                6 => row_line!(self, "turning"),
+                _ => row_line!(self, "rowshow"),
+            };
+        }
+    }
+
+    /// A word of few bits, of many, or at an edge.
+    fn some_word(&mut self) -> u32 {
+        let (any, other) = (self.r.next() as u32, self.r.next() as u32);
+        let bit = 1u32 << self.r.below(32);
+        match self.r.below(6) {
+            0 => self.r.pick(&[0, 1, 1 << 31, u32::MAX, u32::MAX - 1]),
+            1 => bit,
+            2 => any & other,
+            3 => any & other & 0x1111_8421,
+            4 => any.wrapping_mul(bit),
+            _ => any,
+        }
+    }
+
     fn row_step(&mut self) {
         let whole = 16 * self.count();
         let size = match self.r.below(16) {
@@ -257,6 +317,9 @@ impl Places {
         }
         for _ in 0..self.r.between(4, 16) {
             self.row_step();
+            if self.r.one_in(3) {
+                row_line!(self, "turning");
+            }
         }
         self.look_elsewhere();
     }
@@ -265,6 +328,11 @@ impl Places {
     fn between(&mut self) {
         if self.r.one_in(300) {
             self.full_row();
+        }
+        // A wrong word is made true before long: all else would be refused.
+        if self.r.one_in(3) && self.word() != self.true_word() {
+            let word = self.true_word();
+            row_line!(self, "rowword {word}");
         }
         match self.r.below(40) {
             0..=21 => self.row_step(),
@@ -290,6 +358,29 @@ impl Places {
                     self.r
                         .pick(&["show", "halt 0", "step 5000", "startlast 0", "record idle"]);
                 row_line!(self, "at {} {what}", place.min(255));
+            }
+            30 => {
+                row_line!(self, "turning");
+            }
+            31 => {
+                let word = self.some_word();
+                row_line!(self, "leaf running {word}");
+            }
+            32 => self.spoil(),
+            33 if self.r.one_in(8) => {
+                let unreadable = self.r.pick(&[
+                    "rowword",
+                    "rowword 4294967296",
+                    "rowword -",
+                    "turning 0",
+                    "leaf running",
+                    "leaf running 4294967296",
+                    "leaf running 1 1",
+                    "at 0 turning",
+                    "at 0 rowword 0",
+                    "at 0 leaf running 1",
+                ]);
+                row_line!(self, "{unreadable}");
             }
             _ => {}
         }
