@@ -1,8 +1,8 @@
 -- What every call leaves of the running mask.
-use Rattle.std.proofs.Common.{◌≡◌, ℕ, ◌<◌, ◌≤◌, true, false, cond, ◌||◌, length, set, eqb, leb, ltb, ap, sym, ◌∙◌, arith, eqb-true, leb-false, ltb-true, ltb-false}
+use Rattle.std.proofs.Common.{◌≡◌, ℕ, ◌<◌, ◌≤◌, true, false, cond, ◌&&◌, ◌||◌, length, set, eqb, leb, ltb, refl, ap, sym, ◌∙◌, arith, eqb-true, eq-eqb, leb-false, ltb-true, ltb-false}
 use Rattle.std.specs.Int.{bit_at}
 use Rattle.std.proofs.lemmas.Bool.{eqb-false}
-use Rattle.std.proofs.lemmas.List.{length-set}
+use Rattle.std.proofs.lemmas.List.{length-set, get_or-take, get_or_past}
 use Rattle.std.proofs.lemmas.Nat.Bits.{same_from_bits}
 use Rattle.matter.specs.declared.commands.Request.{Request}
 use Rattle.matter.specs.declared.enums.OnOff.{OnOff}
@@ -15,10 +15,10 @@ use Rattle.lamp.specs.declared.Lamp.{Lamp}
 use Rattle.commands.specs.Answers.{answer}
 use Rattle.commands.proofs.Unchanged.{unchanged}
 use Rattle.rows.specs.declared.Row.{Row}
-use Rattle.rows.specs.Rows.{mask_true, lamp_at, row_cause, row_stepped, place_cause, answered_at, put_at, Readings}
-use Rattle.rows.specs.Mask.{MaskKept}
-use Rattle.rows.proofs.Laws.{Room, either, with-true, single-lamp, single-others, single-count}
-use Rattle.rows.proofs.Masks.{readings, stored-true}
+use Rattle.rows.specs.Rows.{mask_true, placed, no_lamp, lamp_at, row_cause, row_stepped, place_cause, answered_at, put_at, Readings}
+use Rattle.rows.specs.Mask.{MaskKept, MaskOfRows}
+use Rattle.rows.proofs.Laws.{Room, either, placed-many, with-true, single-lamp, single-others, single-count}
+use Rattle.rows.proofs.Masks.{mask-bit, readings, stored-true}
 
 module _ (r : Row) (room : Room r) (m : mask_true r ≡ true) where
   row-call-true : (size clock : ℕ) → mask_true (row_stepped r size clock).row ≡ true
@@ -91,3 +91,15 @@ module _ (r : Row) (room : Room r) (m : mask_true r ≡ true) where
         at_once = λ k task clock there idle. own k (Call.Start task clock) there ∙ rw idle;
         put = put-true;
       }
+
+agrees : (r : Row) → r.count ≤ 32 → length r.lamps ≡ 32 →
+    ((k : ℕ) → bit_at r.running_mask k ≡ cond (ltb k r.count && runs (lamp_at r k).running) 1 0) → mask_true r ≡ true
+agrees r few len h =
+    let bit_of : Lamp → ℕ = λ l. cond (runs l.running) 1 0 in
+    let many = placed-many r (record { few = few; places = len }) in
+    eq-eqb _ _ (same_from_bits _ _ (λ k. h k ∙ sym (mask-bit (placed r) k ∙ either (ltb k r.count)
+    (λ e. rw e (ap bit_of (get_or-take r.count r.lamps k no_lamp (ltb-true k r.count e))))
+    (λ e. rw e (ap bit_of (get_or_past (placed r) k no_lamp (omega (arith, ltb-false k r.count e))))))))
+
+pub mask-of-rows : MaskOfRows
+mask-of-rows = record { made = λ count ls. eq-eqb _ _ refl; agrees = agrees }

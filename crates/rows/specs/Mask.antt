@@ -1,5 +1,5 @@
 -- What is promised of the running mask: document 02, A.3.
-use Rattle.std.specs.Prelude.{ℕ, ◌<◌, ◌≡◌, true, false, cond}
+use Rattle.std.specs.Prelude.{ℕ, ◌<◌, ◌≤◌, ◌≡◌, true, false, cond, ◌&&◌, ltb, List, length}
 use Rattle.std.specs.Int.{bit_at}
 use Rattle.matter.specs.declared.commands.Request.{Request}
 use Rattle.matter.specs.declared.enums.OnOff.{OnOff}
@@ -9,7 +9,7 @@ use Rattle.lamp.specs.declared.Call.{Call}
 use Rattle.lamp.specs.declared.Lamp.{Lamp}
 use Rattle.commands.specs.Answers.{answer}
 use Rattle.rows.specs.declared.Row.{Row}
-use Rattle.rows.specs.Rows.{mask_true, lamp_at, row_stepped, answered_at, put_at}
+use Rattle.rows.specs.Rows.{mask_true, row_of, lamp_at, row_stepped, answered_at, put_at}
 
 -- of a row whose mask is true
 pub record MaskKept (r : Row) : Type 0 where
@@ -30,3 +30,11 @@ pub record MaskKept (r : Row) : Type 0 where
       bit_at (answered_at r k (Call.Start task clock)).row.running_mask k ≡ 0
   -- "Making and putting keep it true"
   pub put : (place : ℕ) (l : Lamp) → mask_true (put_at r place l) ≡ true
+
+-- of every row
+pub record MaskOfRows : Type 0 where
+  -- "Making and putting keep it true", whatever the count
+  pub made : (count : ℕ) (ls : List Lamp) → mask_true (row_of count ls) ≡ true
+  -- a mask is true where each of its bits is: no other is refused for it
+  pub agrees : (r : Row) → r.count ≤ 32 → length r.lamps ≡ 32 →
+      ((k : ℕ) → bit_at r.running_mask k ≡ cond (ltb k r.count && runs (lamp_at r k).running) 1 0) → mask_true r ≡ true
