@@ -1,9 +1,11 @@
 // Calls that are run one after another, with a checksum over every number of every answer: what `bench/` measures.
 #![tactic(auto)]
 
+mod readings;
 mod sums;
 
 ghost use Rattle.std.specs.Prelude.{◌≡◌};
+ghost use Rattle.measure.specs.Readings.{masks_checksum, records_checksum};
 ghost use Rattle.measure.specs.Runs.{ran_all, checksum};
 
 use exports::{CALL_WORDS, lamp_of, sent};
@@ -45,4 +47,21 @@ pub extern "C" fn yemkruos_run(words: &[u64], calls: &[u64]) -> u64
 {
     let ran = run(lamp_of(words), calls);
     ran.sums.b
+}
+
+// Reads count and lowest place of 32 lamps from each of the masks, and gives the checksum.
+#[unsafe(no_mangle)]
+pub extern "C" fn yemkruos_read_masks(masks: &[u64]) -> u64
+    ensures { result ≡ masks_checksum masks.now }
+{
+    readings::masks(masks).b
+}
+
+// Reads them from the records of 32 lamps, after each of the turns (a place starts the lamp there, a place and 32 halts it), and
+// gives the checksum. Each lamp is that of the words (28 words), or idle.
+#[unsafe(no_mangle)]
+pub extern "C" fn yemkruos_read_records(words: &[u64], turns: &[u64]) -> u64
+    ensures { result ≡ records_checksum words.now turns.now }
+{
+    readings::records(lamp_of(words), turns).b
 }

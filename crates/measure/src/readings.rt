@@ -1,0 +1,86 @@
+// How many of 32 lamps run and the lowest place, asked again and again: by a look at each of the 32 records, and by the
+// running mask alone.
+ghost use Rattle.std.specs.Prelude.{◌≡◌, ◌≤◌, length};
+ghost use Rattle.measure.specs.Readings.{numbered, of_mask, of_lamps, turned, masks_read, records_read};
+
+use crate::sums::Sums;
+use lamp::Lamp;
+use rows::{Lowest, lowest_running, running_count};
+use tasks::Running;
+
+// Count and lowest place in one number; 32 stands for no place.
+#[tactic(auto, unfolding(crate::specs::Readings::numbered))]
+fn numbered(count: u32, lowest: Lowest) -> u64
+    ensures { result ≡ numbered count lowest }
+{
+    match lowest {
+        Lowest::Nothing => count as u64 + 2048,
+        Lowest::At(place) => count as u64 + 64 * (place as u64),
+    }
+}
+
+// By the mask.
+fn of_mask(mask: u32) -> u64
+    ensures { result ≡ of_mask mask }
+{
+    numbered(running_count(mask), lowest_running(mask))
+}
+
+// By the lamps, from the last to the first.
+fn of_lamps(lamps: &[Lamp]) -> u64
+    requires { length lamps.now ≤ 32 }
+    ensures { result ≡ of_lamps lamps.now }
+{
+    let mut count: u32 = 0;
+    let mut lowest = Lowest::Nothing;
+    let mut i = lamps.len();
+    while 0 < i {
+        i -= 1;
+        if lamps[i].running.is_running() {
+            count += 1;
+            lowest = Lowest::At(i as u8);
+        }
+    }
+    numbered(count, lowest)
+}
+
+// The same lamp, as it runs or idle.
+fn turned(lamp: Lamp, turn: u64) -> Lamp
+    ensures { result ≡ turned lamp turn }
+{
+    let running = if turn < 32 {
+        lamp.running
+    } else {
+        Running::Idle
+    };
+    Lamp { running, ..lamp }
+}
+
+// The masks, one after another.
+pub(crate) fn masks(masks: &[u64]) -> Sums
+    ensures { result ≡ masks_read (record { a = 0; b = 0 }) masks.now }
+{
+    let mut sums = Sums { a: 0, b: 0 };
+    let mut i = 0;
+    while i < masks.len() {
+        sums = sums.add(of_mask((masks[i] % 4294967296) as u32));
+        i += 1;
+    }
+    sums
+}
+
+// 32 idle lamps, of which one starts or halts at each turn; then all of their records are read.
+pub(crate) fn records(lamp: Lamp, turns: &[u64]) -> Sums
+    ensures { result ≡ records_read lamp turns.now }
+{
+    let mut lamps = [turned(lamp, 32); 32];
+    let mut sums = Sums { a: 0, b: 0 };
+    let mut i = 0;
+    while i < turns.len() {
+        let turn = turns[i];
+        lamps[(turn % 32) as usize] = turned(lamp, turn);
+        sums = sums.add(of_lamps(&lamps));
+        i += 1;
+    }
+    sums
+}
