@@ -5,6 +5,7 @@
 
 #[cfg(feature = "archive")]
 mod library;
+mod readings;
 mod row_calls;
 mod rows;
 mod rust;
@@ -145,6 +146,9 @@ fn main() {
             }
         }
         print_row(name, count, &times.map(|mut t| median(&mut t)));
+    }
+    if "readings".contains(&only) {
+        readings::print(rounds);
     }
     if "row call".contains(&only) {
         row_calls::print(rounds);

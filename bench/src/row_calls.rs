@@ -12,7 +12,7 @@ use crate::sums::Sums;
 const COUNTS: [u8; 3] = [1, 10, 32];
 /// Row calls in a round, a tenth of a second apart.
 const CALLS: u64 = 1000;
-const START: u64 = 5000;
+pub const START: u64 = 5000;
 
 const SIDES: [&str; 3] = ["lamps alone", "calls at places", "row call"];
 
@@ -38,7 +38,7 @@ fn task(place: usize) -> Task {
     }
 }
 
-fn running_row(count: u8) -> Row {
+pub fn running_row(count: u8) -> Row {
     let new = NewLamp {
         bounds: Bounds { min: 153, max: 500 },
         features: ALL_FEATURES,

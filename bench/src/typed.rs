@@ -60,6 +60,16 @@ fn fold(sums: &mut Sums, answer: &Answer) {
     sums.add(answer.wait);
 }
 
+/// A lamp with its record as words.
+#[cfg(feature = "archive")]
+pub fn words_of(lamp: &Lamp) -> [u64; words::LAMP] {
+    let mut w = words::of_lamp(&crate_side::fields(lamp));
+    if let Some(record) = crate_side::record(&lamp.running) {
+        w[18..].copy_from_slice(&words::of_record(&record));
+    }
+    w
+}
+
 /// The checksum of the answers to the calls.
 #[inline(never)]
 pub fn run(row: &Typed) -> u64 {
