@@ -1,4 +1,5 @@
-//! All sides in one process, on the same calls: `bench [ROUNDS] [ROW]`, where ROW `row call` is the table of rows of lamps.
+//! All sides in one process, on the same calls: `bench [ROUNDS] [ROW]`, where ROW `row call` is the table of rows of
+//! lamps and `readings` that of their masks.
 //!
 //! A round runs each side once over a row's calls, in an order that turns from round to round.
 //! The checksums over every number of every answer must agree. The medians are printed.

@@ -152,9 +152,12 @@ pub fn print(rounds: usize) {
         }
     }
     println!();
-    println!("| 32 lamps: how many run, and the lowest | ns |");
-    println!("|---|---:|");
-    for (side, times) in SIDES.iter().zip(&mut times) {
-        println!("| {side} | {:.2} |", crate::median(times));
+    println!("| 32 lamps: how many run, and the lowest | ns | mask / this |");
+    println!("|---|---:|---:|");
+    let medians = times.map(|mut t| crate::median(&mut t));
+    for (side, time) in medians.iter().enumerate() {
+        // The crate's mask, or the library's.
+        let mask = medians[if side < 3 { 2 } else { 4 }];
+        println!("| {} | {time:.2} | {:.3} |", SIDES[side], mask / time);
     }
 }
