@@ -1,12 +1,13 @@
 -- What every call leaves of the running mask.
-use Rattle.std.proofs.Common.{◌≡◌, ℕ, ◌<◌, ◌≤◌, true, false, cond, ◌&&◌, ◌||◌, length, set, eqb, leb, ltb, refl, ap, sym, ◌∙◌, arith, eqb-true, eq-eqb, leb-false, ltb-true, ltb-false}
-use Rattle.std.specs.Int.{bit_at}
+use Rattle.std.proofs.Common.{◌≡◌, ℕ, ◌^◌, ◌<◌, ◌≤◌, true, false, cond, ◌&&◌, ◌||◌, length, set, eqb, leb, ltb, refl, ap, sym, ◌∙◌, arith, eqb-true, eq-eqb, leb-false, ltb-true, ltb-false}
+use borrow.Author.Tests.{lt-leb}
+use Rattle.std.specs.Int.{w32, bit_at, trailing_zeros}
 use Rattle.std.proofs.lemmas.Bool.{eqb-false}
 use Rattle.std.proofs.lemmas.List.{length-set, get_or-take, get_or_past}
-use Rattle.std.proofs.lemmas.Nat.Bits.{same_from_bits}
+use Rattle.std.proofs.lemmas.Nat.Bits.{same_from_bits, bit_at-zero, bit_at-trailing_zeros}
 use Rattle.matter.specs.declared.commands.Request.{Request}
 use Rattle.matter.specs.declared.enums.OnOff.{OnOff}
-use Rattle.matter.proofs.Laws.{or_left}
+use Rattle.matter.proofs.Laws.{or_left, or_right}
 use Rattle.tasks.specs.declared.Running.{Running}
 use Rattle.tasks.specs.declared.Task.{Task}
 use Rattle.tasks.specs.Runs.{runs}
@@ -14,11 +15,12 @@ use Rattle.lamp.specs.declared.Call.{Call}
 use Rattle.lamp.specs.declared.Lamp.{Lamp}
 use Rattle.commands.specs.Answers.{answer}
 use Rattle.commands.proofs.Unchanged.{unchanged}
+use Rattle.rows.specs.declared.Lowest.{Lowest}
 use Rattle.rows.specs.declared.Row.{Row}
-use Rattle.rows.specs.Rows.{mask_true, placed, no_lamp, lamp_at, row_cause, row_stepped, place_cause, answered_at, put_at, Readings}
+use Rattle.rows.specs.Rows.{mask_true, placed, no_lamp, lamp_at, row_cause, row_stepped, place_cause, answered_at, put_at, lowest_of, Readings}
 use Rattle.rows.specs.Mask.{MaskKept, MaskOfRows}
 use Rattle.rows.proofs.Laws.{Room, either, placed-many, with-true, single-lamp, single-others, single-count}
-use Rattle.rows.proofs.Masks.{mask-bit, readings, stored-true}
+use Rattle.rows.proofs.Masks.{mask-bit, bit_here, bit_elsewhere, readings, stored-true}
 
 module _ (r : Row) (room : Room r) (m : mask_true r ≡ true) where
   row-call-true : (size clock : ℕ) → mask_true (row_stepped r size clock).row ≡ true
@@ -101,5 +103,39 @@ agrees r few len h =
     (λ e. rw e (ap bit_of (get_or-take r.count r.lamps k no_lamp (ltb-true k r.count e))))
     (λ e. rw e (ap bit_of (get_or_past (placed r) k no_lamp (omega (arith, ltb-false k r.count e))))))))
 
+put-own : (r : Row) (k : ℕ) (l : Lamp) → k < r.count → k < 32 →
+    bit_at (put_at r k l).running_mask k ≡ cond (runs l.running) 1 0
+unfolding put_at
+put-own r k l there low = rw (lt-leb r.count k there, lt-leb 32 k low) (bit_here r.running_mask k (runs l.running) low)
+
+put-others : (r : Row) (place k : ℕ) (l : Lamp) → k < 32 → (k ≡ place → ⊥) →
+    bit_at (put_at r place l).running_mask k ≡ bit_at r.running_mask k
+unfolding put_at
+put-others r place k l low n =
+    either (leb r.count place || leb 32 place)
+    (λ e. rw e)
+    (λ e. rw e (bit_elsewhere r.running_mask place k (runs l.running) (leb-false 32 place (or_right (leb r.count place) (leb 32 place) e)) low n))
+
+lowest-at : (mask k : ℕ) → mask < 2 ^ 32 → bit_at mask k ≡ 1 → ((j : ℕ) → j < k → bit_at mask j ≡ 0) →
+    lowest_of mask ≡ Lowest.At k
+lowest-at mask k fits set_here none_below =
+    either (eqb mask 0)
+    (λ e. absurd (omega (arith, (rw (eqb-true mask 0 e) at set_here), bit_at-zero k)))
+    (λ e. let t = bit_at-trailing_zeros w32 mask (omega (arith, eqb-false mask 0 e)) fits in
+    let at_most : trailing_zeros w32 mask ≤ k = either (ltb k (trailing_zeros w32 mask))
+    (λ l. absurd (omega (arith, t.2 k (ltb-true k _ l), set_here))) (λ l. ltb-false k _ l) in
+    let at_least : k ≤ trailing_zeros w32 mask = either (ltb (trailing_zeros w32 mask) k)
+    (λ l. absurd (omega (arith, none_below _ (ltb-true _ k l), t.1))) (λ l. ltb-false _ k l) in
+    let same : trailing_zeros w32 mask ≡ k = omega (arith, at_most, at_least) in
+    rw e (ap Lowest.At same))
+
 pub mask-of-rows : MaskOfRows
-mask-of-rows = record { made = λ count ls. eq-eqb _ _ refl; agrees = agrees }
+mask-of-rows =
+    record {
+      made = λ count ls. eq-eqb _ _ refl;
+      agrees = agrees;
+      put_own = put-own;
+      put_others = put-others;
+      none = refl;
+      lowest = lowest-at;
+    }

@@ -41,11 +41,11 @@ shifted k h =
     let low : k ≤ 31 = omega arith in
     rw (one-mul (2 ^ k)) (mod-eq_of_lt (omega (arith, pow_mono low)))
 
-bit_here : (mask k : ℕ) (b : Bool) → k < 32 → bit_at (with_bit mask k b) k ≡ cond b 1 0
+pub bit_here : (mask k : ℕ) (b : Bool) → k < 32 → bit_at (with_bit mask k b) k ≡ cond b 1 0
 bit_here mask k true h = rw (shifted k h) at (bit_at_set_same w32 mask k h)
 bit_here mask k false h = rw (shifted k h) at (bit_at_clear_same w32 mask k h)
 
-bit_elsewhere : (mask k i : ℕ) (b : Bool) → k < 32 → i < 32 → (i ≡ k → ⊥) → bit_at (with_bit mask k b) i ≡ bit_at mask i
+pub bit_elsewhere : (mask k i : ℕ) (b : Bool) → k < 32 → i < 32 → (i ≡ k → ⊥) → bit_at (with_bit mask k b) i ≡ bit_at mask i
 bit_elsewhere mask k i true h m n = rw (shifted k h) at (bit_at_set_other w32 mask k h i n)
 bit_elsewhere mask k i false h m n = rw (shifted k h) at (bit_at_clear_other w32 mask k h i m n)
 

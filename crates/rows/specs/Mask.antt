@@ -1,5 +1,5 @@
 -- What is promised of the running mask: document 02, A.3.
-use Rattle.std.specs.Prelude.{ℕ, ◌<◌, ◌≤◌, ◌≡◌, true, false, cond, ◌&&◌, ltb, List, length}
+use Rattle.std.specs.Prelude.{ℕ, ◌^◌, ◌<◌, ◌≤◌, ◌≡◌, true, false, cond, ◌&&◌, ltb, List, length}
 use Rattle.std.specs.Int.{bit_at}
 use Rattle.matter.specs.declared.commands.Request.{Request}
 use Rattle.matter.specs.declared.enums.OnOff.{OnOff}
@@ -8,8 +8,9 @@ use Rattle.tasks.specs.Runs.{runs}
 use Rattle.lamp.specs.declared.Call.{Call}
 use Rattle.lamp.specs.declared.Lamp.{Lamp}
 use Rattle.commands.specs.Answers.{answer}
+use Rattle.rows.specs.declared.Lowest.{Lowest}
 use Rattle.rows.specs.declared.Row.{Row}
-use Rattle.rows.specs.Rows.{mask_true, row_of, lamp_at, row_stepped, answered_at, put_at}
+use Rattle.rows.specs.Rows.{mask_true, row_of, lamp_at, row_stepped, answered_at, put_at, lowest_of}
 
 -- of a row whose mask is true
 pub record MaskKept (r : Row) : Type 0 where
@@ -38,3 +39,12 @@ pub record MaskOfRows : Type 0 where
   -- a mask is true where each of its bits is: no other is refused for it
   pub agrees : (r : Row) → r.count ≤ 32 → length r.lamps ≡ 32 →
       ((k : ℕ) → bit_at r.running_mask k ≡ cond (ltb k r.count && runs (lamp_at r k).running) 1 0) → mask_true r ≡ true
+  -- a lamp put into a row, its mask true or not: that place's bit is whether the lamp runs, the others stay
+  pub put_own : (r : Row) (k : ℕ) (l : Lamp) → k < r.count → k < 32 →
+      bit_at (put_at r k l).running_mask k ≡ cond (runs l.running) 1 0
+  pub put_others : (r : Row) (place k : ℕ) (l : Lamp) → k < 32 → (k ≡ place → ⊥) →
+      bit_at (put_at r place l).running_mask k ≡ bit_at r.running_mask k
+  -- the lowest place of any mask alone: its bit is set, and none below it
+  pub none : lowest_of 0 ≡ Lowest.Nothing
+  pub lowest : (mask k : ℕ) → mask < 2 ^ 32 → bit_at mask k ≡ 1 → ((j : ℕ) → j < k → bit_at mask j ≡ 0) →
+      lowest_of mask ≡ Lowest.At k
