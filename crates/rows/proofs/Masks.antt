@@ -1,7 +1,7 @@
 -- The running mask: its bits, its readings, and one bit set or cleared in it.
-use Rattle.std.proofs.Common.{◌≡◌, ℕ, zero, suc, ◌+◌, ◌*◌, ◌^◌, ◌%◌, ◌<◌, ◌≤◌, Bool, true, false, cond, not, List, [], ◌∷◌, map, length, set, take, get_or, eqb, refl, ap, sym, ◌∙◌, arith, w32, bit_and, bit_or, count_ones, length-take-le, eqb-true, ne_eqb}
+use Rattle.std.proofs.Common.{◌≡◌, ℕ, zero, suc, ◌+◌, ◌*◌, ◌^◌, ◌%◌, ◌<◌, ◌≤◌, Bool, true, false, cond, not, List, [], ◌∷◌, map, length, set, take, get_or, eqb, refl, ap, sym, ◌∙◌, arith, w32, count_ones, length-take-le, eqb-true, ne_eqb}
 use Rattle.std.proofs.lemmas.Bool.{eqb-false}
-use Rattle.std.specs.Int.{bit_at, bit_not, trailing_zeros}
+use Rattle.std.specs.Int.{bit_at, bit_not}
 use Rattle.std.specs.List.{prefix_len}
 use Rattle.std.proofs.Math.ListN.{get_or-map}
 use Rattle.std.proofs.Math.Nat.{one-mul, mod-eq_of_lt, zero-add, add-zero}
@@ -16,7 +16,7 @@ use Rattle.rows.specs.declared.Lowest.{Lowest}
 use Rattle.rows.specs.declared.Row.{Row}
 use Rattle.std.proofs.lemmas.Nat.{or_of_32, and_le_l}
 use Rattle.rows.proofs.Laws.{either}
-use Rattle.rows.specs.Rows.{mask_of, mask_true, placed, with_lamps, with_bit, stored, no_lamp, lamp_at, lowest_of, running_count, first_running, Readings}
+use Rattle.rows.specs.Rows.{mask_of, mask_true, placed, with_lamps, with_bit, stored, no_lamp, lowest_of, first_running, Readings}
 
 abbrev running : Lamp → Bool
 running l = runs l.running

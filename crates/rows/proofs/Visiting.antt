@@ -16,7 +16,7 @@ use lib.Dec.{eqb}
 use borrow.Author.Tests.{eqb-true}
 use Rattle.rows.specs.declared.Row.{Row}
 use Rattle.rows.specs.declared.RowStepped.{RowStepped}
-use Rattle.rows.specs.Rows.{row_of, with_lamps, visited, visits_cause, lesser, least_wait, bytes_of, map_to}
+use Rattle.rows.specs.Rows.{visited, visits_cause, lesser, least_wait, bytes_of, map_to}
 use Rattle.rows.proofs.Places.{left, left-cons}
 
 pub lesser-none : (a : ℕ) → lesser a 0 ≡ a

@@ -1,5 +1,5 @@
 -- Rows of lamps: document 02, A.1 and A.3. A row has up to 32 lamps; those at and past its count are no part of it.
-use Rattle.std.specs.Prelude.{ℕ, zero, suc, ◌+◌, ◌*◌, ◌^◌, ◌<◌, ◌≤◌, min, max, Bool, true, false, not, cond, ◌&&◌, ◌||◌, ◌==◌, List, [], ◌∷◌, ◌++◌, ◌≡◌, leb, ltb, eqb, map, length, set, take, drop, get_or, count_by, bit_and, bit_or, count_ones}
+use Rattle.std.specs.Prelude.{ℕ, zero, suc, ◌*◌, ◌^◌, ◌<◌, ◌≤◌, min, max, Bool, true, false, not, cond, ◌&&◌, ◌||◌, ◌==◌, List, [], ◌∷◌, ◌++◌, ◌≡◌, leb, ltb, eqb, map, length, set, take, drop, get_or, count_by, bit_and, bit_or, count_ones}
 use Rattle.std.specs.Int.{w32, bit_not, bit_at, trailing_zeros}
 use Rattle.std.specs.Simd.Lanes.{mask_l}
 use Rattle.matter.specs.Causes.{accepted, clock_refused, invalid_lamp, short_slice, no_place}

@@ -1,6 +1,6 @@
 -- The mask of at most 31 lamps, and then one bit more, fits 32 bits.
 use mir.Val.{bool_byte}
-use Rattle.std.proofs.Common.{ℕ, Bool, true, false, List, ◌+◌, ◌*◌, ◌<◌, ◌≤◌, length, drop, length-drop, arith}
+use Rattle.std.proofs.Common.{ℕ, Bool, true, false, List, ◌<◌, ◌≤◌, length, drop, length-drop, arith}
 use Rattle.lamp.specs.declared.Lamp.{Lamp}
 use Rattle.rows.specs.Rows.{mask_of}
 use Rattle.rows.proofs.Masks.{mask-lt}

@@ -1,5 +1,5 @@
 -- No cause of the place's own: the place is there, and the mask is true, so that the lamp's bit makes it true again.
-use Rattle.std.proofs.Common.{◌≡◌, ◌<◌, length, sym, ◌∙◌, arith, rules}
+use Rattle.std.proofs.Common.{◌≡◌, length, sym, ◌∙◌, arith, rules}
 use Rattle.rows.specs.Rows.{answered_at}
 use Rattle.rows.proofs.Causes.{place-there}
 use Rattle.rows.proofs.Masks.{stored-true}
