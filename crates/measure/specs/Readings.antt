@@ -1,9 +1,9 @@
 -- How many of 32 lamps run and the lowest place, asked again and again.
-use Rattle.std.specs.Prelude.{ℕ, ◌+◌, ◌*◌, ◌%◌, ltb, cond, List, [], ◌∷◌, set, replicate, count_ones}
+use Rattle.std.specs.Prelude.{ℕ, ◌+◌, ◌*◌, ◌%◌, ltb, cond, List, [], ◌∷◌, set, replicate}
 use Rattle.lamp.specs.declared.Lamp.{Lamp}
 use Rattle.tasks.specs.declared.Running.{Running}
 use Rattle.rows.specs.declared.Lowest.{Lowest}
-use Rattle.rows.specs.Rows.{lowest_of, running_count, first_running}
+use Rattle.rows.specs.Rows.{count_of, lowest_of, running_count, first_running}
 use Rattle.exports.specs.Lamps.{lamp_of}
 use Rattle.measure.specs.declared.sums.Sums.{Sums}
 use Rattle.measure.specs.Sums.{added}
@@ -15,7 +15,7 @@ numbered count (Lowest.At place) = count + 64 * place
 
 -- by the mask
 abbrev pub of_mask : ℕ → ℕ
-of_mask mask = numbered (count_ones mask) (lowest_of mask)
+of_mask mask = numbered (count_of mask) (lowest_of mask)
 
 -- by the lamps
 abbrev pub of_lamps : List Lamp → ℕ

@@ -198,6 +198,10 @@ put_at r place l = cond (leb r.count place || leb 32 place) r (stored r place l)
 
 -- ---- readings of the mask alone
 
+-- "the count of running lamps"
+abbrev pub count_of : ℕ → ℕ
+count_of mask = count_ones mask
+
 -- "the lowest running place, or that there is none"
 abbrev pub lowest_of : ℕ → Lowest
 lowest_of mask = cond (mask == 0) Lowest.Nothing (Lowest.At (trailing_zeros w32 mask))
@@ -215,5 +219,5 @@ first_running k (l ∷ ls) = cond (runs l.running) (Lowest.At k) (first_running 
 pub record Readings (r : Row) : Type 0 where
   pub bits : (k : ℕ) → k < r.count → bit_at r.running_mask k ≡ cond (runs (lamp_at r k).running) 1 0
   pub past : (k : ℕ) → r.count ≤ k → bit_at r.running_mask k ≡ 0
-  pub count : count_ones r.running_mask ≡ running_count (placed r)
+  pub count : count_of r.running_mask ≡ running_count (placed r)
   pub lowest : lowest_of r.running_mask ≡ first_running 0 (placed r)

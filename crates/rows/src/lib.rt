@@ -2,8 +2,8 @@
 // A word beside them tells which run. Document 02, A.1 and A.3.
 #![tactic(auto)]
 
-ghost use Rattle.std.specs.Prelude.{◌≡◌, ◌++◌, ◌*◌, ◌+◌, ◌≤◌, ◌<◌, max, min, ltb, length, take, drop, set, get_or, count_ones};
-ghost use Rattle.rows.specs.Rows.{placed, visited, visits_cause, limit_cause, slice_cause, lesser, map_to, least_wait, bytes_of, mask_of, mask_true, row_of, with_lamps, row_stepped, row_bytes, row_refusal, place_cause, answered_at, place_refusal, with_bit, stored, put_at, lowest_of};
+ghost use Rattle.std.specs.Prelude.{◌≡◌, ◌++◌, ◌*◌, ◌+◌, ◌≤◌, ◌<◌, max, min, ltb, length, take, drop, set, get_or};
+ghost use Rattle.rows.specs.Rows.{placed, visited, visits_cause, limit_cause, slice_cause, lesser, map_to, least_wait, bytes_of, mask_of, mask_true, row_of, with_lamps, row_stepped, row_bytes, row_refusal, place_cause, answered_at, place_refusal, with_bit, stored, put_at, count_of, lowest_of};
 ghost use Rattle.lamp.specs.Answers.{first_cause};
 
 use commands::call;
@@ -51,7 +51,7 @@ pub struct RowAnswer {
 
 // How many lamps run, from a row's running mask alone.
 pub fn running_count(mask: u32) -> u32
-    ensures { result ≡ count_ones mask }
+    ensures { result ≡ count_of mask }
 {
     mask.count_ones()
 }
