@@ -1,4 +1,4 @@
-//! Links the library, unless its sides are left out: `scripts/built yemkruos_c` and `scripts/built measure` write it.
+//! Links the library, unless its sides are left out: `scripts/built exports_c` and `scripts/built measure` write it.
 
 use std::env;
 use std::path::PathBuf;
@@ -10,7 +10,7 @@ fn main() {
     let here = PathBuf::from(env::var("CARGO_MANIFEST_DIR").unwrap());
     let folder = here.join("../target/staticlib");
     println!("cargo:rustc-link-search=native={}", folder.display());
-    for name in ["yemkruos_c", "measure"] {
+    for name in ["exports", "measure"] {
         let file = folder.join(format!("lib{name}.a"));
         println!("cargo:rerun-if-changed={}", file.display());
         println!("cargo:rustc-link-lib=static={name}");

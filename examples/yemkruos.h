@@ -1,6 +1,6 @@
 /* A Matter colour lamp, proved: its functions for C. docs/WORDS.md says what each word means.
  *
- * Link with target/staticlib/libyemkruos_c.a, which `scripts/built yemkruos_c` writes (x86-64 Linux).
+ * Link with target/staticlib/libexports.a, which `scripts/built exports_c` writes (x86-64 Linux).
  */
 #ifndef YEMKRUOS_H
 #define YEMKRUOS_H

@@ -18,7 +18,7 @@ extern "C" {
         words: usize,
     ) -> u64;
 
-    /// Sends one call to the lamp and writes the answer (crate `yemkruos_c`).
+    /// Sends one call to the lamp and writes the answer (crate `exports_c`).
     fn yemkruos_call(
         lamp: *mut u64,
         words: usize,

@@ -1,4 +1,4 @@
-// Functions for C and Rust, on numbers and slices of 64-bit words; `yemkruos_c` exports them.
+// Functions for C and Rust, on numbers and slices of 64-bit words; `exports_c` exports them.
 #![tactic(auto)]
 
 mod answers;

@@ -1,7 +1,7 @@
 -- A run's text, a line at a time: the next line and the rest, the room that a line takes, and that what is left to write shrinks; and
 -- the clock of the next step, which fits in 64 bits.
 use Prim.Native.Nat.{ℕ, zero, suc, ◌+◌, ◌-◌, ◌^◌, ◌≤◌, ◌<◌, min}
-use mathlib.Core.Bool.{Bool, true, false, cond, ◌&&◌, ◌||◌, true≢false}
+use mathlib.Core.Bool.{Bool, true, false, cond, ◌&&◌, ◌||◌, true≢false, or-true}
 use mathlib.Core.List.{List, [], ◌++◌, append-nil, append_assoc}
 use mathlib.Core.Path.{◌≡◌, refl, sym, ap, ◌∙◌}
 use native.Mathlib.Omega.{arith}
@@ -212,7 +212,22 @@ one_more f then old new at next whole going room is-rest wrote before =
           ∙ before;
     }
 
--- ---- what is left to write is less, so a run that is written block by block ends
+-- ---- something was written, unless the run was over or there was no room
+
+some_written : (f : Fade) (room n : ℕ) → moved f room (suc n) ≡ true
+some_written f room n = simp (lt-ltb 0 (suc n) (omega arith), or-true (is_over f || ltb room 512))
+
+-- where the run came to its end
+pub moved_over : (f now : Fade) (room len : ℕ) → is_over now ≡ true → (len ≡ 0 → now ≡ f) → moved f room len ≡ true
+moved_over f now room zero e same = simp (ap is_over (sym (same refl)) ∙ e)
+moved_over f now room (suc n) e same = some_written f room n
+
+-- where there was no more room
+pub moved_full : (f : Fade) (room len : ℕ) → room < len + 512 → moved f room len ≡ true
+moved_full f room zero h = simp (lt-ltb room 512 (omega (arith, h)), or-true (is_over f))
+moved_full f room (suc n) h = some_written f room n
+
+-- so what is left to write is less, and a run that is written block by block ends
 
 pub shrinks : (f then : Fade) (new : List ℕ) (room len : ℕ) → is_over f ≡ false → 512 ≤ room → moved f room len ≡ true → len ≤ length new → take len new ++ text then ≡ text f → length (text then) < length (text f)
 shrinks f then new room len going large some inside whole =

@@ -284,7 +284,7 @@ fn fill(bytes: &mut [u8], from: u8)
     }
 }
 
-// Whether every byte is as it was lent_bytes.
+// Whether every byte is as it was lent.
 fn is_filled(bytes: &[u8], from: u8) -> bool
     ensures { result ≡ same bytes.now (lent_bytes from (length bytes.now)) }
 {

@@ -7,7 +7,7 @@ use call_lines::lines;
 use call_lines::lines::Line;
 use text::{numbers, words};
 
-// A row call: the size of the slice that is lent, and the number that it is lent_bytes from.
+// A row call: the size of the slice that is lent, and the number that its bytes begin at.
 #[derive(Clone, Copy)]
 pub struct RowStep {
     pub size: u16,

@@ -12,7 +12,7 @@ use Rattle.text.specs.Digits.{is_hex_digit, hex_value, hex_digit, hex_text}
 use Rattle.text.specs.declared.pairs.BytesRead.{BytesRead}
 use Rattle.text.specs.Written.{pasted, Written}
 use Rattle.text.specs.Words.{word_at, in_word, start_of, end_of}
-use Rattle.text.specs.Pairs.{isPairs, bytes_of, are_bytes, no_bytes, bytes_taken, bytes_read}
+use Rattle.text.specs.Pairs.{is_pairs, bytes_of, are_bytes, no_bytes, bytes_taken, bytes_read}
 use Rattle.text.proofs.WriteLaws.{side, pasted-none, wrote-all}
 use Rattle.text.proofs.WordLaws.{in_by, word_here, word_inside, word_over}
 
@@ -53,23 +53,23 @@ pair-word line at i e =
 pub pair_inside : (line : List ℕ) (at : ℕ) → pair_at line at ≡ true → at + 1 < length line
 pair_inside line at e = word_inside line (at + 1) (digit-in line (at + 1) (both (is_hex_digit (get_or line at 0)) (is_hex_digit (get_or line (at + 1) 0)) e))
 
-pub pairs_next : (line : List ℕ) (at : ℕ) → in_word line at ≡ true → pair_at line at ≡ true → isPairs (word_at line (at + 2)) ≡ isPairs (word_at line at)
-unfolding isPairs
+pub pairs_next : (line : List ℕ) (at : ℕ) → in_word line at ≡ true → pair_at line at ≡ true → is_pairs (word_at line (at + 2)) ≡ is_pairs (word_at line at)
+unfolding is_pairs
 pairs_next line at i e = rw (pair-word line at i e, e)
 
 pub bytes_next : (line : List ℕ) (at : ℕ) → in_word line at ≡ true → pair_at line at ≡ true → bytes_of (word_at line at) ≡ byte_at line at ∷ bytes_of (word_at line (at + 2))
 unfolding bytes_of
 bytes_next line at i e = rw (pair-word line at i e)
 
-pub pairs-not : (line : List ℕ) (at : ℕ) → in_word line at ≡ true → pair_at line at ≡ false → isPairs (word_at line at) ≡ false
-unfolding isPairs
+pub pairs-not : (line : List ℕ) (at : ℕ) → in_word line at ≡ true → pair_at line at ≡ false → is_pairs (word_at line at) ≡ false
+unfolding is_pairs
 pairs-not line at i e = rw (word_here line at i) (by-second (in_word line (at + 1)) refl)
   where
-    by-second : (t : Bool) → in_word line (at + 1) ≡ t → isPairs (get_or line at 0 ∷ word_at line (at + 1)) ≡ false
+    by-second : (t : Bool) → in_word line (at + 1) ≡ t → is_pairs (get_or line at 0 ∷ word_at line (at + 1)) ≡ false
     by-second true j = rw (word_here line (at + 1) j, e)
     by-second false j = rw (word_over line (at + 1) j)
 
-pub pairs-hold : (line : List ℕ) (at : ℕ) → in_word line at ≡ true → isPairs (word_at line at) ≡ true → pair_at line at ≡ true
+pub pairs-hold : (line : List ℕ) (at : ℕ) → in_word line at ≡ true → is_pairs (word_at line at) ≡ true → pair_at line at ≡ true
 pairs-hold line at i e = by-test (pair_at line at) refl
   where
     by-test : (t : Bool) → pair_at line at ≡ t → t ≡ true
@@ -117,8 +117,8 @@ digit-is n =
     (λ h. simp (le-ltb (n % 16) 10 h, le-leb 48 (n % 16 + 87) (omega arith), lt-leb (n % 16 + 87) 57 (omega arith), le-leb 97 (n % 16 + 87) (omega arith), le-leb (n % 16 + 87) 102 (omega arith)))
     (side (n % 16) 10)
 
-pub hex-is-pairs : (bs : List ℕ) → isPairs (hex_text bs) ≡ true
-unfolding isPairs hex_text
+pub hex-is-pairs : (bs : List ℕ) → is_pairs (hex_text bs) ≡ true
+unfolding is_pairs hex_text
 hex-is-pairs [] = refl
 hex-is-pairs (b ∷ bs) = rw (digit-is (b / 16), digit-is b, hex-is-pairs bs)
 

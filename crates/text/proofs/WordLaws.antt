@@ -1,13 +1,13 @@
 -- The words of a line: what is at a place of one, and words that are the same.
-use Prim.Native.Nat.{ℕ, ◌+◌, ◌≤◌, ◌<◌}
+use Prim.Native.Nat.{ℕ, suc, ◌+◌, ◌≤◌, ◌<◌}
 use native.Mathlib.Omega.{arith}
 use mathlib.Core.Path.{◌≡◌, refl, sym}
 use mathlib.Core.Logic.{⊎_elim}
-use mathlib.Core.Bool.{Bool, true, false, not, ◌&&◌, false≢true}
+use mathlib.Core.Bool.{Bool, true, false, cond, not, ◌&&◌, false≢true}
 use mathlib.Core.List.{List, [], ◌∷◌}
 use borrow.Author.Tests.{eq-eqb, ne_eqb, eqb-true}
 use lib.Dec.{eqb}
-use lib.ListN.{length, get_or, drop, drop_of_length-le}
+use lib.ListN.{length, get_or, drop, drop_of_length-le, get_or-eq_default}
 use Rattle.std.proofs.lemmas.List.{drop_more}
 use Rattle.text.specs.Digits.{not_empty}
 use Rattle.text.specs.Words.{find_from, up_to, word_at, in_word, same}
@@ -21,6 +21,15 @@ found_here x s i h e = rw (drop_more s i 0 h) (simp (eq-eqb _ _ e) (omega arith)
 pub found_next : (x : ℕ) (s : List ℕ) (i : ℕ) → i < length s → (get_or s i 0 ≡ x → ⊥) → find_from s (i + 1) x ≡ find_from s i x
 unfolding up_to
 found_next x s i h e = rw (drop_more s i 0 h) (simp (ne_eqb _ _ e) (omega arith))
+
+pub up_to_short : (x : ℕ) (s : List ℕ) → length (up_to x s) ≤ length s
+unfolding up_to
+up_to_short x [] = omega arith
+up_to_short x (b ∷ s) = by-test (eqb b x) (up_to_short x s)
+  where
+    by-test : (t : Bool) → length (up_to x s) ≤ length s → length (cond t [] (b ∷ up_to x s)) ≤ suc (length s)
+    by-test true h = omega arith
+    by-test false h = omega arith
 
 -- ---- a word at a place
 
@@ -57,6 +66,10 @@ word_here line at e = next (word_inside line at e) (eqb (get_or line at 0) 32) r
     next : at < length line → (t : Bool) → eqb (get_or line at 0) 32 ≡ t → word_at line at ≡ get_or line at 0 ∷ word_at line (at + 1)
     next h true f = absurd (false≢true (rw (word_blank line at h f) at e))
     next h false f = word_next line at h f
+
+-- a minus is in the line
+pub minus_inside : (line : List ℕ) (at : ℕ) → eqb (get_or line at 0) 45 ≡ true → at < length line
+minus_inside line at e = ⊎_elim (λ h. h) (λ h. absurd (false≢true (rw (get_or-eq_default line 0 {n = at} h) at e))) (side at (length line))
 
 -- and where there is none, the word is empty
 pub word_over : (line : List ℕ) (at : ℕ) → in_word line at ≡ false → word_at line at ≡ []

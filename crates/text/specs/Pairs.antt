@@ -4,10 +4,10 @@ use Rattle.text.specs.declared.pairs.BytesRead.{BytesRead}
 use Rattle.text.specs.Digits.{not_empty, is_hex_digit, hex_value}
 use Rattle.text.specs.Words.{lost, word_at, start_of, end_of}
 
-unfoldable pub isPairs : List ℕ → Bool
-isPairs [] = true
-isPairs (a ∷ []) = false
-isPairs (a ∷ b ∷ w) = is_hex_digit a && is_hex_digit b && isPairs w
+unfoldable pub is_pairs : List ℕ → Bool
+is_pairs [] = true
+is_pairs (a ∷ []) = false
+is_pairs (a ∷ b ∷ w) = is_hex_digit a && is_hex_digit b && is_pairs w
 
 unfoldable pub bytes_of : List ℕ → List ℕ
 bytes_of [] = []
@@ -16,7 +16,7 @@ bytes_of (a ∷ b ∷ w) = (hex_value a * 16 + hex_value b) ∷ bytes_of w
 
 -- one pair at least, and no more bytes than there is room for
 abbrev pub are_bytes : ℕ → List ℕ → Bool
-are_bytes room w = not_empty w && isPairs w && leb (length (bytes_of w)) room
+are_bytes room w = not_empty w && is_pairs w && leb (length (bytes_of w)) room
 
 -- the bytes of the next word; none where it has another form or too many
 unfoldable pub bytes_taken : List ℕ → ℕ → ℕ → List ℕ

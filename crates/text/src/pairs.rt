@@ -2,7 +2,7 @@
 ghost use Rattle.std.specs.Prelude.{◌≡◌, true, ◌&&◌, ◌+◌, ◌*◌, ◌<◌, length, get_or};
 ghost use Rattle.text.specs.Digits.{is_hex_digit, hex_value};
 ghost use Rattle.text.specs.Words.{word_at};
-ghost use Rattle.text.specs.Pairs.{isPairs, bytes_of, no_bytes, bytes_taken, bytes_read};
+ghost use Rattle.text.specs.Pairs.{is_pairs, bytes_of, no_bytes, bytes_taken, bytes_read};
 ghost use Rattle.text.specs.Written.{pasted, Written};
 
 use crate::digits::{hex_value, is_hex_digit};
@@ -38,7 +38,7 @@ fn pair(line: &[u8], at: usize) -> u8
 // Whether the word that begins at `from` is pairs of digits.
 #[tactic(auto, using(crate::proofs::WordLaws::word_inside))]
 fn are_pairs(line: &[u8], from: usize) -> bool
-    ensures { result ≡ isPairs (word_at line.now from) }
+    ensures { result ≡ is_pairs (word_at line.now from) }
 {
     let mut at = from;
     while in_word(line, at) {
@@ -52,7 +52,7 @@ fn are_pairs(line: &[u8], from: usize) -> bool
 
 // Writes the bytes of a word of pairs.
 fn take_pairs(line: &[u8], from: usize, out: &mut [u8]) -> usize
-    requires { isPairs (word_at line.now from) ≡ true }
+    requires { is_pairs (word_at line.now from) ≡ true }
     ensures { Written out.old 0 (bytes_of (word_at line.now from)) out.new result }
 {
     let mut at = from;

@@ -1,5 +1,5 @@
 use Rattle.std.proofs.Common.{◌∙◌, sym, ap}
-use Rattle.text.specs.Pairs.{isPairs}
+use Rattle.text.specs.Pairs.{is_pairs}
 use Rattle.text.proofs.WordLaws.{word_over}
 use Rattle.text.proofs.PairLaws.{pairs_next, pairs-not}
 use Rattle.text.proofs.pairs.are_pairs.Goals as goal
@@ -13,5 +13,5 @@ loop-from-preserved c =
     pairs_next c.args.line.now c.loop-from.at (sym c.loop-from-test.ensures) (sym c.if-not-is_pair.ensures) ∙ c.loop-from.invariant
 
 pub returns : goal.returns
-unfolding isPairs
-returns c = sym (ap isPairs (word_over c.args.line.now c.loop-from.at (sym c.loop-from-test.ensures))) ∙ c.loop-from.invariant
+unfolding is_pairs
+returns c = sym (ap is_pairs (word_over c.args.line.now c.loop-from.at (sym c.loop-from-test.ensures))) ∙ c.loop-from.invariant

@@ -4,7 +4,7 @@ use mathlib.Core.Bool.{and-false}
 use borrow.Author.Tests.{lt-leb}
 use Rattle.text.specs.Digits.{not_empty}
 use Rattle.text.specs.Words.{word_at, start_of}
-use Rattle.text.specs.Pairs.{isPairs, bytes_of}
+use Rattle.text.specs.Pairs.{is_pairs, bytes_of}
 use Rattle.text.proofs.PairLaws.{bytes-half, not-bytes, are-bytes}
 use Rattle.text.proofs.pairs.bytes.Goals as goal
 
@@ -27,7 +27,7 @@ returns-then-out-end c =
     let w = word_at line (start_of line at) in
     let end = rw c.start-from.ensures at c.end-end.ensures in
     let many = lt-leb (length (bytes_of w)) (length out) (omega (arith, end, c.start-from.ensures, bytes-half w)) in
-    let none = not-bytes line at out (rw (many, and-false (not_empty w && isPairs w))) in
+    let none = not-bytes line at out (rw (many, and-false (not_empty w && is_pairs w))) in
     record { value = c.refused-then-out-end.ensures ∙ none.0; out_after = none.1 }
 
 pub returns : goal.returns
