@@ -28,32 +28,32 @@ module _ {A B : Type 0} (number : A → ℕ) (known : A → B) (none : B) (n : �
   below [] = true
   below (x ∷ xs) = ltb (number x) 255 && below xs
 
-  same_found : (xs : List A) → below xs ≡ true → case_numbered number known none xs (capped n) ≡ case_numbered number known none xs n
-  same_found [] e = refl
-  same_found (x ∷ xs) e =
+  same-found : (xs : List A) → below xs ≡ true → case_numbered number known none xs (capped n) ≡ case_numbered number known none xs n
+  same-found [] e = refl
+  same-found (x ∷ xs) e =
       let h = ltb-true (number x) 255 (and_left _ (below xs) e) in
-      simp (capped_test n (number x) h, same_found xs (and_right (ltb (number x) 255) _ e))
+      simp (capped_test n (number x) h, same-found xs (and_right (ltb (number x) 255) _ e))
 
-pub direction_capped : (n : ℕ) {m : ℕ} → m ≡ capped n → direction_found m ≡ direction_found n
-direction_capped n e = ap direction_found e ∙ same_found direction_number DirectionFound.Known DirectionFound.Reserved n directions refl
+pub direction-capped : (n : ℕ) {m : ℕ} → m ≡ capped n → direction_found m ≡ direction_found n
+direction-capped n e = ap direction_found e ∙ same-found direction_number DirectionFound.Known DirectionFound.Reserved n directions refl
 
-pub move_mode_capped : (n : ℕ) {m : ℕ} → m ≡ capped n → move_mode_found m ≡ move_mode_found n
-move_mode_capped n e = ap move_mode_found e ∙ same_found move_mode_number MoveModeFound.Known MoveModeFound.Reserved n move_modes refl
+pub move-mode-capped : (n : ℕ) {m : ℕ} → m ≡ capped n → move_mode_found m ≡ move_mode_found n
+move-mode-capped n e = ap move_mode_found e ∙ same-found move_mode_number MoveModeFound.Known MoveModeFound.Reserved n move_modes refl
 
-pub step_mode_capped : (n : ℕ) {m : ℕ} → m ≡ capped n → step_mode_found m ≡ step_mode_found n
-step_mode_capped n e = ap step_mode_found e ∙ same_found step_mode_number StepModeFound.Known StepModeFound.Reserved n step_modes refl
+pub step-mode-capped : (n : ℕ) {m : ℕ} → m ≡ capped n → step_mode_found m ≡ step_mode_found n
+step-mode-capped n e = ap step_mode_found e ∙ same-found step_mode_number StepModeFound.Known StepModeFound.Reserved n step_modes refl
 
-pub loop_action_capped : (n : ℕ) {m : ℕ} → m ≡ capped n → loop_action_found m ≡ loop_action_found n
-loop_action_capped n e = ap loop_action_found e ∙ same_found loop_action_number ColorLoopActionFound.Known ColorLoopActionFound.Reserved n loop_actions refl
+pub loop-action-capped : (n : ℕ) {m : ℕ} → m ≡ capped n → loop_action_found m ≡ loop_action_found n
+loop-action-capped n e = ap loop_action_found e ∙ same-found loop_action_number ColorLoopActionFound.Known ColorLoopActionFound.Reserved n loop_actions refl
 
-pub loop-direction_capped : (n : ℕ) {m : ℕ} → m ≡ capped n → loop_direction_found m ≡ loop_direction_found n
-loop-direction_capped n e = ap loop_direction_found e ∙ same_found loop_direction_number ColorLoopDirectionFound.Known ColorLoopDirectionFound.Reserved n loop_directions refl
+pub loop-direction-capped : (n : ℕ) {m : ℕ} → m ≡ capped n → loop_direction_found m ≡ loop_direction_found n
+loop-direction-capped n e = ap loop_direction_found e ∙ same-found loop_direction_number ColorLoopDirectionFound.Known ColorLoopDirectionFound.Reserved n loop_directions refl
 
-pub color_mode_capped : (n : ℕ) {m : ℕ} → m ≡ capped n → color_mode_found m ≡ color_mode_found n
-color_mode_capped n e = ap color_mode_found e ∙ same_found color_mode_number ColorModeFound.Known ColorModeFound.Reserved n color_modes refl
+pub color-mode-capped : (n : ℕ) {m : ℕ} → m ≡ capped n → color_mode_found m ≡ color_mode_found n
+color-mode-capped n e = ap color_mode_found e ∙ same-found color_mode_number ColorModeFound.Known ColorModeFound.Reserved n color_modes refl
 
-pub enhanced_mode_capped : (n : ℕ) {m : ℕ} → m ≡ capped n → enhanced_color_mode_found m ≡ enhanced_color_mode_found n
-enhanced_mode_capped n e = ap enhanced_color_mode_found e ∙ same_found enhanced_color_mode_number EnhancedColorModeFound.Known EnhancedColorModeFound.Reserved n enhanced_color_modes refl
+pub enhanced-mode-capped : (n : ℕ) {m : ℕ} → m ≡ capped n → enhanced_color_mode_found m ≡ enhanced_color_mode_found n
+enhanced-mode-capped n e = ap enhanced_color_mode_found e ∙ same-found enhanced_color_mode_number EnhancedColorModeFound.Known EnhancedColorModeFound.Reserved n enhanced_color_modes refl
 
-pub on_off_capped : (n : ℕ) {m : ℕ} → m ≡ capped n → on_off_found m ≡ on_off_found n
-on_off_capped n e = ap on_off_found e ∙ same_found on_off_number OnOffFound.Known OnOffFound.Reserved n on_offs refl
+pub on-off-capped : (n : ℕ) {m : ℕ} → m ≡ capped n → on_off_found m ≡ on_off_found n
+on-off-capped n e = ap on_off_found e ∙ same-found on_off_number OnOffFound.Known OnOffFound.Reserved n on_offs refl

@@ -218,14 +218,14 @@ some_written : (f : Fade) (room n : ℕ) → moved f room (suc n) ≡ true
 some_written f room n = simp (lt-ltb 0 (suc n) (omega arith), or-true (is_over f || ltb room 512))
 
 -- where the run came to its end
-pub moved_over : (f now : Fade) (room len : ℕ) → is_over now ≡ true → (len ≡ 0 → now ≡ f) → moved f room len ≡ true
-moved_over f now room zero e same = simp (ap is_over (sym (same refl)) ∙ e)
-moved_over f now room (suc n) e same = some_written f room n
+pub moved-over : (f now : Fade) (room len : ℕ) → is_over now ≡ true → (len ≡ 0 → now ≡ f) → moved f room len ≡ true
+moved-over f now room zero e same = simp (ap is_over (sym (same refl)) ∙ e)
+moved-over f now room (suc n) e same = some_written f room n
 
 -- where there was no more room
-pub moved_full : (f : Fade) (room len : ℕ) → room < len + 512 → moved f room len ≡ true
-moved_full f room zero h = simp (lt-ltb room 512 (omega (arith, h)), or-true (is_over f))
-moved_full f room (suc n) h = some_written f room n
+pub moved-full : (f : Fade) (room len : ℕ) → room < len + 512 → moved f room len ≡ true
+moved-full f room zero h = simp (lt-ltb room 512 (omega (arith, h)), or-true (is_over f))
+moved-full f room (suc n) h = some_written f room n
 
 -- so what is left to write is less, and a run that is written block by block ends
 

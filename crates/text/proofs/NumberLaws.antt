@@ -25,8 +25,8 @@ Reading line from most at v =
     (v ≤ most) × (within most v (word_at line at) ≡ within most 0 (word_at line from)) × (value_from v (word_at line at) ≡ value (word_at line from))
     × (end_of line at ≡ end_of line from)
 
-pub reading_start : (line : List ℕ) (from most : ℕ) → Reading line from most from 0
-reading_start line from most = (omega arith, refl, refl, refl)
+pub reading-start : (line : List ℕ) (from most : ℕ) → Reading line from most from 0
+reading-start line from most = (omega arith, refl, refl, refl)
 
 not_within : (w : List ℕ) (most : ℕ) → within most 0 w ≡ false → is_number most w ≡ false
 unfolding is_number

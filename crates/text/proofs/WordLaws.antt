@@ -22,10 +22,10 @@ pub found_next : (x : ℕ) (s : List ℕ) (i : ℕ) → i < length s → (get_or
 unfolding up_to
 found_next x s i h e = rw (drop_more s i 0 h) (simp (ne_eqb _ _ e) (omega arith))
 
-pub up_to_short : (x : ℕ) (s : List ℕ) → length (up_to x s) ≤ length s
+pub up_to-short : (x : ℕ) (s : List ℕ) → length (up_to x s) ≤ length s
 unfolding up_to
-up_to_short x [] = omega arith
-up_to_short x (b ∷ s) = by-test (eqb b x) (up_to_short x s)
+up_to-short x [] = omega arith
+up_to-short x (b ∷ s) = by-test (eqb b x) (up_to-short x s)
   where
     by-test : (t : Bool) → length (up_to x s) ≤ length s → length (cond t [] (b ∷ up_to x s)) ≤ suc (length s)
     by-test true h = omega arith
@@ -68,8 +68,8 @@ word_here line at e = next (word_inside line at e) (eqb (get_or line at 0) 32) r
     next h false f = word_next line at h f
 
 -- a minus is in the line
-pub minus_inside : (line : List ℕ) (at : ℕ) → eqb (get_or line at 0) 45 ≡ true → at < length line
-minus_inside line at e = ⊎_elim (λ h. h) (λ h. absurd (false≢true (rw (get_or-eq_default line 0 {n = at} h) at e))) (side at (length line))
+pub minus-inside : (line : List ℕ) (at : ℕ) → eqb (get_or line at 0) 45 ≡ true → at < length line
+minus-inside line at e = ⊎_elim (λ h. h) (λ h. absurd (false≢true (rw (get_or-eq_default line 0 {n = at} h) at e))) (side at (length line))
 
 -- and where there is none, the word is empty
 pub word_over : (line : List ℕ) (at : ℕ) → in_word line at ≡ false → word_at line at ≡ []
