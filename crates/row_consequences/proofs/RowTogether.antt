@@ -31,7 +31,7 @@ use Rattle.rows.proofs.Visiting.{step-number}
 use Rattle.row_schedule.specs.RowCalls.{RowCall, each, after_row}
 use Rattle.row_schedule.specs.RowClaim.{RowValid}
 use Rattle.row_schedule.proofs.Lists.{after-row-append, its-calls, kept-after}
-use Rattle.row_schedule.proofs.Keeps.{in_row, in-range-append}
+use Rattle.row_schedule.proofs.Keeps.{in_row, in_true_row, in-range-append}
 use Rattle.row_consequences.specs.RowTogether.{FadeAt, RowTogether}
 
 -- ---- the clock of a lamp never goes back
@@ -168,7 +168,7 @@ lamp-is r calls size clock k e valid a z =
     let s = in_row r valid k a.there in
     let now = kept-after k r calls s in
     let same : lamp_at (after_row r calls) k ≡ later e e.calls =
-    its-calls k r calls s ∙ rw (a.lamp, a.given) (list-later e)
+    its-calls k r calls (in_true_row r valid k a.there) ∙ rw (a.lamp, a.given) (list-later e)
     in (
       ap (λ m. first_cause m clock) (sym same) ∙ accepted-first (after_row r calls) size clock k now z,
       ap (λ (q : Row). lamp_at q k) (after-row-append r calls (each size clock ∷ []))

@@ -17,11 +17,11 @@ use Rattle.schedule.proofs.Keeps.{keeps-schedule}
 use Rattle.rows.specs.declared.Row.{Row}
 use Rattle.rows.specs.Rows.{lamp_at, visited, answered_at, row_cause, row_stepped, row_bytes, least_wait, no_lamp}
 use Rattle.rows.specs.RowTable.{AnswersAs}
-use Rattle.rows.proofs.Laws.{InRow, either, visited-step, single-is}
+use Rattle.rows.proofs.Laws.{InRow, InTrueRow, either, visited-step, single-is}
 use Rattle.rows.proofs.Bytes.{sixteen_at, bytes-at}
 use Rattle.row_schedule.specs.RowCalls.{RowCall, each, at, next_row, after_row, given_by, given, InRangeRowCall, InRangeRowCalls}
 use Rattle.row_schedule.specs.RowClaim.{RowValid, RowClaim, own, owns, step_bytes}
-use Rattle.row_schedule.proofs.Lists.{kept-after, its-calls, count-after, each-valid}
+use Rattle.row_schedule.proofs.Lists.{kept-after, true-kept-after, its-calls, count-after, each-valid}
 
 -- what is given is in range
 pub in-range-append : (xs ys : List Call) → InRangeCalls xs → InRangeCalls ys → InRangeCalls (xs ++ ys)
@@ -51,16 +51,19 @@ step-bytes l clock =
 
 module _ (r : Row) (valid : RowValid r) (k : ℕ) (h : k < r.count) where
   pub in_row : InRow k r
-  in_row = record { there = h; room = record { few = valid.count; places = valid.places }; mask = valid.mask }
+  in_row = record { there = h; room = record { few = valid.count; places = valid.places } }
+
+  pub in_true_row : InTrueRow k r
+  in_true_row = record { in_row = in_row; mask = valid.mask }
 
   single-after : (ys : List RowCall) (x : Call) → AnswersAs (answered_at (after_row r ys) k x) (answer (own k r ys) x)
-  single-after ys x = rw (its-calls k r ys in_row) at (single-is (after_row r ys) k x (kept-after k r ys in_row))
+  single-after ys x = rw (its-calls k r ys in_true_row) at (single-is (after_row r ys) k x (true-kept-after k r ys in_true_row))
 
   bytes_after : (ys : List RowCall) (clock : ℕ) (out : List ℕ) → row_cause (after_row r ys) (length out) clock ≡ 0 →
       sixteen_at k (row_bytes (after_row r ys) out clock) ≡ step_bytes (own k r ys) clock
   bytes_after ys clock out e =
       bytes-at (after_row r ys) out clock k (kept-after k r ys in_row) e
-      ∙ ap (λ l. (answer l (Call.Step clock)).notices.places) (its-calls k r ys in_row)
+      ∙ ap (λ l. (answer l (Call.Step clock)).notices.places) (its-calls k r ys in_true_row)
       ∙ step-bytes (own k r ys) clock
 
 -- ---- the lamps of the row are those that their own calls leave
@@ -83,7 +86,7 @@ module _ (r : Row) (valid : RowValid r) (ys : List RowCall) where
   each-own : (n j : ℕ) → j + n ≤ r.count → from_place n j (after_row r ys).lamps ≡ owns n j r ys
   each-own zero j h = refl
   each-own (suc n) j h =
-      rw (its-calls j r ys (in_row r valid j (omega arith)), each-own n (suc j) (omega arith))
+      rw (its-calls j r ys (in_true_row r valid j (omega arith)), each-own n (suc j) (omega arith))
 
   module _ (k : ℕ) (h : k < r.count) where
     wait-is : (size clock : ℕ) → row_cause (after_row r ys) size clock ≡ 0 →
@@ -101,7 +104,7 @@ row_keeps r calls valid t k h small =
     record {
       tied =
           record {
-            lamp = λ ys zs e. its-calls k r ys (in_row r valid k h);
+            lamp = λ ys zs e. its-calls k r ys (in_true_row r valid k h);
             single = λ ys x zs e. single-after r valid k h ys x;
             bytes = λ ys clock out zs e a. bytes_after r valid k h ys clock out a;
             wait = λ ys size clock zs e a. wait-is r valid ys k h size clock a;

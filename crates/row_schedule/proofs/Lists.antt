@@ -16,10 +16,10 @@ use Rattle.commands.proofs.Kept.{valid-kept}
 use Rattle.schedule.specs.Calls.{after}
 use Rattle.schedule.proofs.Lists.{after-append}
 use Rattle.rows.specs.declared.Row.{Row}
-use Rattle.rows.specs.Rows.{map_to, visited, no_lamp, lamp_at, all_valid, row_cause, row_stepped, place_cause, answered_at, with_lamps}
+use Rattle.rows.specs.Rows.{map_to, visited, no_lamp, lamp_at, all_valid, mask_true, row_cause, row_stepped, place_cause, answered_at, with_lamps}
 use Rattle.rows.proofs.Causes.{place-there}
 use Rattle.rows.proofs.Visiting.{length-map_to}
-use Rattle.rows.proofs.Laws.{InRow, either, visited-step, row-lamp, row-past, single-lamp, single-others, single-count, with-true}
+use Rattle.rows.proofs.Laws.{InRow, InTrueRow, either, visited-step, row-lamp, row-past, single-lamp, single-others, single-count, with-true}
 use Rattle.row_schedule.specs.RowClaim.{RowValid}
 use Rattle.row_schedule.specs.RowCalls.{RowCall, each, at, next_row, after_row, given_by, given}
 
@@ -51,26 +51,43 @@ one_each k r size clock h =
     (λ e. rw e (row-lamp r size clock k h (eqb-true _ _ e)))
     (λ e. ap (λ (q : Row). lamp_at q k) (each-no r size clock e) ∙ rw e)
 
-one_at : (k : ℕ) (r : Row) (place : ℕ) (x : Call) → InRow k r → lamp_at (next_row r (at place x)) k ≡ after (lamp_at r k) (given_by k r (at place x))
+one_at : (k : ℕ) (r : Row) (place : ℕ) (x : Call) → InTrueRow k r → lamp_at (next_row r (at place x)) k ≡ after (lamp_at r k) (given_by k r (at place x))
 unfolding after
 one_at k r place x h =
     either (eqb place k)
     (λ f. rw f (ap (λ (p : ℕ). lamp_at (answered_at r p x).row k) (eqb-true place k f) ∙ single-lamp r k x h))
     (λ f. rw f (single-others r place k x (λ q. eqb-false place k f (sym q))))
 
-one : (k : ℕ) (r : Row) (x : RowCall) → InRow k r → lamp_at (next_row r x) k ≡ after (lamp_at r k) (given_by k r x)
-one k r (each size clock) h = one_each k r size clock h
+one : (k : ℕ) (r : Row) (x : RowCall) → InTrueRow k r → lamp_at (next_row r x) k ≡ after (lamp_at r k) (given_by k r x)
+one k r (each size clock) h = one_each k r size clock h.in_row
 one k r (at place x) h = one_at k r place x h
 
 kept : (k : ℕ) (r : Row) (x : RowCall) → InRow k r → InRow k (next_row r x)
 kept k r (each size clock) h =
     either (eqb (row_cause r size clock) 0)
-    (λ e. subst (InRow k) (sym (each-yes r size clock e)) (record { there = h.there; room = record { few = h.room.few; places = simp length-map_to h.room.places }; mask = with-true r _ }))
+    (λ e. subst (InRow k) (sym (each-yes r size clock e)) (record { there = h.there; room = record { few = h.room.few; places = simp length-map_to h.room.places } }))
     (λ e. subst (InRow k) (sym (each-no r size clock e)) h)
 kept k r (at place x) h =
     either (eqb (place_cause r place) 0)
-    (λ e. subst (InRow k) (sym (at-yes r place x e)) (record { there = h.there; room = record { few = h.room.few; places = simp length-set h.room.places }; mask = with-true r _ }))
+    (λ e. subst (InRow k) (sym (at-yes r place x e)) (record { there = h.there; room = record { few = h.room.few; places = simp length-set h.room.places } }))
     (λ e. subst (InRow k) (sym (at-no r place x e)) h)
+
+-- a true mask stays true
+abbrev True : Row → Type 0
+True r = mask_true r ≡ true
+
+mask_kept : (r : Row) (x : RowCall) → mask_true r ≡ true → mask_true (next_row r x) ≡ true
+mask_kept r (each size clock) m =
+    either (eqb (row_cause r size clock) 0)
+    (λ e. subst True (sym (each-yes r size clock e)) (with-true r _))
+    (λ e. subst True (sym (each-no r size clock e)) m)
+mask_kept r (at place x) m =
+    either (eqb (place_cause r place) 0)
+    (λ e. subst True (sym (at-yes r place x e)) (with-true r _))
+    (λ e. subst True (sym (at-no r place x e)) m)
+
+true_kept : (k : ℕ) (r : Row) (x : RowCall) → InTrueRow k r → InTrueRow k (next_row r x)
+true_kept k r x h = record { in_row = kept k r x h.in_row; mask = mask_kept r x h.mask }
 
 -- no call changes the count
 count-one : (r : Row) (x : RowCall) → (next_row r x).count ≡ r.count
@@ -88,11 +105,16 @@ unfolding after_row
 kept-after k r [] h = h
 kept-after k r (x ∷ xs) h = kept-after k (next_row r x) xs (kept k r x h)
 
-pub its-calls : (k : ℕ) (r : Row) (xs : List RowCall) → InRow k r → lamp_at (after_row r xs) k ≡ after (lamp_at r k) (given k r xs)
+pub true-kept-after : (k : ℕ) (r : Row) (xs : List RowCall) → InTrueRow k r → InTrueRow k (after_row r xs)
+unfolding after_row
+true-kept-after k r [] h = h
+true-kept-after k r (x ∷ xs) h = true-kept-after k (next_row r x) xs (true_kept k r x h)
+
+pub its-calls : (k : ℕ) (r : Row) (xs : List RowCall) → InTrueRow k r → lamp_at (after_row r xs) k ≡ after (lamp_at r k) (given k r xs)
 unfolding after_row given after
 its-calls k r [] h = refl
 its-calls k r (x ∷ xs) h =
-    its-calls k (next_row r x) xs (kept k r x h)
+    its-calls k (next_row r x) xs (true_kept k r x h)
     ∙ ap (λ l. after l (given k (next_row r x) xs)) (one k r x h)
     ∙ sym (after-append (lamp_at r k) (given_by k r x) (given k (next_row r x) xs))
 
@@ -153,7 +175,7 @@ given-append k r (x ∷ xs) ys =
 
 -- ---- lamps in equal state that are given equal calls stay equal: ten that are started alike, and then row calls
 
-pub stay-equal : (r : Row) (j k : ℕ) (xs : List RowCall) → InRow j r → InRow k r → lamp_at r j ≡ lamp_at r k →
+pub stay-equal : (r : Row) (j k : ℕ) (xs : List RowCall) → InTrueRow j r → InTrueRow k r → lamp_at r j ≡ lamp_at r k →
     given j r xs ≡ given k r xs → lamp_at (after_row r xs) j ≡ lamp_at (after_row r xs) k
 stay-equal r j k xs a b same e = its-calls j r xs a ∙ rw (same, e) (sym (its-calls k r xs b))
 

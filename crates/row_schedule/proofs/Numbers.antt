@@ -26,7 +26,7 @@ use Rattle.rows.proofs.RowTable.{table-of-rows}
 use Rattle.row_schedule.specs.RowCalls.{RowCall, each, at, after_row, InRangeRowCalls}
 use Rattle.row_schedule.specs.RowClaim.{RowValid}
 use Rattle.row_schedule.proofs.Lists.{each-valid, row-valid-after, its-calls, count-after}
-use Rattle.row_schedule.proofs.Keeps.{in_row, given-in-range}
+use Rattle.row_schedule.proofs.Keeps.{in_true_row, given-in-range}
 
 -- a valid lamp refuses nothing with 8
 valid-no-8 : (l : Lamp) (x : Call) → lamp_valid l ≡ true → cause l x ≡ 8 → ⊥
@@ -90,4 +90,4 @@ pub row-in-range-after : (r : Row) (ys : List RowCall) → RowValid r → InRang
 row-in-range-after r ys v t w k h =
     let there : k < r.count = omega (arith, count-after r ys, h) in
     let valid = each-valid r.count k r.lamps v.lamps there (omega (arith, v.places, v.count)) in
-    subst InRangeLamp (sym (its-calls k r ys (in_row r v k there))) (in-range-after (lamp_at r k) _ valid (w k there) (given-in-range k r ys t))
+    subst InRangeLamp (sym (its-calls k r ys (in_true_row r v k there))) (in-range-after (lamp_at r k) _ valid (w k there) (given-in-range k r ys t))

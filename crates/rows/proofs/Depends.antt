@@ -1,13 +1,14 @@
 -- "In an accepted call a lamp's record and notices depend on its own record, the call and the clock, never on another lamp's."
 use Prim.Native.Nat.{ℕ}
+use mathlib.Core.Bool.{true}
 use mathlib.Core.List.{List}
 use mathlib.Core.Path.{◌≡◌, ap, sym, ◌∙◌}
 use lib.ListN.{length}
 use Rattle.lamp.specs.declared.Call.{Call}
 use Rattle.commands.specs.Answers.{answer}
 use Rattle.rows.specs.declared.Row.{Row}
-use Rattle.rows.specs.Rows.{lamp_at, row_cause, row_stepped, row_bytes, answered_at}
-use Rattle.rows.proofs.Laws.{InRow, row-lamp, single-is, single-lamp, single-others}
+use Rattle.rows.specs.Rows.{lamp_at, mask_true, row_cause, row_stepped, row_bytes, answered_at}
+use Rattle.rows.proofs.Laws.{InRow, InTrueRow, row-lamp, single-is, single-lamp, single-others}
 use Rattle.rows.proofs.Bytes.{sixteen_at, bytes-at}
 
 -- two rows with the same lamp at a place: the other lamps and the count are free
@@ -26,15 +27,17 @@ row-call-depends r q out other clock k a e f = (
   bytes-at r out clock k a.left e ∙ ap (λ l. (answer l (Call.Step clock)).notices.places) a.same ∙ sym (bytes-at q other clock k a.right f),
 )
 
--- a single call there, accepted or not: the same record, number, notices, task and wait
-pub single-depends : (r q : Row) (k : ℕ) (x : Call) → AgreeAt k r q →
+-- a single call there, accepted or not, in two rows whose masks are true: the same record, number, notices, task and wait
+pub single-depends : (r q : Row) (k : ℕ) (x : Call) → AgreeAt k r q → mask_true r ≡ true → mask_true q ≡ true →
     (lamp_at (answered_at r k x).row k ≡ lamp_at (answered_at q k x).row k)
     × ((answered_at r k x).number ≡ (answered_at q k x).number) × ((answered_at r k x).notices ≡ (answered_at q k x).notices)
     × ((answered_at r k x).task ≡ (answered_at q k x).task) × ((answered_at r k x).wait ≡ (answered_at q k x).wait)
-single-depends r q k x a =
-    let s = single-is r k x a.left in
-    let t = single-is q k x a.right in (
-      single-lamp r k x a.left ∙ ap (λ l. (answer l x).lamp) a.same ∙ sym (single-lamp q k x a.right),
+single-depends r q k x a m n =
+    let left : InTrueRow k r = record { in_row = a.left; mask = m } in
+    let right : InTrueRow k q = record { in_row = a.right; mask = n } in
+    let s = single-is r k x left in
+    let t = single-is q k x right in (
+      single-lamp r k x left ∙ ap (λ l. (answer l x).lamp) a.same ∙ sym (single-lamp q k x right),
       s.number ∙ ap (λ l. (answer l x).number) a.same ∙ sym t.number,
       s.notices ∙ ap (λ l. (answer l x).notices) a.same ∙ sym t.notices,
       s.task ∙ ap (λ l. (answer l x).task) a.same ∙ sym t.task,

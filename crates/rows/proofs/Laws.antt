@@ -35,6 +35,10 @@ pub record Room (r : Row) : Type 0 where
 pub record InRow (k : ℕ) (r : Row) : Type 0 where
   pub there : k < r.count
   pub room : Room r
+
+-- a place of a row whose mask is true, too: a single call to any other row is refused
+pub record InTrueRow (k : ℕ) (r : Row) : Type 0 where
+  pub in_row : InRow k r
   pub mask : mask_true r ≡ true
 
 in_array : (k : ℕ) (r : Row) → InRow k r → k < length r.lamps
@@ -183,9 +187,9 @@ same-row r e = ap (λ m. record { count = r.count; running_mask = m; lamps = r.l
 
 -- ---- the row call is the single steps of its places, one after another in rising place
 
-pub no-cause : (r : Row) (k : ℕ) → InRow k r → place_cause r k ≡ 0
+pub no-cause : (r : Row) (k : ℕ) → InTrueRow k r → place_cause r k ≡ 0
 unfolding place_cause
-no-cause r k h = rw (le-ltb 32 r.count h.room.few, lt-leb r.count k h.there, h.mask)
+no-cause r k h = rw (le-ltb 32 r.count h.in_row.room.few, lt-leb r.count k h.in_row.there, h.mask)
 
 abbrev pub step_each : ℕ → ℕ → Row → ℕ → Row
 step_each zero k r clock = r
@@ -198,7 +202,7 @@ module _ (clock : ℕ) where
   one_more : (n : ℕ) (xs : List Lamp) → set (map_to n visit xs) n (visit (get_or (map_to n visit xs) n no_lamp)) ≡ map_to (suc n) visit xs
   one_more n xs = rw (past-stays visit n n xs no_lamp (omega arith)) (step-map_to n visit xs no_lamp)
 
-  at_place : (r : Row) (k : ℕ) → InRow k r →
+  at_place : (r : Row) (k : ℕ) → InTrueRow k r →
       (answered_at r k (Call.Step clock)).row ≡ with_lamps r (set r.lamps k (visit (lamp_at r k)))
   unfolding answered_at
   at_place r k h = rw (no-cause r k h, (visited-step (lamp_at r k) clock).0)
@@ -209,7 +213,7 @@ module _ (clock : ℕ) where
   from r (suc left) k h m =
       let room : Room (with_lamps r (map_to k visit r.lamps)) = record { few = h.few; places = length-map_to k visit r.lamps ∙ h.places } in
       let e : suc k + left ≡ k + suc left = omega arith in
-      ap (λ q. step_each left (suc k) q clock) (at_place (with_lamps r (map_to k visit r.lamps)) k (record { there = omega arith; room = room; mask = with-true r (map_to k visit r.lamps) }) ∙ ap (with_lamps r) (one_more k r.lamps))
+      ap (λ q. step_each left (suc k) q clock) (at_place (with_lamps r (map_to k visit r.lamps)) k (record { in_row = record { there = omega arith; room = room }; mask = with-true r (map_to k visit r.lamps) }) ∙ ap (with_lamps r) (one_more k r.lamps))
       ∙ from r left (suc k) h (omega arith) ∙ ap (λ n. with_lamps r (map_to n visit r.lamps)) e
 
   pub singly-is : (r : Row) (size : ℕ) → length r.lamps ≡ 32 → row_cause r size clock ≡ 0 →
@@ -223,15 +227,15 @@ module _ (clock : ℕ) where
 
 -- ---- a single call is the lamp's own answer at that place, with every other lamp and the count as they were
 
-pub single-is : (r : Row) (k : ℕ) (x : Call) → InRow k r → AnswersAs (answered_at r k x) (answer (lamp_at r k) x)
+pub single-is : (r : Row) (k : ℕ) (x : Call) → InTrueRow k r → AnswersAs (answered_at r k x) (answer (lamp_at r k) x)
 unfolding answered_at
 single-is r k x h =
     let e = no-cause r k h in
     record { number = rw e; notices = rw e; task = rw e; wait = rw e }
 
-pub single-lamp : (r : Row) (k : ℕ) (x : Call) → InRow k r → lamp_at (answered_at r k x).row k ≡ (answer (lamp_at r k) x).lamp
+pub single-lamp : (r : Row) (k : ℕ) (x : Call) → InTrueRow k r → lamp_at (answered_at r k x).row k ≡ (answer (lamp_at r k) x).lamp
 unfolding answered_at
-single-lamp r k x h = rw (no-cause r k h) (get_or-set_same r.lamps k (answer (lamp_at r k) x).lamp no_lamp (in_array k r h))
+single-lamp r k x h = rw (no-cause r k h) (get_or-set_same r.lamps k (answer (lamp_at r k) x).lamp no_lamp (in_array k r h.in_row))
 
 pub single-others : (r : Row) (place k : ℕ) (x : Call) → (k ≡ place → ⊥) → lamp_at (answered_at r place x).row k ≡ lamp_at r k
 unfolding answered_at
@@ -260,12 +264,12 @@ single-refused r k x n =
 pub made : (count : ℕ) (ls : List Lamp) → ((row_of count ls).count ≡ count) × ((row_of count ls).lamps ≡ ls)
 made count ls = (refl, refl)
 
-pub put_in : (r : Row) (k : ℕ) (l : Lamp) → k < r.count → Room r →
+pub put_in : (r : Row) (k : ℕ) (l : Lamp) → InRow k r →
     (lamp_at (put_at r k l) k ≡ l) × ((put_at r k l).count ≡ r.count) × ((j : ℕ) → (j ≡ k → ⊥) → lamp_at (put_at r k l) j ≡ lamp_at r j)
 unfolding put_at
-put_in r k l there room =
-    rw (lt-leb r.count k there, lt-leb 32 k (omega (arith, there, room.few)))
-    (get_or-set_same r.lamps k l no_lamp (omega (arith, there, room.few, room.places)), refl, λ j n. get_or-set_other r.lamps k j l no_lamp n)
+put_in r k l h =
+    rw (lt-leb r.count k h.there, lt-leb 32 k (omega (arith, h.there, h.room.few)))
+    (get_or-set_same r.lamps k l no_lamp (in_array k r h), refl, λ j n. get_or-set_other r.lamps k j l no_lamp n)
 
 -- at and past the count nothing is put, and nothing past the array
 pub put-past : (r : Row) (k : ℕ) (l : Lamp) → min r.count 32 ≤ k → put_at r k l ≡ r

@@ -57,7 +57,7 @@ module _ (r : Row) (room : Room r) (m : mask_true r ≡ true) where
   own : (k : ℕ) (x : Call) → k < r.count → bit_at (answered_at r k x).row.running_mask k ≡ bit_of (answer (lamp_at r k) x).lamp
   own k x there =
       (after k x).bits k (omega (arith, single-count r k x, there))
-      ∙ ap bit_of (single-lamp r k x (record { there = there; room = room; mask = m }))
+      ∙ ap bit_of (single-lamp r k x (record { in_row = record { there = there; room = room }; mask = m }))
 
   no_bit : (place k : ℕ) (x : Call) → r.count ≤ k → bit_at (answered_at r place x).row.running_mask k ≡ bit_at r.running_mask k
   no_bit place k x past = (after place x).past k (omega (arith, single-count r place x, past)) ∙ sym (before.past k past)

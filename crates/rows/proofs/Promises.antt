@@ -16,7 +16,7 @@ use Rattle.commands.proofs.Table.{table}
 use Rattle.commands.proofs.Ties.{ties}
 use Rattle.rows.specs.declared.Row.{Row}
 use Rattle.rows.specs.Rows.{lamp_at, row_cause, row_bytes, place_cause, answered_at}
-use Rattle.rows.proofs.Laws.{InRow, either, single-is}
+use Rattle.rows.proofs.Laws.{InRow, InTrueRow, either, single-is}
 use Rattle.rows.proofs.Bytes.{sixteen_at, bytes-at}
 
 -- ---- document 02, A.6: 18 "comes in no other case"
@@ -28,7 +28,7 @@ row-never-18 r out clock k h e byte there =
     true≢false (sym ((ties (lamp_at r k) (Call.Step clock)).alone byte (rw (bytes-at r out clock k h e) at there)))
 
 -- a single call has 18 at a place of its list exactly where the lamp alone has it there
-pub single-18 : (r : Row) (k : ℕ) (x : Call) → InRow k r → (place : ℕ) →
+pub single-18 : (r : Row) (k : ℕ) (x : Call) → InTrueRow k r → (place : ℕ) →
     (get_or (answered_at r k x).notices.places place 0 ≡ hue_tie) ↔ (get_or (answer (lamp_at r k) x).notices.places place 0 ≡ hue_tie)
 single-18 r k x h place =
     let same = (single-is r k x h).notices in (λ e. rw same at e, λ e. rw same e)

@@ -23,7 +23,7 @@ use Rattle.lamp.specs.Calls.{done, stepped, step_cause, step_answer}
 use Rattle.commands.specs.Answers.{answer}
 use Rattle.rows.specs.declared.Row.{Row}
 use Rattle.rows.specs.Rows.{no_lamp, lamp_at, placed, visited, lesser, least_wait, row_cause, row_stepped}
-use Rattle.rows.proofs.Laws.{InRow, Room, either, visited-step, accepted-first, accepted-few, accepted-mask, placed-many, row-lamp}
+use Rattle.rows.proofs.Laws.{InRow, Room, either, visited-step, accepted-first, accepted-few, placed-many, row-lamp}
 
 -- what an effect asks for is a wait exactly where it leaves its lamp running
 pub record Asks (run : Running) (wait : ℕ) : Type 0 where
@@ -162,12 +162,12 @@ row-no-wait r size clock len e =
     let room : Room r = record { few = accepted-few r size clock e; places = len } in (
       λ z k there.
           either (runs (lamp_at (row_stepped r size clock).row k).running)
-          (λ b. absurd (omega (arith, (wait-low r size clock k (record { there = there; room = room; mask = accepted-mask r size clock e }) e b).0, z)))
+          (λ b. absurd (omega (arith, (wait-low r size clock k (record { there = there; room = room }) e b).0, z)))
           (λ b. b),
       λ none.
           either (eqb (row_stepped r size clock).wait 0)
           (λ z. eqb-true _ _ z)
           (λ z. let a = wait-asked r size clock len e (omega (arith, eqb-false (row_stepped r size clock).wait 0 z)) in
-          let no = (place-asks r size clock a.place (record { there = a.there; room = room; mask = accepted-mask r size clock e }) e).none (none a.place a.there) in
+          let no = (place-asks r size clock a.place (record { there = a.there; room = room }) e).none (none a.place a.there) in
           absurd (omega (arith, a.asks, no, eqb-false (row_stepped r size clock).wait 0 z))),
     )
