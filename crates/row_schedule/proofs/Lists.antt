@@ -1,6 +1,6 @@
 -- Over every list of row calls and single calls, a lamp of the row is the one that its own calls leave.
 use Prim.Native.Nat.{ℕ, zero, suc, ◌≤◌, ◌<◌}
-use mathlib.Core.Bool.{true, false}
+use mathlib.Core.Bool.{true, false, true≢false}
 use mathlib.Core.List.{List, [], ◌∷◌, ◌++◌, append_assoc}
 use mathlib.Core.Path.{◌≡◌, refl, ap, sym, ◌∙◌, subst}
 use native.Mathlib.Omega.{arith}
@@ -19,7 +19,7 @@ use Rattle.rows.specs.declared.Row.{Row}
 use Rattle.rows.specs.Rows.{map_to, visited, no_lamp, lamp_at, all_valid, mask_true, row_cause, row_stepped, place_cause, answered_at, with_lamps}
 use Rattle.rows.proofs.Causes.{place-there}
 use Rattle.rows.proofs.Visiting.{length-map_to}
-use Rattle.rows.proofs.Laws.{InRow, InTrueRow, either, visited-step, row-lamp, row-past, single-lamp, single-others, single-count, with-true}
+use Rattle.rows.proofs.Laws.{InRow, InTrueRow, either, accepted-mask, visited-step, row-lamp, row-past, single-lamp, single-others, single-count, with-true}
 use Rattle.row_schedule.specs.RowClaim.{RowValid}
 use Rattle.row_schedule.specs.RowCalls.{RowCall, each, at, next_row, after_row, given_by, given}
 
@@ -175,9 +175,28 @@ given-append k r (x ∷ xs) ys =
 
 -- ---- lamps in equal state that are given equal calls stay equal: ten that are started alike, and then row calls
 
-pub stay-equal : (r : Row) (j k : ℕ) (xs : List RowCall) → InTrueRow j r → InTrueRow k r → lamp_at r j ≡ lamp_at r k →
+-- a row whose mask is not true is refused each call, and stays
+stuck_one : (r : Row) (x : RowCall) → mask_true r ≡ false → next_row r x ≡ r
+stuck_one r (each size clock) m =
+    either (eqb (row_cause r size clock) 0)
+    (λ e. absurd (true≢false (sym (accepted-mask r size clock (eqb-true _ _ e)) ∙ m)))
+    (λ e. each-no r size clock e)
+stuck_one r (at place x) m =
+    either (eqb (place_cause r place) 0)
+    (λ e. absurd (true≢false (sym (place-there r place (eqb-true _ _ e)).2 ∙ m)))
+    (λ e. at-no r place x e)
+
+stuck : (r : Row) (xs : List RowCall) → mask_true r ≡ false → after_row r xs ≡ r
+unfolding after_row
+stuck r [] m = refl
+stuck r (x ∷ xs) m = ap (λ (q : Row). after_row q xs) (stuck_one r x m) ∙ stuck r xs m
+
+pub stay-equal : (r : Row) (j k : ℕ) (xs : List RowCall) → InRow j r → InRow k r → lamp_at r j ≡ lamp_at r k →
     given j r xs ≡ given k r xs → lamp_at (after_row r xs) j ≡ lamp_at (after_row r xs) k
-stay-equal r j k xs a b same e = its-calls j r xs a ∙ rw (same, e) (sym (its-calls k r xs b))
+stay-equal r j k xs a b same e =
+    either (mask_true r)
+    (λ m. its-calls j r xs (record { in_row = a; mask = m }) ∙ rw (same, e) (sym (its-calls k r xs (record { in_row = b; mask = m }))))
+    (λ m. rw (stuck r xs m) same)
 
 -- a row call, accepted or not, gives two places the same
 pub row-call-given : (r : Row) (j k size clock : ℕ) → given_by j r (each size clock) ≡ given_by k r (each size clock)

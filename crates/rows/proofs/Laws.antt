@@ -191,6 +191,11 @@ pub no-cause : (r : Row) (k : ℕ) → InTrueRow k r → place_cause r k ≡ 0
 unfolding place_cause
 no-cause r k h = rw (le-ltb 32 r.count h.in_row.room.few, lt-leb r.count k h.in_row.there, h.mask)
 
+-- and in a row whose mask is not true 8
+pub wrong-mask : (r : Row) (k : ℕ) → InRow k r → mask_true r ≡ false → place_cause r k ≡ 8
+unfolding place_cause
+wrong-mask r k h m = rw (le-ltb 32 r.count h.room.few, lt-leb r.count k h.there, m)
+
 abbrev pub step_each : ℕ → ℕ → Row → ℕ → Row
 step_each zero k r clock = r
 step_each (suc left) k r clock = step_each left (suc k) (answered_at r k (Call.Step clock)).row clock
