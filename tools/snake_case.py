@@ -1,6 +1,6 @@
 #!/usr/bin/env python3
-"""Turns this repository's own definitions, lemmas, fields and constructors from camel case to snake case, as an older Rattle's scripts leave them: usage:
-snake_case.py, once, at the top of a tree that the present Rattle's port.py has turned. It turns whole words of .antt, .rt and .edit files in crates/;
+"""Turns this repository's own definitions, lemmas, fields and constructors from camel case to snake case, which the present Rattle's port.py
+leaves as they are: usage: snake_case.py, once, at the top of a tree that port.py has turned. It turns whole words of .antt, .rt and .edit files in crates/;
 docs/PORT.md says where it was used. Functions of src/, what C sees, strings, inputs and outputs had no such names."""
 
 import os
