@@ -1,6 +1,5 @@
 -- Running records: a task's name, the clock and the initial values at its start, and the task's numbers.
-use Rattle.std.specs.Prelude.{ℕ, cond, List, [], ◌∷◌, Option, Some, None, option_and_then, option_map}
-use Rattle.std.specs.Str.{bytes_eq}
+use Rattle.std.specs.Prelude.{ℕ, List, [], ◌∷◌, Option, Some, None, option_and_then, option_map}
 use Rattle.tasks.specs.declared.Running.{Running}
 use Rattle.tasks.specs.declared.Task.{Task}
 use Rattle.text.specs.Readers.{Read, Reader, give, ◌then◌, number8, number16, number64, ◌means◌, named, by_next}

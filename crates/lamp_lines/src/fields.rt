@@ -15,10 +15,9 @@ use text::words::Words;
 pub fn bounds(words: &mut Words) -> Option<Bounds>
     ensures { Reads (bounds_at words.old) result words.new }
 {
-    Some(Bounds {
-        min: words.read()?,
-        max: words.read()?,
-    })
+    let min = words.read()?;
+    let max = words.read()?;
+    Some(Bounds { min, max })
 }
 
 #[tactic(auto, unfolding(crate::specs::Fields::stamps_at))]

@@ -15,11 +15,10 @@ use text::words::Words;
 fn dashed<T: FromWord>(words: &mut Words) -> Option<Option<T>>
     ensures { Reads (dashed T.meaning words.old) result words.new }
 {
-    let word = words.word()?;
-    if word == b"-".as_slice() {
-        return Some(None);
+    match words.word()? {
+        b"-" => Some(None),
+        word => Some(Some(T::from_word(word)?)),
     }
-    Some(Some(T::from_word(word)?))
 }
 
 #[tactic(auto, unfolding(crate::specs::Moves::delta_at))]
@@ -106,7 +105,7 @@ fn color_loop(words: &mut Words) -> Option<Task>
     }))
 }
 
-// The task of a name, with its numbers behind it. A `match` on so many names isn't proved: it looks at their bytes one by one.
+// The task of a name, with its numbers behind it. (A `match` on names of more than a few letters is not proved.)
 #[tactic(auto, unfolding(crate::specs::Moves::task_at))]
 pub fn task(name: &[u8], words: &mut Words) -> Option<Task>
     ensures { Reads (task_at name.now words.old) result words.new }

@@ -108,9 +108,8 @@ fn record_by_name(name: &[u8], words: &mut Words) -> Option<Running>
 pub fn running(words: &mut Words) -> Option<Running>
     ensures { Reads (running_at words.old) result words.new }
 {
-    let name = words.word()?;
-    if name == b"idle".as_slice() {
-        return Some(Running::Idle);
+    match words.word()? {
+        b"idle" => Some(Running::Idle),
+        name => record_by_name(name, words),
     }
-    record_by_name(name, words)
 }
