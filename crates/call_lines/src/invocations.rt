@@ -158,12 +158,17 @@ fn step_color_temperature(words: &mut Words) -> Option<Command>
 fn color_loop_set(words: &mut Words) -> Option<Command>
     ensures { Reads (color_loop_set_at words.old) result words.new }
 {
+    let flags = words.read()?;
+    let action = enumerated(words)?;
+    let direction = enumerated(words)?;
+    let time = words.read()?;
+    let start_hue = words.read()?;
     Some(Command::ColorLoopSet {
-        flags: words.read()?,
-        action: enumerated(words)?,
-        direction: enumerated(words)?,
-        time: words.read()?,
-        start_hue: words.read()?,
+        flags,
+        action,
+        direction,
+        time,
+        start_hue,
     })
 }
 
