@@ -5,3 +5,4 @@ pub mod NumberLaws
 pub mod PairLaws
 pub mod NamedLaws
 pub mod ReadLaws
+pub mod BufferLaws

@@ -5,9 +5,9 @@ ghost use Rattle.text.specs.Words.{word_at};
 ghost use Rattle.text.specs.Pairs.{is_pairs, bytes_of, no_bytes, bytes_taken, bytes_read};
 ghost use Rattle.text.specs.Written.{pasted, Written};
 
+use crate::buffer;
 use crate::digits::{hex_value, is_hex_digit};
 use crate::words::{LOST, end, in_word, start};
-use crate::writer;
 
 // How many bytes were read, and where their word ended.
 #[derive(Clone, Copy)]
@@ -58,7 +58,7 @@ fn take_pairs(line: &[u8], from: usize, out: &mut [u8]) -> usize
     let mut at = from;
     let mut to = 0;
     while in_word(line, at) {
-        to = writer::byte(out, to, pair(line, at));
+        to = buffer::write(out, to, &[pair(line, at)]);
         at += 2;
     }
     to

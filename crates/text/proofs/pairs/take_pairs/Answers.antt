@@ -31,7 +31,7 @@ loop-out-preserved c =
       pairs = pairs_next line at in_word pair ∙ c.loop-out.invariant.pairs;
       left = completes-less c.args.out.now 0 (bytes_of (word_at line c.args.from)) c.loop-out.out c.loop-out.to (byte_at line at ∷ []) (bytes_of (word_at line (at + 2)))
           (rw (bytes_next line at in_word pair) at c.loop-out.invariant.left)
-          (rw c.pair.ensures at c.byte-to.ensures);
+          (rw c.pair.ensures at c.write-to.ensures);
     }
 
 pub returns : goal.returns
