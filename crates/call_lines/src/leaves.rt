@@ -1,15 +1,15 @@
 // A leaf's function, asked for its answer: no lamp has a part in it.
 ghost use Rattle.std.specs.Prelude.{◌≡◌};
 ghost use Rattle.text.specs.Readers.{Reads};
-ghost use Rattle.text.specs.Written.{Written};
-ghost use Rattle.call_lines.specs.Leaves.{delta_asked_at, remaining_asked_at, leave_asked_at, mode_of_asked_at, current_hue_asked_at, leaf_at, bit_text, delta_text, remaining_text, leave_text, mode_of_text, current_hue_text, leaf_text};
+ghost use Rattle.std.specs.List.{fold};
+ghost use Rattle.call_lines.specs.Leaves.{delta_asked_at, remaining_asked_at, leave_asked_at, mode_of_asked_at, current_hue_asked_at, leaf_at, bit_text, delta_text, remaining_text, leave_text, leaf_text};
 
 use crate::invocations;
 use lamp_lines::enums::{enumerated, on_off};
 use matter::{CommandOptions, DirectionEnum, EnhancedColorModeEnum, OnOff};
 use remaining_time::RemainingTime;
 use text::words::Words;
-use text::writer;
+use text::writer::{Sink, decimal, signed};
 
 #[derive(Clone, Copy)]
 pub struct DeltaAsked {
@@ -109,73 +109,55 @@ pub fn read(words: &mut Words) -> Option<Leaf>
     }
 }
 
-fn bit(out: &mut [u8], at: usize, b: bool) -> usize
-    ensures { Written out.old at (bit_text b) out.new result }
+fn bit<S: Sink>(out: &mut S, b: bool)
+    ensures { out.new ≡ fold S.push out.old (bit_text b) }
 {
-    if b {
-        writer::byte(out, at, b'1')
-    } else {
-        writer::byte(out, at, b'0')
-    }
+    out.byte(if b { b'1' } else { b'0' });
 }
 
 #[tactic(auto, unfolding(crate::specs::Leaves::delta_text))]
-fn delta(asked: DeltaAsked, out: &mut [u8], at: usize) -> usize
-    ensures { Written out.old at (delta_text asked) out.new result }
+fn delta<S: Sink>(asked: DeltaAsked, out: &mut S)
+    ensures { out.new ≡ fold S.push out.old (delta_text asked) }
 {
-    let direction = asked.direction;
-    let path = hue::hue_path_delta(asked.current, asked.target, direction);
-    let a = writer::signed(out, at, path.delta as i64);
-    let b = writer::byte(out, a, b' ');
-    bit(out, b, path.is_tie)
+    let path = hue::hue_path_delta(asked.current, asked.target, asked.direction);
+    signed(out, path.delta as i64);
+    out.byte(b' ');
+    bit(out, path.is_tie);
 }
 
 #[tactic(auto, unfolding(crate::specs::Leaves::remaining_text))]
-fn remaining(asked: RemainingAsked, out: &mut [u8], at: usize) -> usize
-    ensures { Written out.old at (remaining_text asked) out.new result }
+fn remaining<S: Sink>(asked: RemainingAsked, out: &mut S)
+    ensures { out.new ≡ fold S.push out.old (remaining_text asked) }
 {
     let old = RemainingTime { tenths: asked.old };
     let written = old.write_remaining_time_quietly(asked.ms, asked.is_start);
-    let now = written.remaining;
-    let a = bit(out, at, written.reported);
-    let b = writer::byte(out, a, b' ');
-    writer::decimal(out, b, now.tenths as u64)
+    bit(out, written.reported);
+    out.byte(b' ');
+    decimal(out, written.remaining.tenths as u64);
 }
 
-fn may_execute(asked: LeaveAsked, out: &mut [u8], at: usize) -> usize
-    ensures { Written out.old at (leave_text asked) out.new result }
+fn may_execute<S: Sink>(asked: LeaveAsked, out: &mut S)
+    ensures { out.new ≡ fold S.push out.old (leave_text asked) }
 {
-    let on_off = asked.on_off;
-    let given = asked.given;
-    let may = matter::should_continue(on_off, asked.options, given.mask, given.overrides);
-    bit(out, at, may)
+    let LeaveAsked {
+        on_off,
+        options,
+        given,
+    } = asked;
+    let may = matter::should_continue(on_off, options, given.mask, given.overrides);
+    bit(out, may);
 }
 
-fn mode_of(emode: EnhancedColorModeEnum, out: &mut [u8], at: usize) -> usize
-    ensures { Written out.old at (mode_of_text emode) out.new result }
-{
-    let mode = matter::color_mode_of(emode);
-    let number = mode.number();
-    writer::decimal(out, at, number as u64)
-}
-
-fn current_hue(stored: u16, out: &mut [u8], at: usize) -> usize
-    ensures { Written out.old at (current_hue_text stored) out.new result }
-{
-    let current = hue::current_hue(stored);
-    writer::decimal(out, at, current as u64)
-}
-
-// Writes the answer, without a newline.
+// Puts the answer, without a newline.
 #[tactic(auto, unfolding(crate::specs::Leaves::leaf_text))]
-pub fn ask(leaf: Leaf, out: &mut [u8], at: usize) -> usize
-    ensures { Written out.old at (leaf_text leaf) out.new result }
+pub fn ask<S: Sink>(leaf: Leaf, out: &mut S)
+    ensures { out.new ≡ fold S.push out.old (leaf_text leaf) }
 {
     match leaf {
-        Leaf::Delta(asked) => delta(asked, out, at),
-        Leaf::Remaining(asked) => remaining(asked, out, at),
-        Leaf::Leave(asked) => may_execute(asked, out, at),
-        Leaf::ModeOf(emode) => mode_of(emode, out, at),
-        Leaf::CurrentHue(stored) => current_hue(stored, out, at),
+        Leaf::Delta(asked) => delta(asked, out),
+        Leaf::Remaining(asked) => remaining(asked, out),
+        Leaf::Leave(asked) => may_execute(asked, out),
+        Leaf::ModeOf(emode) => decimal(out, matter::color_mode_of(emode).number() as u64),
+        Leaf::CurrentHue(stored) => decimal(out, hue::current_hue(stored) as u64),
     }
 }

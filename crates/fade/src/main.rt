@@ -28,17 +28,14 @@ fn read_line(from: &mut impl Read, block: &mut [u8]) -> Reader {
 }
 
 // Writes the run's text, a block at a time, until it is over or nobody reads it.
-fn write_run(start: Fade, block: &mut [u8], to: &mut impl Write)
+fn write_run(mut fade: Fade, block: &mut [u8], to: &mut impl Write)
     requires { 512 ≤ length block.old }
 {
-    let mut fade = start;
-    let mut is_read = true;
-    while is_read && !fade.is_over() {
-        let written = fade.write(block);
-        let n = written.len;
-        is_read = to.write_all(&block[..n]).is_ok();
-        let next = written.fade;
-        fade = next;
+    while !fade.is_over() {
+        let n = fade.write(block);
+        if to.write_all(&block[..n]).is_err() {
+            break;
+        }
     }
 }
 

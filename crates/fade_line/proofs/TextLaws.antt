@@ -1,18 +1,22 @@
 -- Laws of `fade`'s texts: room for a line, how long the texts are, and document 01's example.
 use Prim.Native.Nat.{ℕ, ◌+◌, ◌*◌, ◌≤◌, ◌<◌, min}
 use native.Mathlib.Omega.{arith}
-use mathlib.Core.Path.{◌≡◌, refl, sym, ap, ◌∙◌}
+use mathlib.Core.Path.{◌≡◌, refl, sym, ◌∙◌}
 use mathlib.Core.Logic.{⊎_elim}
 use mathlib.Core.Bool.{Bool, true, false, cond}
-use mathlib.Core.List.{List, [], ◌∷◌}
+use mathlib.Core.List.{List, [], ◌∷◌, ◌++◌, append_assoc, append-nil}
 use borrow.Author.Tests.{leb-true, le-leb}
-use lib.ListN.{length, take, drop, get_or, length-append, length-take, drop_of_length-le}
-use lib.Seq.{take_all, take-length, take-append_seam, length-take-le, get_or-take}
+use lib.ListN.{length, take, get_or, length-append}
+use lib.Seq.{take_all, take-length, take-append_seam}
 use Rattle.notices.specs.Notices.{filled, noted}
 use Rattle.text.specs.Digits.{decimal_in, decimal}
 use Rattle.text.specs.Written.{Wrote, Written}
+use Rattle.text.specs.declared.buffer.Buffer.{Buffer}
+use Rattle.text.specs.Buffers.{with_byte}
+use Rattle.text.proofs.BufferLaws.{written}
 use Rattle.text.proofs.DigitLaws.{decimal-short}
-use Rattle.std.proofs.lemmas.List.{drop_more}
+use Rattle.std.specs.List.{fold}
+use Rattle.std.proofs.lemmas.List.{take_more}
 use Rattle.text.proofs.WriteLaws.{side, wrote_none, wrote-all}
 use Rattle.fade_line.specs.declared.writer.Line.{Line}
 use Rattle.fade_line.specs.Text.{spaced, spaced_all, numbers, state_text, line_text, refused_text, room_for, fitting}
@@ -47,7 +51,22 @@ pub wrote_nothing : (old : List ℕ) (at : ℕ) (text : List ℕ) → room_for a
 unfolding fitting
 wrote_nothing old at text e = simp e (wrote_none old at)
 
+-- what is put into a slice with room is all written
+pub put_fitting : (b : Buffer) (text : List ℕ) {new : Buffer} → new ≡ fold with_byte b text → room_for b.at (length b.out.now) ≡ true → length text ≤ 512
+    → Wrote b.out.now b.at (fitting b.out.now b.at text) new.out.now new.at
+put_fitting b text put e short = rw put (wrote-fitting b.out.now b.at text e short (written b text))
+
 -- ---- numbers after blanks
+
+spaced-join : (ms ns : List ℕ) → spaced_all (ms ++ ns) ≡ spaced_all ms ++ spaced_all ns
+unfolding spaced_all
+spaced-join [] ns = refl
+spaced-join (m ∷ ms) ns = rw (spaced-join ms ns, append_assoc)
+
+-- one number more
+pub spaced_more : (ns : List ℕ) (i : ℕ) → i < length ns → spaced_all (take (i + 1) ns) ≡ spaced_all (take i ns) ++ spaced (get_or ns i 0)
+unfolding spaced_all
+spaced_more ns i h = rw (take_more ns i 0 h, spaced-join, append-nil)
 
 pub spaced-short : (n : ℕ) → length (spaced n) ≤ 21
 unfolding spaced
@@ -72,13 +91,6 @@ take_min n l =
     (λ below. let e : min n (length l) ≡ n = omega arith in rw e)
     (λ from. let e : min n (length l) ≡ length l = omega arith in rw e (take-length l ∙ sym (take_all n l from)))
     (side n (length l))
-
--- of a list's first n, what is left from i on
-pub left-next : (l : List ℕ) (n i : ℕ) → i < n → n ≤ length l → drop i (take n l) ≡ get_or l i 0 ∷ drop (i + 1) (take n l)
-left-next l n i h within = drop_more (take n l) i 0 (rw (length-take-le n l within) h) ∙ ap (λ (x : ℕ). x ∷ drop (i + 1) (take n l)) (get_or-take n l i 0 h)
-
-pub left-none : (l : List ℕ) (n i : ℕ) → n ≤ i → drop i (take n l) ≡ []
-left-none l n i h = drop_of_length-le (take n l) {i = i} (rw length-take (omega arith))
 
 pub state-short : (line : Line) → length (state_text line) ≤ 84
 unfolding state_text

@@ -1,12 +1,14 @@
-// Writing `fade`'s lines into a caller's slice. Each function writes from `at` on and gives the place after what it
-// wrote. The public ones write nothing, and give `at`, where the slice has no room for the longest line.
+// Writing `fade`'s lines. The public functions write into a caller's slice from `at` on and give the place after what they
+// wrote: where the slice has no room for the longest line, nothing, and `at`.
 ghost use Rattle.std.specs.Prelude.{◌≡◌, ◌+◌, min, length};
-ghost use Rattle.text.specs.Written.{pasted, Written};
+ghost use Rattle.std.specs.List.{fold};
+ghost use Rattle.text.specs.Written.{pasted};
 ghost use Rattle.fade_line.specs.Text.{spaced, spaced_all, numbers, state_text, line_text, refused_text, bad_line_text, room_for, fitting};
 
 use notices::Notices;
-use text::writer;
-use text::writer::{byte, decimal};
+use text::buffer;
+use text::buffer::Buffer;
+use text::writer::{Sink, decimal, text};
 
 // More than any line takes.
 pub const LONGEST: usize = 512;
@@ -25,50 +27,55 @@ pub struct Line {
 fn has_room(at: usize, len: usize) -> bool
     ensures { result ≡ room_for at len }
 {
-    if len < at {
-        return false;
-    }
-    LONGEST <= len - at
+    at <= len && LONGEST <= len - at
 }
 
 // A number after a blank.
-fn spaced(out: &mut [u8], at: usize, n: u64) -> usize
-    ensures { Written out.old at (spaced n) out.new result }
+#[tactic(auto, unfolding(crate::specs::Text::spaced))]
+fn spaced<S: Sink>(out: &mut S, n: u64)
+    ensures { out.new ≡ fold S.push out.old (spaced n) }
 {
-    let next = byte(out, at, b' ');
-    decimal(out, next, n)
+    out.byte(b' ');
+    decimal(out, n);
 }
 
-// How many of the sixteen places a list uses.
-fn count(len: usize) -> usize
-    ensures { result ≡ min len 16 }
+fn notices<S: Sink>(out: &mut S, list: Notices)
+    ensures { out.new ≡ fold S.push out.old (spaced_all (numbers list)) }
 {
-    if len < 16 { len } else { 16 }
-}
-
-fn notices(out: &mut [u8], at: usize, list: Notices) -> usize
-    ensures { Written out.old at (spaced_all (numbers list)) out.new result }
-{
-    let places = list.places;
-    let count = count(list.len);
-    let mut next = at;
-    let mut i = 0;
-    while i < count {
-        next = spaced(out, next, places[i] as u64);
-        i += 1;
+    let used = list.len.min(16);
+    for number in &list.places[..used] {
+        spaced(out, *number as u64);
     }
-    next
 }
 
 // Clock, hue, remaining tenths and wait, and a colon.
-fn state(out: &mut [u8], at: usize, line: Line) -> usize
-    ensures { Written out.old at (state_text line) out.new result }
+#[tactic(auto, unfolding(crate::specs::Text::state_text))]
+fn state<S: Sink>(out: &mut S, line: Line)
+    ensures { out.new ≡ fold S.push out.old (state_text line) }
 {
-    let hue = decimal(out, at, line.clock);
-    let tenths = spaced(out, hue, line.hue as u64);
-    let wait = spaced(out, tenths, line.tenths as u64);
-    let colon = spaced(out, wait, line.wait);
-    byte(out, colon, b':')
+    decimal(out, line.clock);
+    spaced(out, line.hue as u64);
+    spaced(out, line.tenths as u64);
+    spaced(out, line.wait);
+    out.byte(b':');
+}
+
+#[tactic(auto, unfolding(crate::specs::Text::line_text))]
+fn report<S: Sink>(out: &mut S, line: Line)
+    ensures { out.new ≡ fold S.push out.old (line_text line) }
+{
+    state(out, line);
+    notices(out, line.notices);
+    out.byte(b'\n');
+}
+
+#[tactic(auto, unfolding(crate::specs::Text::refused_text))]
+fn refusal<S: Sink>(out: &mut S, number: u8)
+    ensures { out.new ≡ fold S.push out.old (refused_text number) }
+{
+    text(out, b"refused");
+    spaced(out, number as u64);
+    out.byte(b'\n');
 }
 
 pub fn write_line(out: &mut [u8], at: usize, line: Line) -> usize
@@ -78,10 +85,9 @@ pub fn write_line(out: &mut [u8], at: usize, line: Line) -> usize
     if !has_room(at, out.len()) {
         return at;
     }
-    let list = line.notices;
-    let after = state(out, at, line);
-    let end = notices(out, after, list);
-    byte(out, end, b'\n')
+    let mut to = Buffer { out, at };
+    report(&mut to, line);
+    to.at
 }
 
 pub fn write_refused(out: &mut [u8], at: usize, number: u8) -> usize
@@ -91,9 +97,9 @@ pub fn write_refused(out: &mut [u8], at: usize, number: u8) -> usize
     if !has_room(at, out.len()) {
         return at;
     }
-    let blank = writer::text(out, at, b"refused");
-    let last = spaced(out, blank, number as u64);
-    byte(out, last, b'\n')
+    let mut to = Buffer { out, at };
+    refusal(&mut to, number);
+    to.at
 }
 
 pub fn write_bad_line(out: &mut [u8], at: usize) -> usize
@@ -103,5 +109,5 @@ pub fn write_bad_line(out: &mut [u8], at: usize) -> usize
     if !has_room(at, out.len()) {
         return at;
     }
-    writer::text(out, at, b"bad line\n")
+    buffer::write(out, at, b"bad line\n")
 }

@@ -46,10 +46,10 @@ fn start_of(lamp: Lamp, given: GivenTask, clock: u64, left: u16) -> Fade
     match given {
         GivenTask::Nothing => Fade::Over,
         GivenTask::Given(task) => Fade::Start(Starting {
-            lamp: lamp,
-            task: task,
-            clock: clock,
-            left: left,
+            lamp,
+            task,
+            clock,
+            left,
         }),
     }
 }
@@ -60,18 +60,15 @@ fn after_command(answer: Answer, clock: u64, left: u16) -> Fade
     if answer.number != ACCEPTED {
         return Fade::Refused(answer.number);
     }
-    let lamp = answer.lamp;
-    let given = answer.task;
-    start_of(lamp, given, clock, left)
+    start_of(answer.lamp, answer.task, clock, left)
 }
 
 fn command(lamp: Lamp, wanted: Wanted) -> Fade
     ensures { result ≡ commanded wanted.tenths wanted lamp }
 {
-    let direction = wanted.direction;
     let command = Command::MoveToHue {
         hue: wanted.hue,
-        direction: direction,
+        direction: wanted.direction,
         time: wanted.tenths,
     };
     let options = CommandOptions {
@@ -94,27 +91,16 @@ fn begin(wanted: Wanted) -> Fade
     }
 }
 
-// What is left of a run once some of it is written, and the place after that.
-#[derive(Clone, Copy)]
-pub struct Written {
-    pub fade: Fade,
-    pub len: usize,
-}
-
 #[tactic(auto, unfolding(crate::specs::Run::line_of))]
 fn line_of(answer: Answer, clock: u64) -> Line
     ensures { result ≡ line_of answer clock }
 {
-    let lamp = answer.lamp;
-    let color = lamp.color;
-    let remaining = lamp.remaining;
-    let notices = answer.notices;
     Line {
-        clock: clock,
-        hue: color.hue,
-        tenths: remaining.tenths,
+        clock,
+        hue: answer.lamp.color.hue,
+        tenths: answer.lamp.remaining.tenths,
         wait: answer.wait,
-        notices: notices,
+        notices: answer.notices,
     }
 }
 
@@ -124,19 +110,11 @@ fn step_of(answer: Answer, clock: u64, left: u16) -> Fade
     requires { clock + answer.wait < 2 ^ 64 }
     ensures { result ≡ step_of answer clock left }
 {
-    if answer.number != ACCEPTED {
-        return Fade::Over;
-    }
-    let lamp = answer.lamp;
-    let running = lamp.running;
-    if !running.is_running() {
-        return Fade::Over;
-    }
-    if left == 0 {
+    if answer.number != ACCEPTED || !answer.lamp.running.is_running() || left == 0 {
         return Fade::Over;
     }
     Fade::Step(Stepping {
-        lamp: lamp,
+        lamp: answer.lamp,
         clock: clock + answer.wait,
         left: left - 1,
     })
@@ -149,55 +127,6 @@ fn write_answer(answer: Answer, clock: u64, out: &mut [u8], at: usize) -> usize
         return writer::write_refused(out, at, answer.number);
     }
     writer::write_line(out, at, line_of(answer, clock))
-}
-
-// An answer to a call at this clock is written.
-fn reported(answer: Answer, clock: u64, left: u16, out: &mut [u8], at: usize) -> Written
-    requires { clock + answer.wait < 2 ^ 64 }
-    ensures { (result.fade ≡ step_of answer clock left) × Wrote out.old at (fitting out.old at (one_text answer clock)) out.new result.len }
-{
-    let fade = step_of(answer, clock, left);
-    let end = write_answer(answer, clock, out, at);
-    Written {
-        fade: fade,
-        len: end,
-    }
-}
-
-fn last(end: usize) -> Written
-    ensures { result ≡ record { fade = Fade.Over; len = end } }
-{
-    Written {
-        fade: Fade::Over,
-        len: end,
-    }
-}
-
-fn start(starting: Starting, out: &mut [u8], at: usize) -> Written
-    ensures { (result.fade ≡ rest (Fade.Start starting)) × Wrote out.old at (fitting out.old at (next_text (Fade.Start starting))) out.new result.len }
-{
-    let lamp = starting.lamp;
-    let task = starting.task;
-    reported(
-        lamp.start(task, starting.clock),
-        starting.clock,
-        starting.left,
-        out,
-        at,
-    )
-}
-
-fn step(stepping: Stepping, out: &mut [u8], at: usize) -> Written
-    ensures { (result.fade ≡ rest (Fade.Step stepping)) × Wrote out.old at (fitting out.old at (next_text (Fade.Step stepping))) out.new result.len }
-{
-    let lamp = stepping.lamp;
-    reported(
-        lamp.step(stepping.clock),
-        stepping.clock,
-        stepping.left,
-        out,
-        at,
-    )
 }
 
 impl Fade {
@@ -215,47 +144,52 @@ impl Fade {
     pub fn is_over(self) -> bool
         ensures { result ≡ is_over self }
     {
-        match self {
-            Fade::BadLine => false,
-            Fade::Refused(_) => false,
-            Fade::Start(_) => false,
-            Fade::Step(_) => false,
-            Fade::Over => true,
-        }
+        matches!(self, Fade::Over)
+    }
+
+    // An answer to a call at this clock is written.
+    fn report(&mut self, answer: Answer, clock: u64, left: u16, out: &mut [u8], at: usize) -> usize
+        requires { clock + answer.wait < 2 ^ 64 }
+        ensures { (self.new ≡ step_of answer clock left) × Wrote out.old at (fitting out.old at (one_text answer clock)) out.new result }
+    {
+        *self = step_of(answer, clock, left);
+        write_answer(answer, clock, out, at)
     }
 
     // The next line is written from `at` on.
-    fn write_next(self, out: &mut [u8], at: usize) -> Written
-        ensures { (result.fade ≡ rest self) × Wrote out.old at (fitting out.old at (next_text self)) out.new result.len }
+    fn write_next(&mut self, out: &mut [u8], at: usize) -> usize
+        ensures { (self.new ≡ rest self.old) × Wrote out.old at (fitting out.old at (next_text self.old)) out.new result }
     {
-        match self {
-            Fade::BadLine => last(writer::write_bad_line(out, at)),
-            Fade::Refused(number) => last(writer::write_refused(out, at, number)),
-            Fade::Start(starting) => start(starting, out, at),
-            Fade::Step(stepping) => step(stepping, out, at),
-            Fade::Over => last(at),
+        let now = *self;
+        match now {
+            Fade::BadLine => {
+                *self = Fade::Over;
+                writer::write_bad_line(out, at)
+            }
+            Fade::Refused(number) => {
+                *self = Fade::Over;
+                writer::write_refused(out, at, number)
+            }
+            Fade::Start(s) => {
+                self.report(s.lamp.start(s.task, s.clock), s.clock, s.left, out, at)
+            }
+            Fade::Step(s) => self.report(s.lamp.step(s.clock), s.clock, s.left, out, at),
+            Fade::Over => at,
         }
     }
 
-    // As many lines as fit are written from the slice's beginning on. The contract leaves free how many (something is
-    // written where the run is not over and the slice has 512 places), what stands in the slice behind them, and of the
-    // run that is left all but its text.
-    pub fn write(self, out: &mut [u8]) -> Written
-        ensures fade_after { take result.len out.new ++ text result.fade ≡ text self }
-        ensures len_in_bounds { result.len ≤ length out.new }
-        ensures len_value { moved self (length out.old) result.len ≡ true }
+    // As many lines as fit are written from the slice's beginning on; the result is the place after them, and the run what
+    // is left of it. The contract leaves free how many (something is written where the run is not over and the slice has
+    // 512 places), what stands in the slice behind them, and of the run that is left all but its text.
+    pub fn write(&mut self, out: &mut [u8]) -> usize
+        ensures fade_after { take result out.new ++ text self.new ≡ text self.old }
+        ensures len_in_bounds { result ≤ length out.new }
+        ensures len_value { moved self.old (length out.old) result ≡ true }
     {
-        let mut fade = self;
         let mut at = 0;
-        while LONGEST <= out.len() - at && !fade.is_over() {
-            let written = fade.write_next(out, at);
-            let next = written.fade;
-            fade = next;
-            at = written.len;
+        while LONGEST <= out.len() - at && !self.is_over() {
+            at = self.write_next(out, at);
         }
-        Written {
-            fade: fade,
-            len: at,
-        }
+        at
     }
 }

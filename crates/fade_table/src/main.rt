@@ -15,8 +15,7 @@ fn put(to: &mut impl Write, bytes: &[u8]) {
 
 // The run that an input asks for, as far as the room goes.
 fn show_in(to: &mut impl Write, space: &mut [u8], name: &[u8], asked: Option<Wanted>) {
-    let written = Fade::new(asked).write(space);
-    let n = written.len;
+    let n = Fade::new(asked).write(space);
     put(to, b"== ");
     put(to, name);
     put(to, b"\n");

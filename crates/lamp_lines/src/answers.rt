@@ -1,275 +1,209 @@
-// Writing answers. As in `text`, what does not fit is left out; the caller makes room before a line.
+// Writing answers, into any sink.
 ghost use Rattle.std.specs.Prelude.{◌≡◌, ◌++◌};
+ghost use Rattle.std.specs.List.{fold};
 ghost use Rattle.text.specs.Ascii.{ascii};
-ghost use Rattle.text.specs.Written.{Written};
-ghost use Rattle.lamp_lines.specs.Answers.{number_text, signed_text, numbers_text, bit, lamp_numbers, notices_text, delta_text, target_text, task_text, given_text, status_text, running_text, reported_text, answer_text};
+ghost use Rattle.lamp_lines.specs.Answers.{number_text, signed_text, numbers_text, lamp_numbers, notices_text, delta_text, target_text, task_text, given_text, status_text, running_text, reported_text, answer_text};
 
 use lamp::{Answer, Lamp};
 use notices::Notices;
-use tasks::{
-    ColorLoop, ColorTemperatureMove, ColorTemperatureMoveTo, GivenTask, HueDelta, HueMove,
-    HueSaturationMoveTo, Running, SaturationMove, TargetSaturation, Task,
-};
-use text::writer::{byte, decimal, signed, text};
+use tasks::{GivenTask, HueDelta, Running, TargetSaturation, Task};
+use text::writer::{Sink, decimal, signed, text};
 
-pub fn bar(out: &mut [u8], at: usize) -> usize
-    ensures { Written out.old at (ascii " |") out.new result }
+pub fn bar<S: Sink>(out: &mut S)
+    ensures { out.new ≡ fold S.push out.old (ascii " |") }
 {
-    text(out, at, b" |")
+    text(out, b" |");
 }
 
 // A number after a blank.
 #[tactic(auto, unfolding(crate::specs::Answers::number_text))]
-pub fn number(out: &mut [u8], at: usize, n: u64) -> usize
-    ensures { Written out.old at (number_text n) out.new result }
+pub fn number<S: Sink>(out: &mut S, n: u64)
+    ensures { out.new ≡ fold S.push out.old (number_text n) }
 {
-    let next = byte(out, at, b' ');
-    decimal(out, next, n)
+    out.byte(b' ');
+    decimal(out, n);
 }
 
 // The same of a signed number.
 #[tactic(auto, unfolding(crate::specs::Answers::signed_text))]
-fn signed_number(out: &mut [u8], at: usize, n: i64) -> usize
-    ensures { Written out.old at (signed_text n) out.new result }
+fn signed_number<S: Sink>(out: &mut S, n: i64)
+    ensures { out.new ≡ fold S.push out.old (signed_text n) }
 {
-    let next = byte(out, at, b' ');
-    signed(out, next, n)
+    text(out, b" ");
+    signed(out, n);
 }
 
-fn flag(b: bool) -> u64
-    ensures { result ≡ bit b }
+#[tactic(auto, unfolding(crate::specs::Answers::numbers_text))]
+pub fn numbers<S: Sink>(out: &mut S, list: &[u64])
+    ensures { out.new ≡ fold S.push out.old (numbers_text list.now) }
 {
-    if b { 1 } else { 0 }
-}
-
-fn numbers(out: &mut [u8], at: usize, list: &[u64]) -> usize
-    ensures { Written out.old at (numbers_text list.now) out.new result }
-{
-    let mut end = at;
-    let mut i = 0;
-    while i < list.len() {
-        end = number(out, end, list[i]);
-        i += 1;
+    for n in list {
+        number(out, *n);
     }
-    end
 }
 
 // A name, and numbers after it.
-fn named(out: &mut [u8], at: usize, name: &[u8], list: &[u64]) -> usize
-    ensures { Written out.old at (name.now ++ numbers_text list.now) out.new result }
+fn named<S: Sink>(out: &mut S, name: &[u8], list: &[u64])
+    ensures { out.new ≡ fold S.push out.old (name.now ++ numbers_text list.now) }
 {
-    let next = text(out, at, name);
-    numbers(out, next, list)
+    text(out, name);
+    numbers(out, list);
 }
 
 // A lamp's fields, in the protocol's order.
 pub fn lamp_numbers(lamp: Lamp) -> [u64; 18]
     ensures { result ≡ lamp_numbers lamp }
 {
-    let bounds = lamp.bounds;
-    let remaining = lamp.remaining;
-    let color = lamp.color;
-    let stamps = color.stamps;
-    let mode = color.mode;
-    let emode = color.emode;
-    let looping = lamp.looping;
-    let direction = looping.direction;
+    let Lamp {
+        bounds,
+        clock,
+        options,
+        remaining,
+        color,
+        looping,
+        ..
+    } = lamp;
     [
         bounds.min as u64,
         bounds.max as u64,
-        lamp.clock,
-        lamp.options as u64,
+        clock,
+        options as u64,
         remaining.tenths as u64,
-        stamps.hue,
-        stamps.saturation,
-        stamps.mireds,
+        color.stamps.hue,
+        color.stamps.saturation,
+        color.stamps.mireds,
         color.hue as u64,
         color.saturation as u64,
         color.mireds as u64,
-        mode.number() as u64,
-        emode.number() as u64,
-        flag(looping.active),
-        direction.number() as u64,
+        color.mode.number() as u64,
+        color.emode.number() as u64,
+        looping.active as u64,
+        looping.direction.number() as u64,
         looping.time as u64,
         looping.start as u64,
         looping.stored as u64,
     ]
 }
 
-fn fields(out: &mut [u8], at: usize, lamp: Lamp) -> usize
-    ensures { Written out.old at (numbers_text (lamp_numbers lamp)) out.new result }
-{
-    let list = lamp_numbers(lamp);
-    numbers(out, at, &list)
-}
-
 // The notices in their order; `-` where there is none.
-#[tactic(auto, unfolding(crate::specs::Answers::notices_text))]
-fn notices(out: &mut [u8], at: usize, list: Notices) -> usize
-    ensures { Written out.old at (notices_text list) out.new result }
+#[tactic(auto, unfolding(crate::specs::Answers::notices_text, crate::specs::Answers::numbers_text))]
+fn notices<S: Sink>(out: &mut S, list: Notices)
+    ensures { out.new ≡ fold S.push out.old (notices_text list) }
 {
-    let places = list.places;
-    let len = list.len;
-    if len == 0 {
-        return text(out, at, b" -");
+    if list.len == 0 {
+        return text(out, b" -");
     }
-    let mut end = at;
-    let mut i = 0;
-    while i < 16 {
-        if len <= i {
-            break;
-        }
-        end = number(out, end, places[i] as u64);
-        i += 1;
+    let used = list.len.min(16);
+    for notice in &list.places[..used] {
+        number(out, *notice as u64);
     }
-    end
 }
 
-fn delta(out: &mut [u8], at: usize, delta: HueDelta) -> usize
-    ensures { Written out.old at (delta_text delta) out.new result }
+fn delta<S: Sink>(out: &mut S, delta: HueDelta)
+    ensures { out.new ≡ fold S.push out.old (delta_text delta) }
 {
     match delta {
-        HueDelta::Keep => text(out, at, b" -"),
-        HueDelta::By(delta) => signed_number(out, at, delta),
+        HueDelta::Keep => text(out, b" -"),
+        HueDelta::By(delta) => signed_number(out, delta),
     }
 }
 
-fn target(out: &mut [u8], at: usize, target: TargetSaturation) -> usize
-    ensures { Written out.old at (target_text target) out.new result }
+fn target<S: Sink>(out: &mut S, target: TargetSaturation)
+    ensures { out.new ≡ fold S.push out.old (target_text target) }
 {
     match target {
-        TargetSaturation::Keep => text(out, at, b" -"),
-        TargetSaturation::To(saturation) => number(out, at, saturation as u64),
+        TargetSaturation::Keep => text(out, b" -"),
+        TargetSaturation::To(saturation) => number(out, saturation as u64),
     }
 }
 
-fn move_to(out: &mut [u8], at: usize, task: HueSaturationMoveTo) -> usize
-    ensures { Written out.old at (task_text (Task.HueSaturationMoveTo task)) out.new result }
-{
-    let hue = task.delta;
-    let saturation = task.saturation;
-    let a = text(out, at, b" move_to");
-    let b = delta(out, a, hue);
-    let c = target(out, b, saturation);
-    numbers(out, c, &[task.ms as u64, flag(task.enhanced)])
-}
-
-fn hue_move(out: &mut [u8], at: usize, task: HueMove) -> usize
-    ensures { Written out.old at (task_text (Task.HueMove task)) out.new result }
-{
-    let direction = task.direction;
-    let list = [
-        direction.number() as u64,
-        task.rate as u64,
-        flag(task.enhanced),
-    ];
-    named(out, at, b" hue_move", &list)
-}
-
-fn saturation_move(out: &mut [u8], at: usize, task: SaturationMove) -> usize
-    ensures { Written out.old at (task_text (Task.SaturationMove task)) out.new result }
-{
-    let direction = task.direction;
-    named(
-        out,
-        at,
-        b" sat_move",
-        &[direction.number() as u64, task.rate as u64],
-    )
-}
-
-fn mireds_to(out: &mut [u8], at: usize, task: ColorTemperatureMoveTo) -> usize
-    ensures { Written out.old at (task_text (Task.ColorTemperatureMoveTo task)) out.new result }
-{
-    named(out, at, b" ct_to", &[task.target as u64, task.ms as u64])
-}
-
-fn mireds_move(out: &mut [u8], at: usize, task: ColorTemperatureMove) -> usize
-    ensures { Written out.old at (task_text (Task.ColorTemperatureMove task)) out.new result }
-{
-    let a = text(out, at, b" ct_move");
-    let b = signed_number(out, a, task.rate);
-    numbers(out, b, &[task.min as u64, task.max as u64])
-}
-
-fn color_loop(out: &mut [u8], at: usize, task: ColorLoop) -> usize
-    ensures { Written out.old at (task_text (Task.ColorLoop task)) out.new result }
-{
-    let direction = task.direction;
-    named(
-        out,
-        at,
-        b" loop",
-        &[direction.number() as u64, task.seconds as u64],
-    )
-}
-
-fn task(out: &mut [u8], at: usize, task: Task) -> usize
-    ensures { Written out.old at (task_text task) out.new result }
+fn task<S: Sink>(out: &mut S, task: Task)
+    ensures { out.new ≡ fold S.push out.old (task_text task) }
 {
     match task {
-        Task::HueSaturationMoveTo(t) => move_to(out, at, t),
-        Task::HueMove(t) => hue_move(out, at, t),
-        Task::SaturationMove(t) => saturation_move(out, at, t),
-        Task::ColorTemperatureMoveTo(t) => mireds_to(out, at, t),
-        Task::ColorTemperatureMove(t) => mireds_move(out, at, t),
-        Task::ColorLoop(t) => color_loop(out, at, t),
-        Task::Stop => text(out, at, b" stop"),
+        Task::HueSaturationMoveTo(t) => {
+            text(out, b" move_to");
+            delta(out, t.delta);
+            target(out, t.saturation);
+            numbers(out, &[t.ms as u64, t.enhanced as u64]);
+        }
+        Task::HueMove(t) => named(
+            out,
+            b" hue_move",
+            &[
+                t.direction.number() as u64,
+                t.rate as u64,
+                t.enhanced as u64,
+            ],
+        ),
+        Task::SaturationMove(t) => named(
+            out,
+            b" sat_move",
+            &[t.direction.number() as u64, t.rate as u64],
+        ),
+        Task::ColorTemperatureMoveTo(t) => named(out, b" ct_to", &[t.target as u64, t.ms as u64]),
+        Task::ColorTemperatureMove(t) => {
+            text(out, b" ct_move");
+            signed_number(out, t.rate);
+            numbers(out, &[t.min as u64, t.max as u64]);
+        }
+        Task::ColorLoop(t) => named(
+            out,
+            b" loop",
+            &[t.direction.number() as u64, t.seconds as u64],
+        ),
+        Task::Stop => text(out, b" stop"),
     }
 }
 
-fn given(out: &mut [u8], at: usize, given: GivenTask) -> usize
-    ensures { Written out.old at (given_text given) out.new result }
+fn given<S: Sink>(out: &mut S, given: GivenTask)
+    ensures { out.new ≡ fold S.push out.old (given_text given) }
 {
     match given {
-        GivenTask::Nothing => text(out, at, b" -"),
-        GivenTask::Given(t) => task(out, at, t),
+        GivenTask::Nothing => text(out, b" -"),
+        GivenTask::Given(t) => task(out, t),
     }
 }
 
-pub fn status(out: &mut [u8], at: usize, number: u8) -> usize
-    ensures { Written out.old at (status_text number) out.new result }
+pub fn status<S: Sink>(out: &mut S, number: u8)
+    ensures { out.new ≡ fold S.push out.old (status_text number) }
 {
     if number == 0 {
-        return text(out, at, b"ok");
+        return text(out, b"ok");
     }
-    named(out, at, b"refused", &[number as u64])
+    named(out, b"refused", &[number as u64]);
 }
 
-fn ending(out: &mut [u8], at: usize, running: Running) -> usize
-    ensures { Written out.old at (running_text running) out.new result }
+pub fn ending<S: Sink>(out: &mut S, running: Running)
+    ensures { out.new ≡ fold S.push out.old (running_text running) }
 {
     if running.is_running() {
-        text(out, at, b" running")
+        text(out, b" running");
     } else {
-        text(out, at, b" idle")
+        text(out, b" idle");
     }
 }
 
 // The notices, the task given and the wait.
-fn reported(out: &mut [u8], at: usize, list: Notices, task: GivenTask, wait: u64) -> usize
-    ensures { Written out.old at (reported_text list task wait) out.new result }
+fn reported<S: Sink>(out: &mut S, list: Notices, task: GivenTask, wait: u64)
+    ensures { out.new ≡ fold S.push out.old (reported_text list task wait) }
 {
-    let a = bar(out, at);
-    let b = notices(out, a, list);
-    let c = bar(out, b);
-    let d = given(out, c, task);
-    let e = bar(out, d);
-    number(out, e, wait)
+    bar(out);
+    notices(out, list);
+    bar(out);
+    given(out, task);
+    bar(out);
+    number(out, wait);
 }
 
 #[tactic(auto, unfolding(crate::specs::Answers::answer_text))]
-pub fn answer(out: &mut [u8], at: usize, answer: Answer) -> usize
-    ensures { Written out.old at (answer_text answer) out.new result }
+pub fn answer<S: Sink>(out: &mut S, answer: Answer)
+    ensures { out.new ≡ fold S.push out.old (answer_text answer) }
 {
-    let lamp = answer.lamp;
-    let running = lamp.running;
-    let list = answer.notices;
-    let task = answer.task;
-    let a = status(out, at, answer.number);
-    let b = bar(out, a);
-    let c = fields(out, b, lamp);
-    let d = reported(out, c, list, task, answer.wait);
-    let e = bar(out, d);
-    ending(out, e, running)
+    status(out, answer.number);
+    bar(out);
+    numbers(out, &lamp_numbers(answer.lamp));
+    reported(out, answer.notices, answer.task, answer.wait);
+    bar(out);
+    ending(out, answer.lamp.running);
 }

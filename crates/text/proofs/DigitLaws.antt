@@ -9,10 +9,11 @@ use mathlib.Core.List.{List, [], ◌∷◌, ◌++◌}
 use borrow.Author.Tests.{lt-ltb, le-ltb, lt-leb, ltb-true, leb-true, leb-false}
 use lib.Dec.{ltb, leb}
 use lib.IntN.{ℤ, pos, negsuc, nat_abs}
-use lib.ListN.{length, length-append}
+use lib.ListN.{length, take, get_or, length-append}
 use lib.Signed.{lt_z}
 use Rattle.std.proofs.Common.{Some, None}
-use Rattle.text.specs.Digits.{is_digit, digits_alone, value_from, value, grown, decimal_in, decimal, signed_decimal}
+use Rattle.text.specs.Digits.{is_digit, digits_alone, value_from, value, grown, decimal_in, decimal, signed_decimal, hex_digit, hex_text}
+use Rattle.std.proofs.lemmas.List.{take_more}
 use Rattle.text.proofs.WriteLaws.{side}
 
 -- ---- values
@@ -117,3 +118,15 @@ signed_below (negsuc n) e = refl
 pub signed_above : (z : ℤ) → lt_z z (pos 0) ≡ false → signed_decimal z ≡ decimal (nat_abs z)
 signed_above (pos n) e = refl
 signed_above (negsuc n) e = absurd (false≢true (sym e))
+
+-- ---- hexadecimal
+
+hex-join : (s t : List ℕ) → hex_text (s ++ t) ≡ hex_text s ++ hex_text t
+unfolding hex_text
+hex-join [] t = refl
+hex-join (b ∷ s) t = ap (λ (ds : List ℕ). hex_digit (b / 16) ∷ hex_digit b ∷ ds) (hex-join s t)
+
+-- one byte more
+pub hex_more : (s : List ℕ) (i : ℕ) → i < length s → hex_text (take (i + 1) s) ≡ hex_text (take i s) ++ (hex_digit (get_or s i 0 / 16) ∷ hex_digit (get_or s i 0) ∷ [])
+unfolding hex_text
+hex_more s i h = rw (take_more s i 0 h) (hex-join (take i s) (get_or s i 0 ∷ []))

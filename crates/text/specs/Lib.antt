@@ -1,5 +1,6 @@
 pub mod Ascii
 pub mod Written
+pub mod Buffers
 pub mod Digits
 pub mod Words
 pub mod Numbers

@@ -1,90 +1,53 @@
-// Writing into a caller's slice. Each function writes from `at` on and gives the place after what it wrote. What does not
-// fit is left out, so no place need be in the slice.
-ghost use Rattle.std.specs.Prelude.{◌≡◌, [], ◌∷◌, ◌+◌, ◌/◌, ◌%◌, nat_abs};
-ghost use Rattle.text.specs.Digits.{signed_decimal, hex_digit, hex_text};
+// Writing: a text is put into a sink, byte by byte.
+ghost use Rattle.std.specs.Prelude.{◌≡◌, ℕ};
+ghost use Rattle.std.specs.List.{fold};
+ghost use Rattle.text.specs.Digits.{signed_decimal, hex_text};
 ghost use Rattle.text.specs.Digits.{decimal as decimal_text};
-ghost use Rattle.text.specs.Written.{Written};
 
 use crate::digits::hex_digit;
 
-pub fn byte(out: &mut [u8], at: usize, b: u8) -> usize
-    ensures { Written out.old at (b ∷ []) out.new result }
-{
-    if at < out.len() {
-        out[at] = b;
-        return at + 1;
-    }
-    at
+// What a text is put into, as a slice or a checksum.
+pub trait Sink {
+    // The sink with one byte more.
+    ghost push: { Self → ℕ → Self };
+
+    fn byte(&mut self, b: u8)
+        ensures { self.new ≡ push self.old b };
 }
 
-pub fn text(out: &mut [u8], at: usize, s: &[u8]) -> usize
-    ensures { Written out.old at s.now out.new result }
+pub fn text<S: Sink>(out: &mut S, s: &[u8])
+    ensures { out.new ≡ fold S.push out.old s.now }
 {
-    let mut end = at;
-    let mut i = 0;
-    while i < s.len() {
-        end = byte(out, end, s[i]);
-        i += 1;
-    }
-    end
-}
-
-fn last_digit(n: u64) -> u8
-    ensures { result ≡ 48 + n % 10 }
-{
-    48 + (n % 10) as u8
-}
-
-pub fn decimal(out: &mut [u8], at: usize, n: u64) -> usize
-    ensures { Written out.old at (decimal_text n) out.new result }
-{
-    if n < 10 {
-        byte(out, at, last_digit(n))
-    } else {
-        let next = decimal(out, at, n / 10);
-        byte(out, next, last_digit(n))
+    for b in s {
+        out.byte(*b);
     }
 }
 
-// A signed number's size.
-fn size(n: i64) -> u64
-    ensures { result ≡ nat_abs n }
+pub fn decimal<S: Sink>(out: &mut S, n: u64)
+    ensures { out.new ≡ fold S.push out.old (decimal_text n) }
 {
-    if n < -9223372036854775807 {
-        return 9223372036854775808;
+    if n >= 10 {
+        decimal(out, n / 10);
     }
-    if n < 0 {
-        return (0 - n) as u64;
-    }
-    n as u64
+    out.byte(b'0' + (n % 10) as u8);
 }
 
-pub fn signed(out: &mut [u8], at: usize, n: i64) -> usize
-    ensures { Written out.old at (signed_decimal n) out.new result }
+pub fn signed<S: Sink>(out: &mut S, n: i64)
+    ensures { out.new ≡ fold S.push out.old (signed_decimal n) }
 {
     if n < 0 {
-        let next = byte(out, at, b'-');
-        return decimal(out, next, size(n));
+        out.byte(b'-');
     }
-    decimal(out, at, size(n))
-}
-
-fn hex_byte(out: &mut [u8], at: usize, b: u8) -> usize
-    ensures { Written out.old at (hex_digit (b / 16) ∷ hex_digit b ∷ []) out.new result }
-{
-    let next = byte(out, at, hex_digit(b / 16));
-    byte(out, next, hex_digit(b))
+    decimal(out, n.unsigned_abs());
 }
 
 // Two hexadecimal digits a byte.
-pub fn hex(out: &mut [u8], at: usize, bytes: &[u8]) -> usize
-    ensures { Written out.old at (hex_text bytes.now) out.new result }
+#[tactic(auto, unfolding(crate::specs::Digits::hex_text))]
+pub fn hex<S: Sink>(out: &mut S, bytes: &[u8])
+    ensures { out.new ≡ fold S.push out.old (hex_text bytes.now) }
 {
-    let mut end = at;
-    let mut i = 0;
-    while i < bytes.len() {
-        end = hex_byte(out, end, bytes[i]);
-        i += 1;
+    for b in bytes {
+        out.byte(hex_digit(b / 16));
+        out.byte(hex_digit(*b));
     }
-    end
 }

@@ -3,5 +3,5 @@ use Rattle.std.proofs.Common.{length}
 use Rattle.fade_run.specs.Run.{text}
 use Rattle.fade.proofs.write_run.Given as goal
 
-abbrev pub decreases-loop-is_read : goal.decreases-loop-is_read
-decreases-loop-is_read g l = length (text l.fade)
+abbrev pub decreases-loop-fade : goal.decreases-loop-fade
+decreases-loop-fade g l = length (text l.fade)

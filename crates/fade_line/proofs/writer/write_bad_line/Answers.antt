@@ -11,5 +11,5 @@ returns-then-not-has_room c =
 
 pub returns : goal.returns
 returns c =
-    let all = wrote-fitting c.args.out.now c.args.at bad_line_text (sym c.if-not-has_room.ensures) (omega arith) c.text.ensures in
+    let all = wrote-fitting c.args.out.now c.args.at bad_line_text (sym c.if-not-has_room.ensures) (omega arith) c.write.ensures in
     record { value = all.place; out_after = all.bytes }

@@ -1,8 +1,8 @@
--- The word, the number after a blank and a newline where there is room, else nothing.
-use Rattle.std.proofs.Common.{[], ◌∷◌, ◌++◌, sym}
-use Rattle.text.proofs.WriteLaws.{written_more}
-use Rattle.fade_line.specs.Text.{spaced, refused_word, refused_text}
-use Rattle.fade_line.proofs.TextLaws.{wrote_nothing, wrote-fitting, refused-short}
+-- All of the refusal where there is room, else nothing.
+use Rattle.std.proofs.Common.{sym, rules}
+use Rattle.text.proofs.BufferLaws.{same_slice}
+use Rattle.fade_line.specs.Text.{refused_text}
+use Rattle.fade_line.proofs.TextLaws.{wrote_nothing, put_fitting, refused-short}
 use Rattle.fade_line.proofs.writer.write_refused.Goals as goal
 
 pub returns-then-not-has_room : goal.returns-then-not-has_room
@@ -11,11 +11,7 @@ returns-then-not-has_room c =
     record { value = none.place; out_after = none.bytes }
 
 pub returns : goal.returns
-unfolding refused_text
 returns c =
-    let out = c.args.out.now in let at = c.args.at in let n = c.args.number in
-    let all = wrote-fitting out at (refused_text n) (sym c.if-not-has_room.ensures) (refused-short n)
-    (written_more out at (refused_word ++ spaced n) (10 ∷ [])
-    (written_more out at refused_word (spaced n) c.text-blank.ensures c.spaced-last.ensures)
-    c.byte.ensures) in
-    record { value = all.place; out_after = all.bytes }
+    let n = c.args.number in
+    let all = put_fitting _ (refused_text n) c.refusal.ensures (sym c.if-not-has_room.ensures) (refused-short n) in
+    record { value = all.place; out_after = search (rules, same_slice) }

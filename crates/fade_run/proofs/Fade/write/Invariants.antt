@@ -6,8 +6,8 @@ use Rattle.fade_run.proofs.Fade.write.Given as goal
 abbrev pub invariant-loop-out : goal.invariant-loop-out
 invariant-loop-out l = record {
   in_slice : l.at ≤ length l.out;
-  whole : take l.at l.out ++ text l.fade ≡ text l.fn.self;
-  same : l.at ≡ 0 → l.fade ≡ l.fn.self;
+  whole : take l.at l.out ++ text l.self ≡ text l.fn.self;
+  same : l.at ≡ 0 → l.self ≡ l.fn.self;
 }
 
 abbrev pub decreases-loop-out : goal.decreases-loop-out

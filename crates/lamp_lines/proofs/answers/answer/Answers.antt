@@ -1,9 +1,8 @@
 -- The parts, one after the other.
-use Rattle.text.proofs.WriteLaws.{written_more}
+use Rattle.std.proofs.lemmas.List.Sums.{fold-append}
 use Rattle.lamp_lines.specs.Answers.{answer_text}
 use Rattle.lamp_lines.proofs.answers.answer.Goals as goal
 
 pub returns : goal.returns
 unfolding answer_text
-returns c =
-    written_more _ _ _ _ (written_more _ _ _ _ (written_more _ _ _ _ (written_more _ _ _ _ (written_more _ _ _ _ c.status-a.ensures c.bar-b.ensures) c.fields-c.ensures) c.reported-d.ensures) c.bar-e.ensures) c.ending.ensures
+returns g c = rw (c.ending.ensures, c.bar-2.ensures, c.reported.ensures, c.numbers.ensures, c.lamp_numbers.ensures, c.bar.ensures, c.status.ensures) (simp fold-append)

@@ -1,16 +1,13 @@
 -- What stands before the last digit, then that digit.
-use Rattle.std.proofs.Common.{[], ◌∷◌, ◌+◌, ◌/◌, ◌%◌, arith}
-use Rattle.text.specs.Digits.{decimal}
+use Rattle.std.proofs.Common.{arith}
+use Rattle.std.proofs.lemmas.Grind.{common_steps}
 use Rattle.text.proofs.DigitLaws.{decimal-one, decimal-more}
-use Rattle.text.proofs.WriteLaws.{written_more}
 use Rattle.text.proofs.writer.+decimal.Goals as goal
+use Rattle.text.proofs.writer.+decimal.Goals.{then-n-ge10, else-n-ge10}
 
-pub returns-then-n-lt10 : goal.returns-then-n-lt10
-returns-then-n-lt10 t c = rw (decimal-one c.args.n c.if-n-lt10.true, ← c.last_digit.ensures) c.byte.ensures
-
-pub returns-else-n-lt10 : goal.returns-else-n-lt10
-returns-else-n-lt10 t c =
-    let n = c.args.n in
-    rw (decimal-more n c.if-n-lt10.false (omega arith))
-    (written_more c.args.out.now c.args.at (decimal (n / 10)) ((48 + n % 10) ∷ []) c.decimal-next.ensures
-    (rw c.last_digit-else-n-lt10.ensures at c.byte-else-n-lt10.ensures))
+pub returns : goal.returns
+returns g t c =
+    elim c.if-n-ge10.branch [
+      | then-n-ge10 w ↦ rw (decimal-more c.args.n w.if-n-ge10.true (omega arith)) (grind (arith, common_steps))
+      | else-n-ge10 w ↦ rw (decimal-one c.args.n w.if-n-ge10.false) (grind (arith, common_steps))
+    ]

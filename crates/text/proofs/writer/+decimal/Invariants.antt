@@ -1,4 +1,4 @@
 use Rattle.text.proofs.writer.+decimal.Given as goal
 
 abbrev pub decreases-decimal : goal.decreases-decimal
-decreases-decimal l = l.n
+decreases-decimal g l = l.n

@@ -1,11 +1,8 @@
--- Whoever writes what is left has written all.
-use Rattle.std.proofs.Common.{◌-◌, ◌≤◌, length, drop}
+-- The digits so far are put in.
+use Rattle.std.proofs.Common.{◌≡◌, take}
+use Rattle.std.specs.List.{fold}
 use Rattle.text.specs.Digits.{hex_text}
-use Rattle.text.proofs.WriteLaws.{Completes}
 use Rattle.text.proofs.writer.hex.Given as goal
 
-abbrev pub invariant-loop-i : goal.invariant-loop-i
-invariant-loop-i l = record { in_text : l.i ≤ length l.bytes; left : Completes l.fn.out l.at (hex_text l.bytes) l.out l.end (hex_text (drop l.i l.bytes)) }
-
-abbrev pub decreases-loop-i : goal.decreases-loop-i
-decreases-loop-i l = length l.bytes - l.i
+abbrev pub invariant-loop-b : goal.invariant-loop-b
+invariant-loop-b g l = l.out ≡ fold g.S.Sink.push l.initial.out (hex_text (take l.b-index l.bytes))

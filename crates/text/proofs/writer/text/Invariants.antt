@@ -1,10 +1,7 @@
--- Whoever writes what is left has written all.
-use Rattle.std.proofs.Common.{◌-◌, ◌≤◌, length, drop}
-use Rattle.text.proofs.WriteLaws.{Completes}
+-- The bytes so far are put in.
+use Rattle.std.proofs.Common.{◌≡◌, take}
+use Rattle.std.specs.List.{fold}
 use Rattle.text.proofs.writer.text.Given as goal
 
-abbrev pub invariant-loop-i : goal.invariant-loop-i
-invariant-loop-i l = record { in_text : l.i ≤ length l.s; left : Completes l.fn.out l.at (l.s) l.out l.end (drop l.i l.s) }
-
-abbrev pub decreases-loop-i : goal.decreases-loop-i
-decreases-loop-i l = length l.s - l.i
+abbrev pub invariant-loop-b : goal.invariant-loop-b
+invariant-loop-b g l = l.out ≡ fold g.S.Sink.push l.initial.out (take l.b-index l.s)
