@@ -6,10 +6,12 @@ use mathlib.Core.List.{[], ◌∷◌, ◌++◌}
 use native.Mathlib.Omega.{arith}
 use lib.Dec.{leb}
 use borrow.Author.Tests.{leb-true, leb-false, le-leb, lt-leb}
+use Rattle.std.specs.Prelude.{Option, Some, None}
+use Rattle.notices.specs.declared.Notice.{Notice}
 use Rattle.notices.specs.declared.Numeral.{Numeral}
 use Rattle.notices.specs.Notices.{only}
 use Rattle.notices.specs.Numerals.{consed, in_front}
-use Rattle.notices.specs.Names.{EnhancedCurrentHue, ColorMode, EnhancedColorMode, marked_dirty}
+use Rattle.notices.specs.Names.{EnhancedCurrentHue, ColorMode, EnhancedColorMode, marked_dirty, notice_number}
 use Rattle.notices.proofs.Numerals.{Below, none, more, below-append, below-only}
 use Rattle.color.specs.declared.Change.{Change}
 use Rattle.color.specs.Setters.{change_notices, change_reported}
@@ -35,8 +37,28 @@ change-in-front false true true attribute l = refl
 change-in-front false true false attribute l = refl
 change-in-front false false enhanced attribute l = refl
 
--- a change's notices are below every bound that is above 14 and above the attribute
-module _ (bound : ℕ) (high : 14 < bound) where
+-- a change's notices are below every bound that is above all notices
+attribute_number : (notice : Notice) → notice_number notice ≤ 18
+attribute_number Notice.RemainingTime = omega arith
+attribute_number Notice.CurrentHue = omega arith
+attribute_number Notice.EnhancedCurrentHue = omega arith
+attribute_number Notice.CurrentSaturation = omega arith
+attribute_number Notice.ColorTemperatureMireds = omega arith
+attribute_number Notice.ColorMode = omega arith
+attribute_number Notice.EnhancedColorMode = omega arith
+attribute_number Notice.ColorLoopActive = omega arith
+attribute_number Notice.ColorLoopDirection = omega arith
+attribute_number Notice.ColorLoopTime = omega arith
+attribute_number Notice.ColorLoopStartEnhancedHue = omega arith
+attribute_number Notice.ColorLoopStoredEnhancedHue = omega arith
+attribute_number Notice.MarkedDirty = omega arith
+attribute_number Notice.ScenesNotified = omega arith
+attribute_number Notice.DeviceHueSaturation = omega arith
+attribute_number Notice.DeviceMireds = omega arith
+attribute_number Notice.TaskGiven = omega arith
+attribute_number Notice.HueTie = omega arith
+
+module _ (bound : ℕ) (high : 18 < bound) where
   attribute-below : (enhanced : Bool) (attribute : ℕ) → attribute < bound → Below bound (attribute ∷ only enhanced EnhancedCurrentHue)
   attribute-below enhanced attribute h = more h (below-only enhanced EnhancedCurrentHue (omega arith))
 
@@ -45,11 +67,9 @@ module _ (bound : ℕ) (high : 14 < bound) where
   due_below true enhanced attribute h = below-append (attribute-below enhanced attribute h) (more (omega arith) (more (omega arith) none))
   due_below false enhanced attribute h = none
 
-  notices-below : (t d active enhanced : Bool) (attribute : ℕ) → attribute < bound →
-      Below bound (cond t [] (change_notices active d (attribute ∷ only enhanced EnhancedCurrentHue)))
-  notices-below true d active enhanced attribute h = none
-  notices-below false d active enhanced attribute h =
-      below-append (below-only (not active) marked_dirty (omega arith)) (below-append (due_below d enhanced attribute h) (more (omega arith) none))
-
-  pub change-below : (change : Change) (active : Bool) → change.attribute < bound → Below bound (change_reported change active)
-  change-below change active h = notices-below change.same change.due active change.enhanced change.attribute h
+  pub change-below : (change : Option Change) (active : Bool) → Below bound (change_reported change active)
+  change-below None active = none
+  change-below (Some change) active =
+      let h : notice_number change.attribute < bound = omega (arith, attribute_number change.attribute) in
+      below-append (below-only (not active) marked_dirty (omega arith))
+      (below-append (due_below change.due change.enhanced (notice_number change.attribute) h) (more (omega arith) none))
