@@ -13,7 +13,7 @@ use crate::invocations::CallRead;
 use crate::leaves::Leaf;
 use crate::setters::Setting;
 use crate::{invocations, leaves, setters};
-use lamp::{Answer, Call, Lamp, Made};
+use lamp::{Answer, Call, Lamp, };
 use lamp_lines::{fields, records};
 use matter::{ACCEPTED, Bounds};
 use tasks::Running;
@@ -244,7 +244,7 @@ pub fn read(line: &[u8]) -> Line
     found
 }
 
-pub fn make(making: Making) -> Made
+pub fn make(making: Making) -> Result<Lamp, Refusal>
     ensures { result ≡ made making }
 {
     let bounds = making.bounds;

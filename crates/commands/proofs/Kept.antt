@@ -1,5 +1,6 @@
 -- Every call, refused ones too, keeps validity, widths, bounds and options; an accepted one sets the clock, and a command other than
 -- the colour loop's sets nothing else. The number of an answer is its cause. A command reports few notices.
+use Rattle.std.specs.Prelude.{Option, Some, None}
 use Prim.Native.Nat.{ℕ, ◌≤◌}
 use mathlib.Core.Bool.{Bool, true, false, cond, true≢false}
 use mathlib.Core.List.{List, [], ◌∷◌}
@@ -22,7 +23,6 @@ use Rattle.color.specs.declared.Color.{Color}
 use Rattle.color.proofs.Kept.{hue-kept, hue-word, change-few}
 use Rattle.color.specs.Setters.{hue_change}
 use Rattle.color.specs.Setters.{hue_set}
-use Rattle.tasks.specs.declared.GivenTask.{GivenTask}
 use Rattle.tasks.specs.declared.Running.{Running}
 use Rattle.tasks.specs.declared.Task.{Task}
 use Rattle.lamp.specs.declared.Lamp.{Lamp}
@@ -218,7 +218,7 @@ updated-few flags =
 deactivated-few : (l : Lamp) (reported : List ℕ) → length reported ≤ 4 → length (deactivated l reported).reported ≤ 14
 unfolding deactivated
 deactivated-few l reported h =
-    cond_both (λ (e : CommandEffect). length e.reported ≤ 14) l.looping.active _ (record { lamp = l; reported = reported; task = GivenTask.Nothing })
+    cond_both (λ (e : CommandEffect). length e.reported ≤ 14) l.looping.active _ (record { lamp = l; reported = reported; task = None })
     (λ e. simp length-append (omega (arith, change-few (hue_change l.color l.looping.stored true true l.clock) false)))
     (λ e. omega arith)
 

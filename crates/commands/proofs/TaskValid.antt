@@ -1,5 +1,6 @@
 -- A task that a command gives, other than Stop, is valid: so a start of it on a valid lamp at a good clock is
 -- accepted.
+use Rattle.std.specs.Prelude.{Option, Some, None}
 use Prim.Native.Nat.{ℕ, suc, ◌*◌, ◌%◌, ◌<◌, ◌≤◌}
 use mathlib.Core.Bool.{Bool, true, false, not, ◌&&◌, true≢false}
 use mathlib.Core.List.{List}
@@ -21,8 +22,6 @@ use Rattle.matter.specs.Limits.{hue_limit}
 use Rattle.matter.specs.InRange.{Short, InRangeCommand, InRangeRequest}
 use Rattle.hue.proofs.Laws.{way-small}
 use Rattle.color.proofs.Kept.{valid-saturation}
-use Rattle.tasks.specs.declared.GivenTask.{GivenTask}
-use Rattle.tasks.specs.declared.TargetSaturation.{TargetSaturation}
 use Rattle.tasks.specs.declared.Task.{Task}
 use Rattle.tasks.specs.Valid.{time_valid, small, saturation_valid, moves, rate_valid, move_to_valid, hue_move_valid, saturation_move_valid, task_valid}
 use Rattle.lamp.specs.declared.Lamp.{Lamp}
@@ -61,7 +60,7 @@ some-rate n e = omega (arith, eqb-false n 0 (no_test (eqb n 0) 1 e))
 
 -- ---- the tasks
 
-hue-valid : (way : ℤ) (to : TargetSaturation) (tenths : ℕ) (enhanced : Bool) → nat_abs way ≤ 65535
+hue-valid : (way : ℤ) (to : Option ℕ) (tenths : ℕ) (enhanced : Bool) → nat_abs way ≤ 65535
     → saturation_valid to ≡ true → Short tenths → task_valid (hue_task way to tenths enhanced) ≡ true
 unfolding task_valid move_to_valid
 hue-valid way to tenths enhanced w s t = all_of _ (time-valid tenths t, (small_of way w, (s, (refl, tt))))
@@ -91,9 +90,9 @@ rate-valid MoveModeEnum.Down rate m z r =
 -- ---- the commands
 
 -- a task that is given is Stop or valid
-abbrev Startable : GivenTask → Type 0
-Startable GivenTask.Nothing = Unit
-Startable (GivenTask.Given task) = (task ≡ Task.Stop → ⊥) → task_valid task ≡ true
+abbrev Startable : Option Task → Type 0
+Startable None = Unit
+Startable (Some task) = (task ≡ Task.Stop → ⊥) → task_valid task ≡ true
 
 acted-valid : (l : Lamp) (reported : List ℕ) (action : ColorLoopActionEnum) → Startable (acted l reported action).task
 unfolding deactivated activated task_valid
@@ -124,7 +123,7 @@ effect-valid l (Command.MoveSaturation mode rate) s t m n =
 effect-valid l (Command.StepSaturation mode size time) s t m n =
     λ o. saturation-valid _ time (stepped-saturation mode l.color.saturation size s) t.1
 effect-valid l (Command.MoveToHueAndSaturation hue saturation time enhanced enhanced_hue) s t m n =
-    λ o. hue-valid _ (TargetSaturation.To saturation) time enhanced (way-small l.color.hue _ _)
+    λ o. hue-valid _ (Some saturation) time enhanced (way-small l.color.hue _ _)
     (le-leb saturation 254 (ltb-false 254 saturation (or_right (not enhanced && ltb hue_limit hue) _ (no_test _ 0 n))))
     t.2
 effect-valid l (Command.EnhancedMoveToHue hue direction time) s t m n =
@@ -163,12 +162,12 @@ module _ (l : Lamp) (r : Request) (on_off : OnOff) (clock : ℕ) (in_range : InR
       (λ n. tt)
 
   -- a task that a command gives, other than Stop, is valid
-  pub given-valid : (task : Task) → (answer l (Call.Command r on_off clock)).task ≡ GivenTask.Given task
+  pub given-valid : (task : Task) → (answer l (Call.Command r on_off clock)).task ≡ Some task
       → (task ≡ Task.Stop → ⊥) → task_valid task ≡ true
   given-valid task e = rw e at answer-valid
 
   -- so a start of it is accepted on any valid lamp at a good clock
-  pub given-starts : (task : Task) → (answer l (Call.Command r on_off clock)).task ≡ GivenTask.Given task
+  pub given-starts : (task : Task) → (answer l (Call.Command r on_off clock)).task ≡ Some task
       → (task ≡ Task.Stop → ⊥) → (m : Lamp) (at : ℕ) → lamp_valid m ≡ true → bad_clock m at ≡ false
       → cause m (Call.Start task at) ≡ 0
   given-starts task e n m at f b = start-0 m at task f b (given-valid task e n)

@@ -1,10 +1,10 @@
 -- What the code of a command hands on, before the answer is built from it (`built` in proofs/Built).
+use Rattle.std.specs.Prelude.{Option, Some, None}
 use Rattle.std.specs.Prelude.{ℕ, cond, eqb}
 use Rattle.matter.specs.declared.commands.Request.{Request}
 use Rattle.matter.specs.declared.enums.OnOff.{OnOff}
 use Rattle.matter.specs.Causes.{accepted}
 use Rattle.notices.specs.Numerals.{empty, in_front}
-use Rattle.tasks.specs.declared.GivenTask.{GivenTask}
 use Rattle.lamp.specs.declared.Lamp.{Lamp}
 use Rattle.lamp.specs.Answers.{at_clock}
 use Rattle.commands.specs.declared.outcomes.Outcome.{Outcome}
@@ -25,7 +25,7 @@ accepted_outcome e =
 -- of a refusal
 abbrev pub refused_outcome : Lamp → ℕ → Outcome
 refused_outcome l cause =
-    record { number = cause; color = l.color; looping = l.looping; reported = empty; task = GivenTask.Nothing }
+    record { number = cause; color = l.color; looping = l.looping; reported = empty; task = None }
 
 -- of a command
 unfoldable pub outcome_of : Lamp → Request → OnOff → ℕ → Outcome

@@ -1,8 +1,8 @@
 -- What a call leaves as it was, for every lamp; a refusal and an accepted halt, written out.
+use Rattle.std.specs.Prelude.{Option, Some, None}
 use Rattle.std.specs.Prelude.{ℕ, Bool, true, false, [], ◌∷◌, ◌≡◌}
 use Rattle.matter.specs.declared.commands.Request.{Request}
 use Rattle.matter.specs.declared.enums.OnOff.{OnOff}
-use Rattle.tasks.specs.declared.GivenTask.{GivenTask}
 use Rattle.tasks.specs.declared.Running.{Running}
 use Rattle.tasks.specs.declared.Task.{Task}
 use Rattle.lamp.specs.declared.Answer.{Answer}
@@ -17,7 +17,7 @@ bare number l =
       number = number;
       lamp = l;
       notices = record { places = 0 ∷ 0 ∷ 0 ∷ 0 ∷ 0 ∷ 0 ∷ 0 ∷ 0 ∷ 0 ∷ 0 ∷ 0 ∷ 0 ∷ 0 ∷ 0 ∷ 0 ∷ 0 ∷ []; len = 0 };
-      task = GivenTask.Nothing;
+      task = None;
       wait = 0;
     }
 
@@ -57,8 +57,8 @@ pub record Unchanged (l : Lamp) : Type 0 where
         running = Running.Idle;
       })
   -- a task is a command's to give
-  pub start-task : (task : Task) (clock : ℕ) → (answer l (Call.Start task clock)).task ≡ GivenTask.Nothing
-  pub step-task : (clock : ℕ) → (answer l (Call.Step clock)).task ≡ GivenTask.Nothing
+  pub start-task : (task : Task) (clock : ℕ) → (answer l (Call.Start task clock)).task ≡ None
+  pub step-task : (clock : ℕ) → (answer l (Call.Step clock)).task ≡ None
   -- no call changes bounds or options
   pub bounds : (x : Call) → (answer l x).lamp.bounds ≡ l.bounds
   pub options : (x : Call) → (answer l x).lamp.options ≡ l.options

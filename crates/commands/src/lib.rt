@@ -30,7 +30,7 @@ use matter::{ACCEPTED, Command, CommandOptions, OnOff, Request, should_continue}
 use outcomes::{Outcome, given, refused, skipped};
 pub use saturations::{cmd_move_saturation, cmd_move_to_saturation, cmd_step_saturation};
 use saturations::{move_saturation, step_saturation, to_saturation};
-use tasks::{TargetSaturation, Task};
+use tasks::{Task};
 pub use temperatures::{
     cmd_move_color_temperature, cmd_move_to_color_temperature, cmd_step_color_temperature,
 };
@@ -69,7 +69,7 @@ fn execute(lamp: Lamp, command: Command, clock: u64) -> Outcome
             hue,
             direction,
             time,
-        } => to_hue(lamp, hue, direction, TargetSaturation::Keep, time, true),
+        } => to_hue(lamp, hue, direction, None, time, true),
         Command::EnhancedMoveHue { mode, rate } => move_hue(lamp, mode, rate as u32, true),
         Command::EnhancedStepHue { mode, size, time } => step_hue(lamp, mode, size, time, true),
         Command::MoveToColorTemperature { mireds, time } => to_mireds(lamp, mireds, time),

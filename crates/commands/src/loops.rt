@@ -16,7 +16,7 @@ use matter::{
     UPDATE_DIRECTION, UPDATE_START_HUE, UPDATE_TIME, contains,
 };
 use notices::Numeral;
-use tasks::{ColorLoop, GivenTask, Task};
+use tasks::{ColorLoop, Task};
 
 fn word_if(test: bool, new: u16, old: u16) -> u16
     ensures { result ≡ cond test new old }
@@ -96,7 +96,7 @@ fn deactivate(lamp: Lamp) -> Outcome
             .cons(device, false)
             .cons(notices::COLOR_LOOP_ACTIVE)
             .cons(notices::TASK_GIVEN),
-        task: GivenTask::Given(Task::Stop),
+        task: Some(Task::Stop),
     }
 }
 
@@ -128,7 +128,7 @@ fn activate(lamp: Lamp, seed: u16) -> Outcome
             .cons(given, true)
             .cons_if(!active, notices::COLOR_LOOP_ACTIVE)
             .cons_if(!active, notices::COLOR_LOOP_STORED_ENHANCED_HUE),
-        task: GivenTask::Given(Task::ColorLoop(ColorLoop {
+        task: Some(Task::ColorLoop(ColorLoop {
             direction: direction,
             seconds: old.time,
         })),

@@ -9,7 +9,7 @@ use color::Color;
 use lamp::{Lamp, LoopSettings};
 use matter::ACCEPTED;
 use notices::{HUE_TIE, Numeral, TASK_GIVEN};
-use tasks::{GivenTask, Task};
+use tasks::{Task};
 
 // 0 or the cause of a refusal, all of the lamp that a command can change but its clock, what it reports, and its task.
 #[derive(Clone, Copy)]
@@ -18,7 +18,7 @@ pub struct Outcome {
     pub color: Color,
     pub looping: LoopSettings,
     pub reported: Numeral,
-    pub task: GivenTask,
+    pub task: Option<Task>,
 }
 
 // A task given, and its tie reported where there is one.
@@ -33,7 +33,7 @@ pub(crate) fn given_with(lamp: Lamp, task: Task, is_tie: bool) -> Outcome
         color: color,
         looping: looping,
         reported: Numeral::new().cons_if(is_tie, HUE_TIE).cons(TASK_GIVEN),
-        task: GivenTask::Given(task),
+        task: Some(task),
     }
 }
 
@@ -55,7 +55,7 @@ fn nothing(lamp: Lamp, number: u8) -> Outcome
         color: color,
         looping: looping,
         reported: Numeral::new(),
-        task: GivenTask::Nothing,
+        task: None,
     }
 }
 

@@ -1,5 +1,6 @@
 -- Form is kept: by the clock that goes on, by every pass, start and step, and by the answers of starts, steps and halts.
 -- A start or step reports few notices, none of them a command's.
+use Rattle.std.specs.Prelude.{Option, Some, None}
 use Prim.Native.Nat.{ℕ, zero, suc, ◌-◌, ◌≤◌, ◌<◌}
 use mathlib.Core.Bool.{Bool, true, false, cond, not, ◌||◌, true≢false}
 use mathlib.Core.List.{List, [], ◌++◌}
@@ -22,8 +23,6 @@ use Rattle.progress.specs.Progress.{permille_of, delta_at_rate, clamp, clamped_s
 use Rattle.color.specs.declared.Color.{Color}
 use Rattle.color.specs.Valid.{color_valid}
 use Rattle.color.proofs.Kept.{color-later, valid-saturation, valid-above, valid-below, hue-kept, saturation-kept, mireds-kept}
-use Rattle.tasks.specs.declared.HueDelta.{HueDelta}
-use Rattle.tasks.specs.declared.TargetSaturation.{TargetSaturation}
 use Rattle.tasks.specs.declared.HueSaturationMoveTo.{HueSaturationMoveTo}
 use Rattle.tasks.specs.declared.ColorTemperatureMoveTo.{ColorTemperatureMoveTo}
 use Rattle.tasks.specs.declared.ColorTemperatureMove.{ColorTemperatureMove}
@@ -116,14 +115,14 @@ module _ (l : Lamp) (timely : l.clock ≤ clock_limit) (validity : color_valid l
   unless-valid end r h = cond_both (λ s. running_valid s l.bounds l.clock ≡ true) end _ r (λ e. refl) h
 
   -- the hue's part of a move-to
-  hue-part : (d : HueDelta) (start permille : ℕ) (enhanced : Bool) → color_valid (hue_moved l.color d start permille enhanced l.clock).color l.bounds l.clock ≡ true
-  hue-part HueDelta.Keep start permille enhanced = validity
-  hue-part (HueDelta.By way) start permille enhanced = hue-kept l.color l.bounds l.clock validity _ (at_end permille) enhanced
+  hue-part : (d : Option ℤ) (start permille : ℕ) (enhanced : Bool) → color_valid (hue_moved l.color d start permille enhanced l.clock).color l.bounds l.clock ≡ true
+  hue-part None start permille enhanced = validity
+  hue-part (Some way) start permille enhanced = hue-kept l.color l.bounds l.clock validity _ (at_end permille) enhanced
 
   -- the saturation's, on a valid colour
-  saturation-part : (c : Color) (t : TargetSaturation) (start permille : ℕ) → color_valid c l.bounds l.clock ≡ true → saturation_valid t ≡ true → color_valid (saturation_moved c t start permille l.clock).color l.bounds l.clock ≡ true
-  saturation-part c TargetSaturation.Keep start permille e h = e
-  saturation-part c (TargetSaturation.To target) start permille e h =
+  saturation-part : (c : Color) (t : Option ℕ) (start permille : ℕ) → color_valid c l.bounds l.clock ≡ true → saturation_valid t ≡ true → color_valid (saturation_moved c t start permille l.clock).color l.bounds l.clock ≡ true
+  saturation-part c None start permille e h = e
+  saturation-part c (Some target) start permille e h =
       saturation-kept c l.bounds l.clock e _ (at_end permille)
       (cond_both (λ n. n ≤ saturation_limit) (at_end permille) target _ (λ t. leb-true _ _ h) (λ t. (clamp-within 0 saturation_limit _ (omega arith)).1))
 
@@ -339,17 +338,17 @@ record Plain (p : Passed) : Type 0 where
   device : p.device < 17
 
 -- the hue's part of a move-to, and the saturation's
-hue-low : (c : Color) (d : HueDelta) (start permille : ℕ) (enhanced : Bool) (clock : ℕ) → (hue_moved c d start permille enhanced clock).change.attribute < 17
-hue-low c HueDelta.Keep start permille enhanced clock = omega arith
-hue-low c (HueDelta.By way) start permille enhanced clock = omega arith
+hue-low : (c : Color) (d : Option ℤ) (start permille : ℕ) (enhanced : Bool) (clock : ℕ) → (hue_moved c d start permille enhanced clock).change.attribute < 17
+hue-low c None start permille enhanced clock = omega arith
+hue-low c (Some way) start permille enhanced clock = omega arith
 
-saturation-low : (c : Color) (t : TargetSaturation) (start permille clock : ℕ) → (saturation_moved c t start permille clock).change.attribute < 17
-saturation-low c TargetSaturation.Keep start permille clock = omega arith
-saturation-low c (TargetSaturation.To target) start permille clock = omega arith
+saturation-low : (c : Color) (t : Option ℕ) (start permille clock : ℕ) → (saturation_moved c t start permille clock).change.attribute < 17
+saturation-low c None start permille clock = omega arith
+saturation-low c (Some target) start permille clock = omega arith
 
-saturation-plain : (c : Color) (t : TargetSaturation) (start permille clock : ℕ) → (saturation_moved c t start permille clock).change.enhanced ≡ false
-saturation-plain c TargetSaturation.Keep start permille clock = refl
-saturation-plain c (TargetSaturation.To target) start permille clock = refl
+saturation-plain : (c : Color) (t : Option ℕ) (start permille clock : ℕ) → (saturation_moved c t start permille clock).change.enhanced ≡ false
+saturation-plain c None start permille clock = refl
+saturation-plain c (Some target) start permille clock = refl
 
 both-plain : (f : Found) (run : HueSaturationRun) (permille : ℕ) → Plain (hue_saturation_passed f run permille)
 unfolding hue_saturation_moved timed

@@ -18,7 +18,8 @@ use Rattle.color.specs.Valid.{modes_agree, color_valid}
 use Rattle.color.specs.Making.{new_color}
 use Rattle.tasks.specs.Valid.{running_valid}
 use Rattle.lamp.specs.declared.Lamp.{Lamp}
-use Rattle.lamp.specs.declared.Made.{Made}
+use Rattle.std.specs.Prelude.{Result, Ok, Err}
+use Rattle.matter.specs.declared.refusals.Refusal.{Refusal}
 use Rattle.lamp.specs.Answers.{bad_clock, first_cause}
 use Rattle.lamp.specs.Valid.{lamp_valid}
 use Rattle.lamp.specs.Making.{fresh_lamp, making_cause, making, made_values, making_values}
@@ -37,7 +38,7 @@ module _ (bounds : Bounds) (clock : ℕ) where
 
 -- the answer's number is the cause, and its lamp the fresh one exactly where there is none
 values-by : (n : ℕ) (l : Lamp) (t : Bool) → eqb n 0 ≡ t →
-    made_values (cond t (Made.Lamp l) (Made.Refused n)) ≡ record { number = n; lamp = cond t (some l) none }
+    made_values (cond t (Ok l) (Err n)) ≡ record { number = n; lamp = cond t (some l) none }
 values-by n l true e = ap (λ m. record { number = m; lamp = some l }) (sym (eqb-true n 0 e))
 values-by n l false e = refl
 

@@ -1,4 +1,5 @@
 -- Starts, steps and halts: document 01, leaf 6, halt of "Added by design", and their rows of the table of causes.
+use Rattle.std.specs.Prelude.{Option, Some, None}
 use Rattle.std.specs.Prelude.{ℕ, ◌-◌, Bool, true, not, cond, ◌&&◌, ◌||◌, leb, eqb, pos, nat_abs}
 use Rattle.matter.specs.Causes.{accepted, clock_refused, invalid_task, step_while_idle, invalid_lamp}
 use Rattle.matter.specs.Bounds.{lower, upper}
@@ -6,9 +7,6 @@ use Rattle.notices.specs.Notices.{noted}
 use Rattle.progress.specs.Progress.{permille_of, clamp}
 use Rattle.remaining_time.specs.declared.Written.{Written}
 use Rattle.remaining_time.specs.RemainingTime.{written_quietly}
-use Rattle.tasks.specs.declared.GivenTask.{GivenTask}
-use Rattle.tasks.specs.declared.HueDelta.{HueDelta}
-use Rattle.tasks.specs.declared.TargetSaturation.{TargetSaturation}
 use Rattle.tasks.specs.declared.HueSaturationMoveTo.{HueSaturationMoveTo}
 use Rattle.tasks.specs.declared.ColorTemperatureMoveTo.{ColorTemperatureMoveTo}
 use Rattle.tasks.specs.declared.ColorTemperatureMove.{ColorTemperatureMove}
@@ -34,13 +32,13 @@ abbrev pub full_written : Lamp → ℕ → Written
 full_written l ms = written_quietly l.remaining ms true
 
 -- no way at all: that of the hue is 0 or none is moved, and the saturation is there or none is moved
-abbrev pub no_hue_delta : HueDelta → Bool
-no_hue_delta HueDelta.Keep = true
-no_hue_delta (HueDelta.By way) = eqb (nat_abs way) 0
+abbrev pub no_hue_delta : Option ℤ → Bool
+no_hue_delta None = true
+no_hue_delta (Some way) = eqb (nat_abs way) 0
 
-abbrev pub no_saturation_delta : TargetSaturation → ℕ → Bool
-no_saturation_delta TargetSaturation.Keep start = true
-no_saturation_delta (TargetSaturation.To target) start = eqb target start
+abbrev pub no_saturation_delta : Option ℕ → ℕ → Bool
+no_saturation_delta None start = true
+no_saturation_delta (Some target) start = eqb target start
 
 -- "Time 0, no way in hue and saturation together, or no way in mireds: the end at once", which is permille 1000
 abbrev pub start_permille : ℕ → Bool → ℕ
@@ -110,7 +108,7 @@ done e =
       number = accepted;
       lamp = e.lamp;
       notices = noted e.reported;
-      task = GivenTask.Nothing;
+      task = None;
       wait = e.wait;
     }
 

@@ -8,7 +8,8 @@ use Rattle.matter.specs.Limits.{clock_limit}
 use Rattle.color.specs.Making.{new_color}
 use Rattle.tasks.specs.declared.Running.{Running}
 use Rattle.lamp.specs.declared.Lamp.{Lamp}
-use Rattle.lamp.specs.declared.Made.{Made}
+use Rattle.std.specs.Prelude.{Result, Ok, Err}
+use Rattle.matter.specs.declared.refusals.Refusal.{Refusal}
 
 -- "loop time 25, start hue 8,960. The loop is inactive and upward, the stored loop hue, the remaining time [..] are 0,
 -- and the lamp is idle"
@@ -30,10 +31,10 @@ abbrev pub making_cause : Bounds → ℕ → ℕ
 making_cause bounds clock =
     cond (ltb clock_limit clock) clock_refused (cond (ltb bounds.max bounds.min) crossed_bounds accepted)
 
-unfoldable pub making : Bounds → ℕ → ℕ → ℕ → Made
+unfoldable pub making : Bounds → ℕ → ℕ → ℕ → Result Lamp Refusal
 making bounds features options clock =
-    cond (eqb (making_cause bounds clock) accepted) (Made.Lamp (fresh_lamp bounds features options clock))
-    (Made.Refused (making_cause bounds clock))
+    cond (eqb (making_cause bounds clock) accepted) (Ok (fresh_lamp bounds features options clock))
+    (Err (making_cause bounds clock))
 
 -- document 01's number and lamp for each case of the answer: the number 0 and the lamp, or the refusal's number and no
 -- lamp
@@ -41,9 +42,9 @@ pub record MadeValues : Type 0 where
   pub number : ℕ
   pub lamp : Option Lamp
 
-abbrev pub made_values : Made → MadeValues
-made_values (Made.Lamp l) = record { number = accepted; lamp = some l }
-made_values (Made.Refused number) = record { number = number; lamp = none }
+abbrev pub made_values : Result Lamp Refusal → MadeValues
+made_values (Ok l) = record { number = accepted; lamp = some l }
+made_values (Err number) = record { number = number; lamp = none }
 
 -- and those that a making must have
 unfoldable pub making_values : Bounds → ℕ → ℕ → ℕ → MadeValues

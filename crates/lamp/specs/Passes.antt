@@ -1,6 +1,7 @@
 -- One pass of each transition: document 01, leaf 6 and "The arithmetic of a step". A pass is given what it needs of the
 -- lamp at the call's clock, and the running record; it leaves what it changes, and the wait (`Found`, `Moved`,
 -- `Passed`, `Left`: the records of src/passes.rt). From that come the lamp after it and what it reports, in its order.
+use Rattle.std.specs.Prelude.{Option, Some, None}
 use Rattle.std.specs.Prelude.{ℕ, ◌-◌, Bool, true, false, cond, ◌&&◌, ◌||◌, List, [], ◌++◌, leb, ltb, eqb, ℤ, pos, ◌-ℤ◌}
 use Rattle.std.specs.Int.Signed.{lt_z}
 use Rattle.matter.specs.declared.limits.Bounds.{Bounds}
@@ -17,8 +18,6 @@ use Rattle.remaining_time.specs.RemainingTime.{written_quietly}
 use Rattle.color.specs.declared.Color.{Color}
 use Rattle.color.specs.declared.ColorSet.{ColorSet}
 use Rattle.color.specs.Setters.{change_reported, no_change, set_hue, set_saturation, set_mireds}
-use Rattle.tasks.specs.declared.HueDelta.{HueDelta}
-use Rattle.tasks.specs.declared.TargetSaturation.{TargetSaturation}
 use Rattle.tasks.specs.declared.HueSaturationRun.{HueSaturationRun}
 use Rattle.tasks.specs.declared.HueRun.{HueRun}
 use Rattle.tasks.specs.declared.SaturationRun.{SaturationRun}
@@ -106,9 +105,9 @@ at_end permille = leb 1000 permille
 abbrev pub hue_now : ℕ → ℤ → ℕ → ℕ
 hue_now start way permille = moved_hue start (part_of way permille)
 
-abbrev pub hue_moved : Color → HueDelta → ℕ → ℕ → Bool → ℕ → ColorSet
-hue_moved c HueDelta.Keep start permille enhanced clock = record { color = c; change = no_change }
-hue_moved c (HueDelta.By way) start permille enhanced clock =
+abbrev pub hue_moved : Color → Option ℤ → ℕ → ℕ → Bool → ℕ → ColorSet
+hue_moved c None start permille enhanced clock = record { color = c; change = no_change }
+hue_moved c (Some way) start permille enhanced clock =
     set_hue c (hue_now start way permille) (at_end permille) enhanced clock
 
 -- the saturation's part, where the task moves it: its way is from the start to the target
@@ -116,9 +115,9 @@ abbrev pub saturation_now : ℕ → ℕ → ℕ → ℕ
 saturation_now start target permille =
     cond (at_end permille) target (clamped_sum 0 saturation_limit start (part_of (pos target -ℤ pos start) permille))
 
-abbrev pub saturation_moved : Color → TargetSaturation → ℕ → ℕ → ℕ → ColorSet
-saturation_moved c TargetSaturation.Keep start permille clock = record { color = c; change = no_change }
-saturation_moved c (TargetSaturation.To target) start permille clock =
+abbrev pub saturation_moved : Color → Option ℕ → ℕ → ℕ → ℕ → ColorSet
+saturation_moved c None start permille clock = record { color = c; change = no_change }
+saturation_moved c (Some target) start permille clock =
     set_saturation c (saturation_now start target permille) (at_end permille) clock
 
 -- what move_to_hue_saturation_transition moves at so many thousandths: first the hue, then the saturation

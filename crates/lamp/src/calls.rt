@@ -21,25 +21,25 @@ use progress::{clamped_sum, elapsed, permille};
 use remaining_time::RemainingTime;
 use tasks::{
     ColorLoop, ColorLoopRun, ColorTemperatureMove, ColorTemperatureMoveTo, ColorTemperatureRun,
-    ColorTemperatureToRun, GivenTask, HueDelta, HueRun, HueSaturationMoveTo, HueSaturationRun,
-    Running, SaturationRun, TargetSaturation, Task,
+    ColorTemperatureToRun, HueRun, HueSaturationMoveTo, HueSaturationRun,
+    Running, SaturationRun, Task,
 };
 
-fn no_hue_delta(delta: HueDelta) -> bool
+fn no_hue_delta(delta: Option<i64>) -> bool
     ensures { result ≡ no_hue_delta delta }
 {
     match delta {
-        HueDelta::Keep => true,
-        HueDelta::By(way) => (way <= 0) & (0 <= way),
+        None => true,
+        Some(way) => (way <= 0) & (0 <= way),
     }
 }
 
-fn no_saturation_delta(target: TargetSaturation, start: u8) -> bool
+fn no_saturation_delta(target: Option<u8>, start: u8) -> bool
     ensures { result ≡ no_saturation_delta target start }
 {
     match target {
-        TargetSaturation::Keep => true,
-        TargetSaturation::To(saturation) => saturation == start,
+        None => true,
+        Some(saturation) => saturation == start,
     }
 }
 
@@ -266,7 +266,7 @@ impl Lamp {
                 ..self
             },
             notices: list.cons_if(left.full, REMAINING_TIME).notices(),
-            task: GivenTask::Nothing,
+            task: None,
             wait: passed.wait,
         }
     }
@@ -331,7 +331,7 @@ impl Lamp {
                 ..self
             },
             notices: Notices::new(),
-            task: GivenTask::Nothing,
+            task: None,
             wait: 0,
         }
     }

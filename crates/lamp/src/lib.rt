@@ -18,7 +18,7 @@ use matter::{
 };
 use notices::Notices;
 use remaining_time::RemainingTime;
-use tasks::{GivenTask, Running, Task};
+use tasks::{Running, Task};
 
 // ColorLoopActive, ColorLoopDirection, ColorLoopTime, ColorLoopStartEnhancedHue, ColorLoopStoredEnhancedHue.
 #[derive(Clone, Copy)]
@@ -49,7 +49,7 @@ pub struct Answer {
     pub number: u8,
     pub lamp: Lamp,
     pub notices: Notices,
-    pub task: GivenTask,
+    pub task: Option<Task>,
     pub wait: u64,
 }
 
@@ -75,7 +75,7 @@ pub enum Call {
 
 // A lamp, or the number of the refusal and no lamp.
 #[derive(Clone, Copy)]
-pub enum Made {
+pub enum Result<Lamp, Refusal> {
     Lamp(Lamp),
     Refused(u8),
 }
@@ -104,17 +104,17 @@ fn fresh(bounds: Bounds, feature_map: u32, options: u8, clock: u64) -> Lamp
 impl Lamp {
     // A fresh lamp, unless the clock is above the limit or the bounds are crossed.
     #[tactic(auto, unfolding(crate::specs::Making::making, crate::specs::Making::making_values))]
-    pub fn new(bounds: Bounds, feature_map: u32, options: u8, clock: u64) -> Made
+    pub fn new(bounds: Bounds, feature_map: u32, options: u8, clock: u64) -> Result<Lamp, Refusal>
         ensures value { result ≡ making bounds feature_map options clock }
         ensures result_value { made_values result ≡ making_values bounds feature_map options clock }
     {
         if CLOCK_LIMIT < clock {
-            return Made::Refused(CLOCK_REFUSED);
+            return Err(CLOCK_REFUSED);
         }
         if bounds.max < bounds.min {
-            return Made::Refused(CROSSED_BOUNDS);
+            return Err(CROSSED_BOUNDS);
         }
-        Made::Lamp(fresh(bounds, feature_map, options, clock))
+        Ok(fresh(bounds, feature_map, options, clock))
     }
 
     #[tactic(auto, unfolding(crate::specs::Valid::lamp_valid, matter::specs::All::all_true))]
@@ -159,7 +159,7 @@ impl Lamp {
             number: number,
             lamp: self,
             notices: Notices::new(),
-            task: GivenTask::Nothing,
+            task: None,
             wait: 0,
         }
     }

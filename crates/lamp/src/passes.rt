@@ -17,9 +17,8 @@ use progress::{
 };
 use remaining_time::RemainingTime;
 use tasks::{
-    ColorLoopRun, ColorTemperatureRun, ColorTemperatureToRun, HueDelta, HueRun, HueSaturationRun,
-    Running, SaturationRun, TargetSaturation,
-};
+    ColorLoopRun, ColorTemperatureRun, ColorTemperatureToRun, HueRun, HueSaturationRun,
+    Running, SaturationRun, };
 
 // What a pass is given of the lamp.
 #[derive(Clone, Copy)]
@@ -102,7 +101,7 @@ pub(crate) fn left_by(full: bool, passed: Passed, running: Running) -> Left
 // The hue's part of a move-to, where it moves the hue.
 fn move_hue(
     color: Color,
-    delta: HueDelta,
+    delta: Option<i64>,
     start: u16,
     permille: u16,
     is_enhanced: bool,
@@ -112,11 +111,11 @@ fn move_hue(
     ensures { result ≡ hue_moved color delta start permille is_enhanced clock }
 {
     match delta {
-        HueDelta::Keep => ColorSet {
+        None => ColorSet {
             color: color,
             change: Change::none(),
         },
-        HueDelta::By(way) => {
+        Some(way) => {
             let now = moved_hue(start, part(way, permille));
             color.set_hue(now, 1000 <= permille, is_enhanced, clock)
         }
@@ -138,7 +137,7 @@ fn saturation_now(start: u8, target: u8, permille: u16) -> u8
 // The saturation's part of a move-to, where it moves the saturation.
 fn move_saturation(
     color: Color,
-    target: TargetSaturation,
+    target: Option<u8>,
     start: u8,
     permille: u16,
     clock: u64,
@@ -146,11 +145,11 @@ fn move_saturation(
     ensures { result ≡ saturation_moved color target start permille clock }
 {
     match target {
-        TargetSaturation::Keep => ColorSet {
+        None => ColorSet {
             color: color,
             change: Change::none(),
         },
-        TargetSaturation::To(saturation) => {
+        Some(saturation) => {
             let now = saturation_now(start, saturation, permille);
             color.set_saturation(now, 1000 <= permille, clock)
         }

@@ -1,17 +1,16 @@
 -- Tasks by their names, each with what it asks for.
+use Rattle.std.specs.Prelude.{Option, Some, None}
 use Rattle.std.specs.Prelude.{ℕ, List, [], ◌∷◌}
-use Rattle.tasks.specs.declared.HueDelta.{HueDelta}
-use Rattle.tasks.specs.declared.TargetSaturation.{TargetSaturation}
 use Rattle.tasks.specs.declared.Task.{Task}
 use Rattle.text.specs.Readers.{Read, Reader, give, ◌then◌, number8, number16, number32, flag, signed, or_dash, Row}
 use Rattle.text.specs.Readers.{◌means◌, named, unknown}
 use Rattle.lamp_lines.specs.Enums.{move_mode_at, loop_direction_at}
 
-unfoldable pub delta_at : Reader HueDelta
-delta_at = or_dash HueDelta.Keep (give HueDelta.By then signed)
+unfoldable pub delta_at : Reader (Option ℤ)
+delta_at = or_dash None (give Some then signed)
 
-unfoldable pub target_at : Reader TargetSaturation
-target_at = or_dash TargetSaturation.Keep (give TargetSaturation.To then number8)
+unfoldable pub target_at : Reader (Option ℕ)
+target_at = or_dash None (give Some then number8)
 
 -- <way|-> <sat|-> <ms> <enhanced>
 unfoldable pub move_to_at : Reader Task

@@ -7,8 +7,8 @@ ghost use Rattle.lamp_lines.specs.Answers.{number_text, signed_text, numbers_tex
 use lamp::{Answer, Lamp};
 use notices::Notices;
 use tasks::{
-    ColorLoop, ColorTemperatureMove, ColorTemperatureMoveTo, GivenTask, HueDelta, HueMove,
-    HueSaturationMoveTo, Running, SaturationMove, TargetSaturation, Task,
+    ColorLoop, ColorTemperatureMove, ColorTemperatureMoveTo, HueMove,
+    HueSaturationMoveTo, Running, SaturationMove, Task,
 };
 use text::writer::{byte, decimal, signed, text};
 
@@ -125,21 +125,21 @@ fn notices(out: &mut [u8], at: usize, list: Notices) -> usize
     end
 }
 
-fn delta(out: &mut [u8], at: usize, delta: HueDelta) -> usize
+fn delta(out: &mut [u8], at: usize, delta: Option<i64>) -> usize
     ensures { Written out.old at (delta_text delta) out.new result }
 {
     match delta {
-        HueDelta::Keep => text(out, at, b" -"),
-        HueDelta::By(delta) => signed_number(out, at, delta),
+        None => text(out, at, b" -"),
+        Some(delta) => signed_number(out, at, delta),
     }
 }
 
-fn target(out: &mut [u8], at: usize, target: TargetSaturation) -> usize
+fn target(out: &mut [u8], at: usize, target: Option<u8>) -> usize
     ensures { Written out.old at (target_text target) out.new result }
 {
     match target {
-        TargetSaturation::Keep => text(out, at, b" -"),
-        TargetSaturation::To(saturation) => number(out, at, saturation as u64),
+        None => text(out, at, b" -"),
+        Some(saturation) => number(out, at, saturation as u64),
     }
 }
 
@@ -218,12 +218,12 @@ fn task(out: &mut [u8], at: usize, task: Task) -> usize
     }
 }
 
-fn given(out: &mut [u8], at: usize, given: GivenTask) -> usize
+fn given(out: &mut [u8], at: usize, given: Option<Task>) -> usize
     ensures { Written out.old at (given_text given) out.new result }
 {
     match given {
-        GivenTask::Nothing => text(out, at, b" -"),
-        GivenTask::Given(t) => task(out, at, t),
+        None => text(out, at, b" -"),
+        Some(t) => task(out, at, t),
     }
 }
 
@@ -247,7 +247,7 @@ fn ending(out: &mut [u8], at: usize, running: Running) -> usize
 }
 
 // The notices, the task given and the wait.
-fn reported(out: &mut [u8], at: usize, list: Notices, task: GivenTask, wait: u64) -> usize
+fn reported(out: &mut [u8], at: usize, list: Notices, task: Option<Task>, wait: u64) -> usize
     ensures { Written out.old at (reported_text list task wait) out.new result }
 {
     let a = bar(out, at);

@@ -5,21 +5,21 @@ ghost use Rattle.lamp_lines.specs.Moves.{delta_at, target_at, move_to_at, hue_mo
 
 use crate::enums;
 use tasks::{
-    ColorLoop, ColorTemperatureMove, ColorTemperatureMoveTo, HueDelta, HueMove,
-    HueSaturationMoveTo, SaturationMove, TargetSaturation, Task,
+    ColorLoop, ColorTemperatureMove, ColorTemperatureMoveTo, HueMove,
+    HueSaturationMoveTo, SaturationMove, Task,
 };
 use text::words::LOST;
 use text::{numbers, words};
 
 #[derive(Clone, Copy)]
 struct DeltaRead {
-    value: HueDelta,
+    value: Option<i64>,
     at: usize,
 }
 
 #[derive(Clone, Copy)]
 struct TargetRead {
-    value: TargetSaturation,
+    value: Option<u8>,
     at: usize,
 }
 
@@ -37,13 +37,13 @@ fn delta(line: &[u8], at: usize) -> DeltaRead
     let name = words::start(line, at);
     if words::is(line, name, b"-") {
         return DeltaRead {
-            value: HueDelta::Keep,
+            value: None,
             at: words::end(line, name),
         };
     }
     let read = numbers::signed(line, at);
     DeltaRead {
-        value: HueDelta::By(read.value),
+        value: Some(read.value),
         at: read.at,
     }
 }
@@ -56,13 +56,13 @@ fn target(line: &[u8], at: usize) -> TargetRead
     let name = words::start(line, at);
     if words::is(line, name, b"-") {
         return TargetRead {
-            value: TargetSaturation::Keep,
+            value: None,
             at: words::end(line, name),
         };
     }
     let saturation = numbers::number_8(line, at);
     TargetRead {
-        value: TargetSaturation::To(saturation.value),
+        value: Some(saturation.value),
         at: saturation.at,
     }
 }

@@ -16,8 +16,8 @@ use lamp::{Answer, Call, Lamp, LoopSettings};
 use lamp_lines::answers::{answer, bar, lamp_numbers, number, status};
 use matter::{Bounds, ColorLoopDirectionEnum};
 use remaining_time::RemainingTime;
-use rows::{Lowest, MOST, Row, RowAnswer, lowest_running, running_count};
-use tasks::{GivenTask, Running};
+use rows::{MOST, Row, RowAnswer, lowest_running, running_count};
+use tasks::{Running};
 use text::writer::{decimal, hex, text};
 
 // The longest slice that is lent.
@@ -27,7 +27,7 @@ const LONGEST: usize = 1024;
 #[derive(Clone, Copy)]
 pub struct RowTurn {
     pub row: Row,
-    pub task: GivenTask,
+    pub task: Option<Task>,
     pub at: usize,
 }
 
@@ -164,7 +164,7 @@ fn shown(row: Row, out: &mut [u8], at: usize) -> RowTurn
     let b = then_row(out, a, row);
     RowTurn {
         row: row,
-        task: GivenTask::Nothing,
+        task: None,
         at: b,
     }
 }
@@ -175,7 +175,7 @@ fn error(row: Row, out: &mut [u8], at: usize) -> RowTurn
     let end = text(out, at, b"error");
     RowTurn {
         row: row,
-        task: GivenTask::Nothing,
+        task: None,
         at: end,
     }
 }
@@ -237,12 +237,12 @@ fn with_mask(row: Row, running_mask: u32) -> Row
 }
 
 // The lowest place that runs; `-` where none does.
-fn lowest(out: &mut [u8], at: usize, place: Lowest) -> usize
+fn lowest(out: &mut [u8], at: usize, place: Option<u8>) -> usize
     ensures { Written out.old at (lowest_text place) out.new result }
 {
     match place {
-        Lowest::Nothing => text(out, at, b" -"),
-        Lowest::At(k) => number(out, at, k as u64),
+        None => text(out, at, b" -"),
+        Some(k) => number(out, at, k as u64),
     }
 }
 
@@ -262,7 +262,7 @@ fn row_turning(row: Row, out: &mut [u8], at: usize) -> RowTurn
     let end = turning(row.running_mask, out, at);
     RowTurn {
         row: row,
-        task: GivenTask::Nothing,
+        task: None,
         at: end,
     }
 }
@@ -344,7 +344,7 @@ fn step_with(row: Row, bytes: &mut [u8], asked: RowStep, out: &mut [u8], at: usi
     let end = lent(out, b, stepped.wait, bytes, asked.fill);
     RowTurn {
         row: next,
-        task: GivenTask::Nothing,
+        task: None,
         at: end,
     }
 }
@@ -371,12 +371,12 @@ fn step(row: Row, asked: RowStep, out: &mut [u8], at: usize) -> RowTurn
 }
 
 // A start of the task given last.
-fn start_of(last: GivenTask, clock: u64) -> Asked
+fn start_of(last: Option<Task>, clock: u64) -> Asked
     ensures { result ≡ last_start last clock }
 {
     match last {
-        GivenTask::Nothing => Asked::Nothing,
-        GivenTask::Given(task) => Asked::Call(Call::Start { task, clock }),
+        None => Asked::Nothing,
+        Some(task) => Asked::Call(Call::Start { task, clock }),
     }
 }
 
@@ -393,7 +393,7 @@ fn asked_of(what: OnLamp) -> Asked
 }
 
 // What a line asks of a lamp in a row, where the task given last is this.
-fn asked_at(line: Line, last: GivenTask) -> Asked
+fn asked_at(line: Line, last: Option<Task>) -> Asked
     ensures { result ≡ asked_of line last }
 {
     match line {
@@ -475,7 +475,7 @@ fn edited(row: Row, place: u8, edit: Answer, out: &mut [u8], at: usize) -> RowTu
     let b = then_row(out, a, next);
     RowTurn {
         row: next,
-        task: GivenTask::Nothing,
+        task: None,
         at: b,
     }
 }
@@ -495,7 +495,7 @@ fn edited_on(row: Row, place: u8, what: OnLamp, out: &mut [u8], at: usize) -> Ro
 
 // A line at a place, where the task given last is this.
 #[tactic(auto, unfolding(crate::specs::RowAnswers::answered_place))]
-fn at_place(row: Row, asked: AtPlace, last: GivenTask, out: &mut [u8], at: usize) -> RowTurn
+fn at_place(row: Row, asked: AtPlace, last: Option<Task>, out: &mut [u8], at: usize) -> RowTurn
     ensures { Turned (answered_place row asked.place (asked_of asked.line last)) out.old at out.new result }
 {
     let place = asked.place;
@@ -510,7 +510,7 @@ fn at_place(row: Row, asked: AtPlace, last: GivenTask, out: &mut [u8], at: usize
 
 // A line of the row, where the task given last is this.
 #[tactic(auto, unfolding(crate::specs::RowAnswers::on_row))]
-pub fn on_row(row: Row, what: OnRow, last: GivenTask, out: &mut [u8], at: usize) -> RowTurn
+pub fn on_row(row: Row, what: OnRow, last: Option<Task>, out: &mut [u8], at: usize) -> RowTurn
     ensures { Turned (on_row row what last) out.old at out.new result }
 {
     match what {
