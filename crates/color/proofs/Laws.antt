@@ -37,28 +37,38 @@ change-in-front false true true attribute l = refl
 change-in-front false true false attribute l = refl
 change-in-front false false enhanced attribute l = refl
 
--- a change's notices are below every bound that is above all notices
-attribute_number : (notice : Notice) → notice_number notice ≤ 18
-attribute_number Notice.RemainingTime = omega arith
-attribute_number Notice.CurrentHue = omega arith
-attribute_number Notice.EnhancedCurrentHue = omega arith
-attribute_number Notice.CurrentSaturation = omega arith
-attribute_number Notice.ColorTemperatureMireds = omega arith
-attribute_number Notice.ColorMode = omega arith
-attribute_number Notice.EnhancedColorMode = omega arith
-attribute_number Notice.ColorLoopActive = omega arith
-attribute_number Notice.ColorLoopDirection = omega arith
-attribute_number Notice.ColorLoopTime = omega arith
-attribute_number Notice.ColorLoopStartEnhancedHue = omega arith
-attribute_number Notice.ColorLoopStoredEnhancedHue = omega arith
-attribute_number Notice.MarkedDirty = omega arith
-attribute_number Notice.ScenesNotified = omega arith
-attribute_number Notice.DeviceHueSaturation = omega arith
-attribute_number Notice.DeviceMireds = omega arith
-attribute_number Notice.TaskGiven = omega arith
-attribute_number Notice.HueTie = omega arith
+-- an attribute whose number is below a bound, where there is a change
+abbrev pub AttributeBelow : ℕ → Option Change → Type 0
+AttributeBelow bound None = Unit
+AttributeBelow bound (Some change) = notice_number change.attribute < bound
 
-module _ (bound : ℕ) (high : 18 < bound) where
+-- every notice's number is a byte
+pub notice-small : (notice : Notice) → notice_number notice < 19
+notice-small Notice.RemainingTime = omega arith
+notice-small Notice.CurrentHue = omega arith
+notice-small Notice.EnhancedCurrentHue = omega arith
+notice-small Notice.CurrentSaturation = omega arith
+notice-small Notice.ColorTemperatureMireds = omega arith
+notice-small Notice.ColorMode = omega arith
+notice-small Notice.EnhancedColorMode = omega arith
+notice-small Notice.ColorLoopActive = omega arith
+notice-small Notice.ColorLoopDirection = omega arith
+notice-small Notice.ColorLoopTime = omega arith
+notice-small Notice.ColorLoopStartEnhancedHue = omega arith
+notice-small Notice.ColorLoopStoredEnhancedHue = omega arith
+notice-small Notice.MarkedDirty = omega arith
+notice-small Notice.ScenesNotified = omega arith
+notice-small Notice.DeviceHueSaturation = omega arith
+notice-small Notice.DeviceMireds = omega arith
+notice-small Notice.TaskGiven = omega arith
+notice-small Notice.HueTie = omega arith
+
+pub attribute-byte : (change : Option Change) → AttributeBelow 256 change
+attribute-byte None = tt
+attribute-byte (Some change) = omega (arith, notice-small change.attribute)
+
+-- a change's notices are below every bound that is above 14 and above the attribute
+module _ (bound : ℕ) (high : 14 < bound) where
   attribute-below : (enhanced : Bool) (attribute : ℕ) → attribute < bound → Below bound (attribute ∷ only enhanced EnhancedCurrentHue)
   attribute-below enhanced attribute h = more h (below-only enhanced EnhancedCurrentHue (omega arith))
 
@@ -67,9 +77,8 @@ module _ (bound : ℕ) (high : 18 < bound) where
   due_below true enhanced attribute h = below-append (attribute-below enhanced attribute h) (more (omega arith) (more (omega arith) none))
   due_below false enhanced attribute h = none
 
-  pub change-below : (change : Option Change) (active : Bool) → Below bound (change_reported change active)
-  change-below None active = none
-  change-below (Some change) active =
-      let h : notice_number change.attribute < bound = omega (arith, attribute_number change.attribute) in
+  pub change-below : (change : Option Change) (active : Bool) → AttributeBelow bound change → Below bound (change_reported change active)
+  change-below None active h = none
+  change-below (Some change) active h =
       below-append (below-only (not active) marked_dirty (omega arith))
       (below-append (due_below change.due change.enhanced (notice_number change.attribute) h) (more (omega arith) none))

@@ -1,14 +1,12 @@
 -- Making: document 01, leaf 4, and the row of the table that has no lamp.
-use Rattle.std.specs.Prelude.{ℕ, false, cond, ltb, eqb}
-use Rattle.std.proofs.Math.Option.{Option, some, none}
+use Rattle.std.specs.Prelude.{ℕ, false, cond, ltb, Option, Some, None, Result, Ok, Err}
 use Rattle.matter.specs.declared.limits.Bounds.{Bounds}
 use Rattle.matter.specs.declared.enums.ColorLoopDirectionEnum.{ColorLoopDirectionEnum}
-use Rattle.matter.specs.Causes.{accepted, clock_refused, crossed_bounds}
+use Rattle.matter.specs.Causes.{Verdict, accepted, refusal_number, clock_refused, crossed_bounds}
 use Rattle.matter.specs.Limits.{clock_limit}
 use Rattle.color.specs.Making.{new_color}
 use Rattle.tasks.specs.declared.Running.{Running}
 use Rattle.lamp.specs.declared.Lamp.{Lamp}
-use Rattle.std.specs.Prelude.{Result, Ok, Err}
 use Rattle.matter.specs.declared.refusals.Refusal.{Refusal}
 
 -- "loop time 25, start hue 8,960. The loop is inactive and upward, the stored loop hue, the remaining time [..] are 0,
@@ -27,14 +25,16 @@ fresh_lamp bounds features options clock =
     }
 
 -- why a making is refused: "making 4, 5, both with no lamp"
-abbrev pub making_cause : Bounds → ℕ → ℕ
+abbrev pub making_cause : Bounds → ℕ → Verdict
 making_cause bounds clock =
     cond (ltb clock_limit clock) clock_refused (cond (ltb bounds.max bounds.min) crossed_bounds accepted)
 
+abbrev pub made_by : Verdict → Lamp → Result Lamp Refusal
+made_by (Ok u) l = Ok l
+made_by (Err refusal) l = Err refusal
+
 unfoldable pub making : Bounds → ℕ → ℕ → ℕ → Result Lamp Refusal
-making bounds features options clock =
-    cond (eqb (making_cause bounds clock) accepted) (Ok (fresh_lamp bounds features options clock))
-    (Err (making_cause bounds clock))
+making bounds features options clock = made_by (making_cause bounds clock) (fresh_lamp bounds features options clock)
 
 -- document 01's number and lamp for each case of the answer: the number 0 and the lamp, or the refusal's number and no
 -- lamp
@@ -43,11 +43,12 @@ pub record MadeValues : Type 0 where
   pub lamp : Option Lamp
 
 abbrev pub made_values : Result Lamp Refusal → MadeValues
-made_values (Ok l) = record { number = accepted; lamp = some l }
-made_values (Err number) = record { number = number; lamp = none }
+made_values (Ok l) = record { number = 0; lamp = Some l }
+made_values (Err refusal) = record { number = refusal_number refusal; lamp = None }
 
 -- and those that a making must have
 unfoldable pub making_values : Bounds → ℕ → ℕ → ℕ → MadeValues
 making_values bounds features options clock =
-    let cause : ℕ = making_cause bounds clock in
-    record { number = cause; lamp = cond (eqb cause accepted) (some (fresh_lamp bounds features options clock)) none }
+    cond (ltb clock_limit clock) (record { number = 4; lamp = None })
+    (cond (ltb bounds.max bounds.min) (record { number = 5; lamp = None })
+    (record { number = 0; lamp = Some (fresh_lamp bounds features options clock) }))

@@ -2,12 +2,13 @@
 use Prim.Native.Nat.{ℕ, ◌≤◌}
 use mathlib.Core.Bool.{Bool, true, false, cond, ◌&&◌, ◌||◌, true≢false}
 use mathlib.Core.List.{List, [], ◌∷◌}
-use Rattle.std.specs.Prelude.{Ok}
-use mathlib.Core.Path.{◌≡◌, refl, sym}
+use Rattle.std.specs.Prelude.{Ok, Err, is_ok}
+use mathlib.Core.Path.{◌≡◌, refl, sym, ap, ◌∙◌}
 use native.Mathlib.Omega.{arith}
 use lib.Dec.{eqb, leb}
 use borrow.Author.Tests.{eqb-true, leb-true, le-leb}
 use Rattle.matter.specs.All.{all_true, all_from}
+use Rattle.matter.specs.Causes.{Verdict, accepted}
 use Rattle.matter.specs.Numbers.{case_numbered, direction_number, direction_found, move_mode_number, move_mode_found, step_mode_number, step_mode_found, loop_action_number, loop_action_found, loop_direction_number, loop_direction_found, color_mode_number, color_mode_found, enhanced_color_mode_number, enhanced_color_mode_found, on_off_number, on_off_found}
 use Rattle.matter.specs.declared.enums.DirectionEnum.{DirectionEnum}
 use Rattle.matter.specs.declared.enums.MoveModeEnum.{MoveModeEnum}
@@ -44,6 +45,16 @@ or_right false b e = e
 pub cond_both : {A : Type 0} (P : A → Type 0) (t : Bool) (a b : A) → (t ≡ true → P a) → (t ≡ false → P b) → P (cond t a b)
 cond_both P true a b h k = h refl
 cond_both P false a b h k = k refl
+
+-- ---- verdicts
+
+-- one that is accepted, and one that is not
+pub accepted-of : (v : Verdict) → is_ok v ≡ true → v ≡ accepted
+accepted-of (Ok u) e = refl
+accepted-of (Err refusal) e = absurd (true≢false (sym e))
+
+pub refused-of : (v : Verdict) → is_ok v ≡ false → v ≡ accepted → ⊥
+refused-of v e z = true≢false (sym (ap is_ok z) ∙ e)
 
 -- ---- what is at most a number is at most a later one
 

@@ -8,13 +8,13 @@ ghost use Rattle.remaining_time.specs.RemainingTime.{apart, reported, written_qu
 use progress::tenths;
 
 // The attribute, in tenths of a second.
-#[derive(Clone, Copy)]
+#[derive(Clone, Copy, Debug, PartialEq, Eq)]
 pub struct RemainingTime {
     pub tenths: u16,
 }
 
 // The attribute after a write, and whether the change is reported.
-#[derive(Clone, Copy)]
+#[derive(Clone, Copy, Debug, PartialEq, Eq)]
 pub struct Written {
     pub reported: bool,
     pub remaining: RemainingTime,
