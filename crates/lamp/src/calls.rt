@@ -317,8 +317,8 @@ impl Lamp {
     pub fn halt(self, clock: u64) -> Answer
         ensures { result ≡ halt_answer self clock }
     {
-        if let Err(refusal) = self.first_cause(clock) {
-            return self.refused(refusal);
+        if let Err(cause) = self.first_cause(clock) {
+            return self.refused(cause);
         }
         Answer {
             verdict: Ok(()),
