@@ -1,5 +1,5 @@
 -- Laws that the proofs of the loop's command cite: its notices, put in front of one another, are the definition's list.
-use Rattle.std.specs.Prelude.{Option, Some, None}
+use Rattle.std.specs.Prelude.{None}
 use Prim.Native.Nat.{ℕ}
 use mathlib.Core.Bool.{Bool, true, false, not, cond}
 use mathlib.Core.List.{List, [], ◌∷◌, ◌++◌, append_assoc}
@@ -59,7 +59,6 @@ module _ (c : Color) (new clock : ℕ) where
 abbrev fronted : List ℕ → CommandEffect → Outcome
 fronted reported e =
     record {
-      number = 0;
       color = e.lamp.color;
       looping = e.lamp.looping;
       reported = in_front reported (in_front e.reported empty);

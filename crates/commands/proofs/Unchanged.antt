@@ -1,5 +1,5 @@
 -- What a call leaves as it was.
-use Rattle.std.specs.Prelude.{Option, Some, None}
+use Rattle.std.specs.Prelude.{None}
 use mathlib.Core.Bool.{false, true≢false}
 use mathlib.Core.Path.{◌≡◌, refl}
 use lib.Dec.{leb}

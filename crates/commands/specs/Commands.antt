@@ -9,7 +9,7 @@ use Rattle.matter.specs.declared.enums.MoveModeEnum.{MoveModeEnum}
 use Rattle.matter.specs.declared.enums.StepModeEnum.{StepModeEnum}
 use Rattle.matter.specs.declared.enums.ColorLoopActionEnum.{ColorLoopActionEnum}
 use Rattle.matter.specs.declared.enums.ColorLoopDirectionEnum.{ColorLoopDirectionEnum}
-use Rattle.matter.specs.Causes.{accepted, constraint_error, invalid_command}
+use Rattle.matter.specs.Causes.{Verdict, accepted, constraint_error, invalid_command}
 use Rattle.matter.specs.Flags.{has_flag, update_action, update_direction, update_time, update_start_hue}
 use Rattle.matter.specs.Limits.{hue_limit, saturation_limit}
 use Rattle.notices.specs.Notices.{only}
@@ -51,8 +51,8 @@ is_stop MoveModeEnum.Up = false
 is_stop MoveModeEnum.Down = false
 
 -- a cause where the test holds, else none
-abbrev pub cause_if : Bool → ℕ → ℕ
-cause_if test number = cond test number accepted
+abbrev pub cause_if : Bool → Verdict → Verdict
+cause_if test cause = cond test cause accepted
 
 -- "hue above 254 (plain only), saturation above 254, or mireds 0"
 abbrev pub constrained : Bool → Checks
@@ -66,7 +66,7 @@ nonzero n = record { stop = false; cause = cause_if (eqb n 0) invalid_command }
 abbrev pub moving : MoveModeEnum → ℕ → Checks
 moving mode rate = record { stop = is_stop mode; cause = (nonzero rate).cause }
 
--- Stop mode, and the cause that the command's own numbers give, or 0
+-- Stop mode, and the cause that the command's own numbers give
 abbrev pub checks : Command → Checks
 checks (Command.MoveToHue hue direction time) = constrained (ltb hue_limit hue)
 checks (Command.MoveHue mode rate enhanced) = moving mode rate

@@ -1,5 +1,6 @@
 -- What a call leaves as it was, for every lamp; a refusal and an accepted halt, written out.
-use Rattle.std.specs.Prelude.{Option, Some, None}
+use Rattle.matter.specs.Causes.{accepted, Verdict}
+use Rattle.std.specs.Prelude.{None}
 use Rattle.std.specs.Prelude.{ℕ, Bool, true, false, [], ◌∷◌, ◌≡◌}
 use Rattle.matter.specs.declared.commands.Request.{Request}
 use Rattle.matter.specs.declared.enums.OnOff.{OnOff}
@@ -11,10 +12,10 @@ use Rattle.lamp.specs.declared.Call.{Call}
 use Rattle.commands.specs.Answers.{cause, answer}
 
 -- an answer without notices, task and wait
-abbrev pub bare : ℕ → Lamp → Answer
-bare number l =
+abbrev pub bare : Verdict → Lamp → Answer
+bare verdict l =
     record {
-      number = number;
+      verdict = verdict;
       lamp = l;
       notices = record { places = 0 ∷ 0 ∷ 0 ∷ 0 ∷ 0 ∷ 0 ∷ 0 ∷ 0 ∷ 0 ∷ 0 ∷ 0 ∷ 0 ∷ 0 ∷ 0 ∷ 0 ∷ 0 ∷ []; len = 0 };
       task = None;
@@ -42,11 +43,11 @@ moves_to (Running.ColorLoop direction hue seconds start) = false
 
 pub record Unchanged (l : Lamp) : Type 0 where
   -- "the lamp is then what it was and the notice list is empty"; "A refusal has no task and wait 0"
-  pub refusal : (x : Call) → (cause l x ≡ 0 → ⊥) → answer l x ≡ bare (cause l x) l
+  pub refusal : (x : Call) → (cause l x ≡ accepted → ⊥) → answer l x ≡ bare (cause l x) l
   -- "halt, which only makes the lamp idle"
-  pub halting : (clock : ℕ) → cause l (Call.Halt clock) ≡ 0 →
+  pub halting : (clock : ℕ) → cause l (Call.Halt clock) ≡ accepted →
       answer l (Call.Halt clock)
-      ≡ bare 0
+      ≡ bare accepted
       (record {
         clock = clock;
         bounds = l.bounds;

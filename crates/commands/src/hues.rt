@@ -89,14 +89,7 @@ pub(crate) fn to_hue(
 pub(crate) fn to_plain_hue(lamp: Lamp, hue: u8, direction: DirectionEnum, tenths: u16) -> Outcome
     ensures { result ≡ accepted_outcome (giving_hue lamp (stored hue) direction None tenths false) }
 {
-    to_hue(
-        lamp,
-        stored_hue(hue),
-        direction,
-        None,
-        tenths,
-        false,
-    )
+    to_hue(lamp, stored_hue(hue), direction, None, tenths, false)
 }
 
 // The hue that a command with both means: the enhanced one, or the plain one on the stored circle.
@@ -142,14 +135,7 @@ pub(crate) fn step_hue(
 ) -> Outcome
     ensures { result ≡ accepted_outcome (giving lamp (hue_task (step_delta mode size) None tenths enhanced)) }
 {
-    by_delta(
-        lamp,
-        step_delta(mode, size),
-        false,
-        None,
-        tenths,
-        enhanced,
-    )
+    by_delta(lamp, step_delta(mode, size), false, None, tenths, enhanced)
 }
 
 // A move of the hue at a rate in enhanced units.

@@ -2,7 +2,7 @@
 use Prim.Native.Nat.{ℕ, ◌≤◌, ◌<◌}
 use Rattle.std.specs.Prelude.{Some, None}
 use lib.Dec.{ltb}
-use Rattle.matter.specs.Causes.{accepted, clock_refused, crossed_bounds, invalid_lamp}
+use Rattle.matter.specs.Causes.{unless_refused, accepted, clock_refused, crossed_bounds, invalid_lamp}
 use mathlib.Core.Bool.{Bool, true, false, cond}
 use mathlib.Core.Path.{◌≡◌, refl}
 use native.Mathlib.Omega.{arith}
@@ -21,7 +21,7 @@ use Rattle.tasks.specs.Valid.{running_valid}
 use Rattle.lamp.specs.declared.Lamp.{Lamp}
 use Rattle.lamp.specs.Answers.{bad_clock, first_cause}
 use Rattle.lamp.specs.Valid.{lamp_valid}
-use Rattle.lamp.specs.Making.{fresh_lamp, made_by, making_cause, making, made_values, making_values}
+use Rattle.lamp.specs.Making.{fresh_lamp, making_cause, making, made_values, making_values}
 
 -- ---- making: 4 exactly above the limit, whatever the bounds; 5 exactly at a good clock with crossed bounds
 
@@ -37,7 +37,7 @@ module _ (bounds : Bounds) (clock : ℕ) where
 
 -- the answer's number is the cause's, and its lamp the fresh one exactly where there is none
 values-by : (l : Lamp) (late crossed : Bool) →
-    made_values (made_by (cond late clock_refused (cond crossed crossed_bounds accepted)) l)
+    made_values (unless_refused (cond late clock_refused (cond crossed crossed_bounds accepted)) l)
     ≡ cond late (record { number = 4; lamp = None }) (cond crossed (record { number = 5; lamp = None }) (record { number = 0; lamp = Some l }))
 values-by l true crossed = refl
 values-by l false true = refl

@@ -2,7 +2,7 @@
 use Rattle.std.specs.Prelude.{ℕ, false, cond, ltb, Option, Some, None, Result, Ok, Err}
 use Rattle.matter.specs.declared.limits.Bounds.{Bounds}
 use Rattle.matter.specs.declared.enums.ColorLoopDirectionEnum.{ColorLoopDirectionEnum}
-use Rattle.matter.specs.Causes.{Verdict, accepted, refusal_number, clock_refused, crossed_bounds}
+use Rattle.matter.specs.Causes.{Verdict, unless_refused, accepted, refusal_number, clock_refused, crossed_bounds}
 use Rattle.matter.specs.Limits.{clock_limit}
 use Rattle.color.specs.Making.{new_color}
 use Rattle.tasks.specs.declared.Running.{Running}
@@ -29,12 +29,9 @@ abbrev pub making_cause : Bounds → ℕ → Verdict
 making_cause bounds clock =
     cond (ltb clock_limit clock) clock_refused (cond (ltb bounds.max bounds.min) crossed_bounds accepted)
 
-abbrev pub made_by : Verdict → Lamp → Result Lamp Refusal
-made_by (Ok u) l = Ok l
-made_by (Err refusal) l = Err refusal
-
 unfoldable pub making : Bounds → ℕ → ℕ → ℕ → Result Lamp Refusal
-making bounds features options clock = made_by (making_cause bounds clock) (fresh_lamp bounds features options clock)
+making bounds features options clock =
+    unless_refused (making_cause bounds clock) (fresh_lamp bounds features options clock)
 
 -- document 01's number and lamp for each case of the answer: the number 0 and the lamp, or the refusal's number and no
 -- lamp

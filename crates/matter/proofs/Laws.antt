@@ -1,5 +1,5 @@
 -- Laws of the vocabulary: a choice, a list of tests that hold, and numbers looked up.
-use Prim.Native.Nat.{ℕ, ◌≤◌}
+use Prim.Native.Nat.{ℕ, ◌≤◌, ◌<◌}
 use mathlib.Core.Bool.{Bool, true, false, cond, ◌&&◌, ◌||◌, true≢false}
 use mathlib.Core.List.{List, [], ◌∷◌}
 use Rattle.std.specs.Prelude.{Ok, Err, is_ok}
@@ -8,7 +8,8 @@ use native.Mathlib.Omega.{arith}
 use lib.Dec.{eqb, leb}
 use borrow.Author.Tests.{eqb-true, leb-true, le-leb}
 use Rattle.matter.specs.All.{all_true, all_from}
-use Rattle.matter.specs.Causes.{Verdict, accepted}
+use Rattle.matter.specs.Causes.{Verdict, accepted, number_of, refusal_number}
+use Rattle.matter.specs.declared.refusals.Refusal.{Refusal}
 use Rattle.matter.specs.Numbers.{case_numbered, direction_number, direction_found, move_mode_number, move_mode_found, step_mode_number, step_mode_found, loop_action_number, loop_action_found, loop_direction_number, loop_direction_found, color_mode_number, color_mode_found, enhanced_color_mode_number, enhanced_color_mode_found, on_off_number, on_off_found}
 use Rattle.matter.specs.declared.enums.DirectionEnum.{DirectionEnum}
 use Rattle.matter.specs.declared.enums.MoveModeEnum.{MoveModeEnum}
@@ -55,6 +56,26 @@ accepted-of (Err refusal) e = absurd (true≢false (sym e))
 
 pub refused-of : (v : Verdict) → is_ok v ≡ false → v ≡ accepted → ⊥
 refused-of v e z = true≢false (sym (ap is_ok z) ∙ e)
+
+-- 0 is the number of no refusal
+refusal-some : (refusal : Refusal) → 0 < refusal_number refusal
+refusal-some Refusal.ConstraintError = omega arith
+refusal-some Refusal.InvalidCommand = omega arith
+refusal-some Refusal.Clock = omega arith
+refusal-some Refusal.CrossedBounds = omega arith
+refusal-some Refusal.InvalidTask = omega arith
+refusal-some Refusal.StepWhileIdle = omega arith
+refusal-some Refusal.InvalidLamp = omega arith
+refusal-some Refusal.ShortSlice = omega arith
+refusal-some Refusal.NoPlace = omega arith
+
+pub number-0 : (v : Verdict) → number_of v ≡ 0 → v ≡ accepted
+number-0 (Ok u) e = refl
+number-0 (Err refusal) e = absurd (omega (arith, refusal-some refusal, e))
+
+pub not-ok : (v : Verdict) → (v ≡ accepted → ⊥) → is_ok v ≡ false
+not-ok (Ok u) n = absurd (n refl)
+not-ok (Err refusal) n = refl
 
 -- ---- what is at most a number is at most a later one
 

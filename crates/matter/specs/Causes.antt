@@ -35,6 +35,11 @@ abbrev pub number_of : Verdict → ℕ
 number_of (Ok u) = 0
 number_of (Err refusal) = refusal_number refusal
 
+-- what there is where a call is accepted, or its cause
+abbrev pub unless_refused : {A : Type 0} → Verdict → A → Result A Refusal
+unless_refused (Ok u) a = Ok a
+unless_refused (Err refusal) a = Err refusal
+
 abbrev pub constraint_error : Verdict
 constraint_error = Err Refusal.ConstraintError
 
