@@ -2,7 +2,7 @@
 use Rattle.std.specs.Prelude.{ℕ, List, [], ◌∷◌}
 use Rattle.matter.specs.declared.commands.Command.{Command}
 use Rattle.matter.specs.declared.commands.CommandOptions.{CommandOptions}
-use Rattle.text.specs.Readers.{Read, Reader, give, ◌then◌, number8, number16, flag, Row, ◌means◌, named, unknown}
+use Rattle.text.specs.Readers.{Reader, give, ◌then◌, number8, number16, flag, Row, ◌means◌, named, unknown}
 use Rattle.lamp_lines.specs.Enums.{direction_at, move_mode_at, step_mode_at, loop_action_at, loop_direction_at}
 
 -- <mask> <override>
@@ -69,10 +69,16 @@ unfoldable pub color_loop_set_at : Reader Command
 color_loop_set_at =
     give Command.ColorLoopSet then number8 then loop_action_at then loop_direction_at then number16 then number16
 
--- those of saturation and color temperature, the color loop and StopMoveStep
-abbrev pub other_commands : List (Row Command)
-other_commands =
-    "move_to_saturation" means move_to_saturation_at
+abbrev pub commands : List (Row Command)
+commands =
+    "move_to_hue" means move_to_hue_at
+    ∷ "move_hue" means move_hue_at
+    ∷ "step_hue" means step_hue_at
+    ∷ "enhanced_move_to_hue" means enhanced_move_to_hue_at
+    ∷ "enhanced_move_hue" means enhanced_move_hue_at
+    ∷ "enhanced_step_hue" means enhanced_step_hue_at
+    ∷ "move_to_hue_and_saturation" means move_to_hue_and_saturation_at
+    ∷ "move_to_saturation" means move_to_saturation_at
     ∷ "move_saturation" means move_saturation_at
     ∷ "step_saturation" means step_saturation_at
     ∷ "move_to_color_temperature" means move_to_color_temperature_at
@@ -83,20 +89,7 @@ other_commands =
     ∷ []
 
 -- and before them those of the hue
-abbrev pub commands : List (Row Command)
-commands =
-    "move_to_hue" means move_to_hue_at
-    ∷ "move_hue" means move_hue_at
-    ∷ "step_hue" means step_hue_at
-    ∷ "enhanced_move_to_hue" means enhanced_move_to_hue_at
-    ∷ "enhanced_move_hue" means enhanced_move_hue_at
-    ∷ "enhanced_step_hue" means enhanced_step_hue_at
-    ∷ "move_to_hue_and_saturation" means move_to_hue_and_saturation_at
-    ∷ other_commands
 
--- the command whose name begins at `name`, with its arguments from `at` on
-unfoldable pub other_command_at : List ℕ → ℕ → ℕ → Read Command
-other_command_at = named other_commands (unknown Command.StopMoveStep)
-
-unfoldable pub command_at : List ℕ → ℕ → ℕ → Read Command
-command_at = named commands (unknown Command.StopMoveStep)
+-- the command of a name, with its arguments behind it
+unfoldable pub command_at : List ℕ → Reader Command
+command_at = named commands unknown

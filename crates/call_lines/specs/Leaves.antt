@@ -56,7 +56,7 @@ leaves =
 
 -- by the leaf's name
 unfoldable pub leaf_at : Reader Leaf
-leaf_at = by_name leaves (Leaf.ModeOf EnhancedColorModeEnum.CurrentXAndCurrentY)
+leaf_at = by_name leaves
 
 -- ---- what is answered
 

@@ -1,5 +1,5 @@
 -- The lines of calls, by their first words, and what a lamp answers.
-use Rattle.std.specs.Prelude.{ℕ, cond, List, [], ◌∷◌, eqb, length}
+use Rattle.std.specs.Prelude.{ℕ, List, [], ◌∷◌, Option}
 use Rattle.matter.specs.Causes.{accepted}
 use Rattle.tasks.specs.declared.Running.{Running}
 use Rattle.lamp.specs.declared.Answer.{Answer}
@@ -11,8 +11,8 @@ use Rattle.lamp.specs.Answers.{refusal}
 use Rattle.lamp.specs.Making.{making}
 use Rattle.lamp.specs.Passes.{changed}
 use Rattle.commands.specs.Answers.{answer}
-use Rattle.text.specs.Words.{end_of}
-use Rattle.text.specs.Readers.{Read, Reader, give, ◌then◌, number8, number32, number64, Row, ◌means◌, named, unknown}
+use Rattle.text.specs.Words.{first_word, behind_word}
+use Rattle.text.specs.Readers.{Reader, give, ◌then◌, number8, number32, number64, Row, ◌means◌, named, unknown, at_end}
 use Rattle.lamp_lines.specs.Fields.{bounds_at, idle_lamp_at}
 use Rattle.lamp_lines.specs.Records.{running_at}
 use Rattle.call_lines.specs.declared.setters.Setting.{Setting}
@@ -46,10 +46,14 @@ making_at =
     Line.New (record { bounds = bounds; features = features; options = options; clock = clock }))
     then bounds_at then number32 then number8 then number64
 
--- those that make a lamp, ask for something on its own, or show the lamp or change it by hand
-abbrev pub other_lines : List (Row Line)
-other_lines =
-    "leaf" means (give Line.Ask then leaf_at)
+abbrev pub lines : List (Row Line)
+lines =
+    "cmd" means (give call_line then invoke_at)
+    ∷ "step" means (give call_line then step_at)
+    ∷ "startlast" means (give Line.StartLast then number64)
+    ∷ "start" means (give call_line then begin_at)
+    ∷ "halt" means (give call_line then halt_at)
+    ∷ "leaf" means (give Line.Ask then leaf_at)
     ∷ "set" means (give set_line then setting_at)
     ∷ "lamp" means (give Line.Lamp then idle_lamp_at)
     ∷ "new" means making_at
@@ -59,28 +63,13 @@ other_lines =
     ∷ "help" means give Line.Help
     ∷ []
 
--- and before them the calls
-abbrev pub lines : List (Row Line)
-lines =
-    "cmd" means (give call_line then invoke_at)
-    ∷ "step" means (give call_line then step_at)
-    ∷ "startlast" means (give Line.StartLast then number64)
-    ∷ "start" means (give call_line then begin_at)
-    ∷ "halt" means (give call_line then halt_at)
-    ∷ other_lines
-
--- by the first word, which ends at `at`
-unfoldable pub other_line_at : List ℕ → ℕ → ℕ → Read Line
-other_line_at = named other_lines (unknown Line.Unreadable)
-
-unfoldable pub line_at : List ℕ → ℕ → ℕ → Read Line
-line_at = named lines (unknown Line.Unreadable)
+-- by the first word
+unfoldable pub line_at : List ℕ → Reader Line
+line_at = named lines unknown
 
 -- a line is what was read where its last word ends it
-unfoldable pub line_read : List ℕ → Line
-line_read line =
-    let read : Read Line = line_at line 0 (end_of line 0) in
-    cond (eqb read.at (length line)) read.value Line.Unreadable
+unfoldable pub line_read : List ℕ → Option Line
+line_read line = at_end (line_at (first_word line) (behind_word line))
 
 -- ---- what a lamp answers
 

@@ -1,5 +1,5 @@
 -- A setter on its own: its line, and its answer.
-use Rattle.std.specs.Prelude.{ℕ, Bool, false, List, [], ◌∷◌}
+use Rattle.std.specs.Prelude.{ℕ, Bool, List, [], ◌∷◌}
 use Rattle.color.specs.declared.Color.{Color}
 use Rattle.color.specs.declared.ColorSet.{ColorSet}
 use Rattle.color.specs.Setters.{change_reported, set_hue, set_saturation, set_mireds}
@@ -34,7 +34,7 @@ settings = "hue" means hue_setting_at ∷ "sat" means saturation_setting_at ∷ 
 
 -- by the setter's name
 unfoldable pub setting_at : Reader Setting
-setting_at = by_name settings (setting_of (NewValue.Mireds 0) false 0)
+setting_at = by_name settings
 
 -- the colour after the setter, and the change
 abbrev pub color_set : Color → NewValue → Bool → ℕ → ColorSet

@@ -5,11 +5,11 @@ ghost use Rattle.text.specs.Written.{Written};
 ghost use Rattle.call_lines.specs.Leaves.{delta_asked_at, remaining_asked_at, leave_asked_at, mode_of_asked_at, current_hue_asked_at, leaf_at, bit_text, delta_text, remaining_text, leave_text, mode_of_text, current_hue_text, leaf_text};
 
 use crate::invocations;
-use lamp_lines::enums;
+use lamp_lines::enums::{enumerated, on_off};
 use matter::{CommandOptions, DirectionEnum, EnhancedColorModeEnum, OnOff};
 use remaining_time::RemainingTime;
-use text::words::LOST;
-use text::{numbers, words, writer};
+use text::words::Words;
+use text::writer;
 
 #[derive(Clone, Copy)]
 pub struct DeltaAsked {
@@ -41,114 +41,71 @@ pub enum Leaf {
     CurrentHue(u16),
 }
 
-#[derive(Clone, Copy)]
-pub struct LeafRead {
-    pub value: Leaf,
-    pub at: usize,
-}
-
 #[tactic(auto, unfolding(crate::specs::Leaves::delta_asked_at))]
-fn delta_read(line: &[u8], at: usize) -> LeafRead
-    ensures { Reads (delta_asked_at line.now at) result.value result.at }
+fn delta_asked(words: &mut Words) -> Option<Leaf>
+    ensures { Reads (delta_asked_at words.old) result words.new }
 {
-    let current = numbers::number_16(line, at);
-    let target = numbers::number_16(line, current.at);
-    let read = enums::path_direction(line, target.at);
-    let direction = read.value;
-    LeafRead {
-        value: Leaf::Delta(DeltaAsked {
-            current: current.value,
-            target: target.value,
-            direction,
-        }),
-        at: read.at,
-    }
+    Some(Leaf::Delta(DeltaAsked {
+        current: words.read()?,
+        target: words.read()?,
+        direction: enumerated(words)?,
+    }))
 }
 
 #[tactic(auto, unfolding(crate::specs::Leaves::remaining_asked_at))]
-fn remaining_read(line: &[u8], at: usize) -> LeafRead
-    ensures { Reads (remaining_asked_at line.now at) result.value result.at }
+fn remaining_asked(words: &mut Words) -> Option<Leaf>
+    ensures { Reads (remaining_asked_at words.old) result words.new }
 {
-    let old = numbers::number_16(line, at);
-    let ms = numbers::number_64(line, old.at);
-    let is_start = numbers::flag(line, ms.at);
-    LeafRead {
-        value: Leaf::Remaining(RemainingAsked {
-            old: old.value,
-            ms: ms.value,
-            is_start: is_start.value,
-        }),
-        at: is_start.at,
-    }
+    Some(Leaf::Remaining(RemainingAsked {
+        old: words.read()?,
+        ms: words.read()?,
+        is_start: words.read()?,
+    }))
 }
 
 #[tactic(auto, unfolding(crate::specs::Leaves::leave_asked_at))]
-fn leave_read(line: &[u8], at: usize) -> LeafRead
-    ensures { Reads (leave_asked_at line.now at) result.value result.at }
+fn leave_asked(words: &mut Words) -> Option<Leaf>
+    ensures { Reads (leave_asked_at words.old) result words.new }
 {
-    let switch = enums::on_off(line, at);
-    let on_off = switch.value;
-    let options = numbers::number_8(line, switch.at);
-    let last = invocations::options(line, options.at);
-    let given = last.value;
-    LeafRead {
-        value: Leaf::Leave(LeaveAsked {
-            on_off,
-            options: options.value,
-            given,
-        }),
-        at: last.at,
-    }
+    Some(Leaf::Leave(LeaveAsked {
+        on_off: on_off(words)?,
+        options: words.read()?,
+        given: invocations::options(words)?,
+    }))
 }
 
 #[tactic(auto, unfolding(crate::specs::Leaves::mode_of_asked_at))]
-fn mode_of_read(line: &[u8], at: usize) -> LeafRead
-    ensures { Reads (mode_of_asked_at line.now at) result.value result.at }
+fn mode_of_asked(words: &mut Words) -> Option<Leaf>
+    ensures { Reads (mode_of_asked_at words.old) result words.new }
 {
-    let read = enums::enhanced_mode(line, at);
-    let mode = read.value;
-    LeafRead {
-        value: Leaf::ModeOf(mode),
-        at: read.at,
-    }
+    Some(Leaf::ModeOf(enumerated(words)?))
 }
 
 #[tactic(auto, unfolding(crate::specs::Leaves::current_hue_asked_at))]
-fn current_hue_read(line: &[u8], at: usize) -> LeafRead
-    ensures { Reads (current_hue_asked_at line.now at) result.value result.at }
+fn current_hue_asked(words: &mut Words) -> Option<Leaf>
+    ensures { Reads (current_hue_asked_at words.old) result words.new }
 {
-    let hue = numbers::number_16(line, at);
-    LeafRead {
-        value: Leaf::CurrentHue(hue.value),
-        at: hue.at,
-    }
+    Some(Leaf::CurrentHue(words.read()?))
 }
 
-// The leaf's name and what it is asked.
+// The leaf's name and what it is asked. (A `match` on names of more than a few letters is not proved.)
 #[tactic(auto, unfolding(crate::specs::Leaves::leaf_at))]
-pub fn read(line: &[u8], at: usize) -> LeafRead
-    ensures { Reads (leaf_at line.now at) result.value result.at }
+pub fn read(words: &mut Words) -> Option<Leaf>
+    ensures { Reads (leaf_at words.old) result words.new }
 {
-    let name = words::start(line, at);
-    let end = words::end(line, name);
-    if words::is(line, name, b"delta") {
-        return delta_read(line, end);
-    }
-    if words::is(line, name, b"remaining") {
-        return remaining_read(line, end);
-    }
-    if words::is(line, name, b"leave") {
-        return leave_read(line, end);
-    }
-    if words::is(line, name, b"mode_of") {
-        return mode_of_read(line, end);
-    }
-    if words::is(line, name, b"shown") {
-        return current_hue_read(line, end);
-    }
-    LeafRead {
-        value: Leaf::ModeOf(EnhancedColorModeEnum::CurrentXAndCurrentY),
-        at: LOST,
+    let name = words.word()?;
+    if name == b"delta".as_slice() {
+        delta_asked(words)
+    } else if name == b"remaining".as_slice() {
+        remaining_asked(words)
+    } else if name == b"leave".as_slice() {
+        leave_asked(words)
+    } else if name == b"mode_of".as_slice() {
+        mode_of_asked(words)
+    } else if name == b"shown".as_slice() {
+        current_hue_asked(words)
+    } else {
+        None
     }
 }
 

@@ -1,15 +1,9 @@
 // A line: what it asks, and what the lines that make, show or set a lamp come to. One whose last word does not end it,
-// or that has a word not as asked, is unreadable.
+// or that has a word not as asked, asks for nothing.
 ghost use Rattle.std.specs.Prelude.{◌≡◌};
-ghost use Rattle.text.specs.Words.{lost};
-ghost use Rattle.text.specs.Readers.{Reads, give, ◌then◌, number64};
-ghost use Rattle.lamp_lines.specs.Fields.{idle_lamp_at};
-ghost use Rattle.lamp_lines.specs.Records.{running_at};
-ghost use Rattle.call_lines.specs.Leaves.{leaf_at};
-ghost use Rattle.call_lines.specs.Setters.{setting_at};
-ghost use Rattle.call_lines.specs.Lines.{call_line, poke_line, record_line, set_line, making_at, other_line_at, line_at, line_read, made, shown_answer, with_record, on_lamp};
+ghost use Rattle.text.specs.Readers.{Reads};
+ghost use Rattle.call_lines.specs.Lines.{making_at, line_at, line_read, made, shown_answer, with_record, on_lamp};
 
-use crate::invocations::CallRead;
 use crate::leaves::Leaf;
 use crate::setters::Setting;
 use crate::{invocations, leaves, setters};
@@ -17,8 +11,7 @@ use lamp::{Answer, Call, Lamp, };
 use lamp_lines::{fields, records};
 use matter::{ACCEPTED, Bounds};
 use tasks::Running;
-use text::words::LOST;
-use text::{numbers, words};
+use text::words::Words;
 
 #[derive(Clone, Copy)]
 pub struct Making {
@@ -46,202 +39,65 @@ pub enum Line {
     StartLast(u64),
     Ask(Leaf),
     Help,
-    Unreadable,
-}
-
-#[derive(Clone, Copy)]
-pub struct LineRead {
-    pub value: Line,
-    pub at: usize,
-}
-
-fn call_line(read: CallRead) -> LineRead
-    ensures { (result.value ≡ call_line read.value) × (result.at ≡ read.at) }
-{
-    let call = read.value;
-    LineRead {
-        value: Line::OnLamp(OnLamp::Call(call)),
-        at: read.at,
-    }
-}
-
-fn lamp_line(line: &[u8], at: usize) -> LineRead
-    ensures { Reads ((give Line.Lamp then idle_lamp_at) line.now at) result.value result.at }
-{
-    let read = fields::idle_lamp(line, at);
-    let lamp = read.value;
-    LineRead {
-        value: Line::Lamp(lamp),
-        at: read.at,
-    }
-}
-
-fn poke_line(line: &[u8], at: usize) -> LineRead
-    ensures { Reads ((give poke_line then idle_lamp_at) line.now at) result.value result.at }
-{
-    let read = fields::idle_lamp(line, at);
-    let fields = read.value;
-    LineRead {
-        value: Line::OnLamp(OnLamp::Poke(fields)),
-        at: read.at,
-    }
 }
 
 #[tactic(auto, unfolding(crate::specs::Lines::making_at))]
-fn making_line(line: &[u8], at: usize) -> LineRead
-    ensures { Reads (making_at line.now at) result.value result.at }
+fn new_lamp(words: &mut Words) -> Option<Line>
+    ensures { Reads (making_at words.old) result words.new }
 {
-    let limits = fields::bounds(line, at);
-    let bounds = limits.value;
-    let features = numbers::number_32(line, limits.at);
-    let options = numbers::number_8(line, features.at);
-    let clock = numbers::number_64(line, options.at);
-    LineRead {
-        value: Line::New(Making {
-            bounds,
-            features: features.value,
-            options: options.value,
-            clock: clock.value,
-        }),
-        at: clock.at,
+    Some(Line::New(Making {
+        bounds: fields::bounds(words)?,
+        features: words.read()?,
+        options: words.read()?,
+        clock: words.read()?,
+    }))
+}
+
+// The line by its first word. (A `match` on names of more than a few letters is not proved.)
+#[tactic(auto, unfolding(crate::specs::Lines::line_at))]
+pub fn line_by_name(name: &[u8], words: &mut Words) -> Option<Line>
+    ensures { Reads (line_at name.now words.old) result words.new }
+{
+    if name == b"cmd".as_slice() {
+        Some(Line::OnLamp(OnLamp::Call(invocations::invoke(words)?)))
+    } else if name == b"step".as_slice() {
+        Some(Line::OnLamp(OnLamp::Call(invocations::step(words)?)))
+    } else if name == b"startlast".as_slice() {
+        Some(Line::StartLast(words.read()?))
+    } else if name == b"start".as_slice() {
+        Some(Line::OnLamp(OnLamp::Call(invocations::begin(words)?)))
+    } else if name == b"halt".as_slice() {
+        Some(Line::OnLamp(OnLamp::Call(invocations::halt(words)?)))
+    } else if name == b"leaf".as_slice() {
+        Some(Line::Ask(leaves::read(words)?))
+    } else if name == b"set".as_slice() {
+        Some(Line::OnLamp(OnLamp::Set(setters::read(words)?)))
+    } else if name == b"lamp".as_slice() {
+        Some(Line::Lamp(fields::idle_lamp(words)?))
+    } else if name == b"new".as_slice() {
+        new_lamp(words)
+    } else if name == b"poke".as_slice() {
+        Some(Line::OnLamp(OnLamp::Poke(fields::idle_lamp(words)?)))
+    } else if name == b"record".as_slice() {
+        Some(Line::OnLamp(OnLamp::Record(records::running(words)?)))
+    } else if name == b"show".as_slice() {
+        Some(Line::OnLamp(OnLamp::Show))
+    } else if name == b"help".as_slice() {
+        Some(Line::Help)
+    } else {
+        None
     }
 }
 
-fn record_line(line: &[u8], at: usize) -> LineRead
-    ensures { Reads ((give record_line then running_at) line.now at) result.value result.at }
-{
-    let read = records::running(line, at);
-    let running = read.value;
-    LineRead {
-        value: Line::OnLamp(OnLamp::Record(running)),
-        at: read.at,
-    }
-}
-
-fn start_last_line(line: &[u8], at: usize) -> LineRead
-    ensures { Reads ((give Line.StartLast then number64) line.now at) result.value result.at }
-{
-    let clock = numbers::number_64(line, at);
-    LineRead {
-        value: Line::StartLast(clock.value),
-        at: clock.at,
-    }
-}
-
-fn set_line(line: &[u8], at: usize) -> LineRead
-    ensures { Reads ((give set_line then setting_at) line.now at) result.value result.at }
-{
-    let read = setters::read(line, at);
-    let setting = read.value;
-    LineRead {
-        value: Line::OnLamp(OnLamp::Set(setting)),
-        at: read.at,
-    }
-}
-
-fn leaf_line(line: &[u8], at: usize) -> LineRead
-    ensures { Reads ((give Line.Ask then leaf_at) line.now at) result.value result.at }
-{
-    let read = leaves::read(line, at);
-    let leaf = read.value;
-    LineRead {
-        value: Line::Ask(leaf),
-        at: read.at,
-    }
-}
-
-fn show_line(at: usize) -> LineRead
-    ensures { (result.value ≡ Line.OnLamp OnLamp.Show) × (result.at ≡ at) }
-{
-    LineRead {
-        value: Line::OnLamp(OnLamp::Show),
-        at,
-    }
-}
-
-fn help_line(at: usize) -> LineRead
-    ensures { (result.value ≡ Line.Help) × (result.at ≡ at) }
-{
-    LineRead {
-        value: Line::Help,
-        at,
-    }
-}
-
-fn unreadable() -> LineRead
-    ensures { (result.value ≡ Line.Unreadable) × (result.at ≡ lost) }
-{
-    LineRead {
-        value: Line::Unreadable,
-        at: LOST,
-    }
-}
-
-// The lines that ask a leaf, make a lamp, show it or change it by hand.
-#[tactic(auto, unfolding(crate::specs::Lines::other_line_at))]
-fn other_line(line: &[u8], name: usize, at: usize) -> LineRead
-    ensures { Reads (other_line_at line.now name at) result.value result.at }
-{
-    if words::is(line, name, b"leaf") {
-        return leaf_line(line, at);
-    }
-    if words::is(line, name, b"set") {
-        return set_line(line, at);
-    }
-    if words::is(line, name, b"lamp") {
-        return lamp_line(line, at);
-    }
-    if words::is(line, name, b"new") {
-        return making_line(line, at);
-    }
-    if words::is(line, name, b"poke") {
-        return poke_line(line, at);
-    }
-    if words::is(line, name, b"record") {
-        return record_line(line, at);
-    }
-    if words::is(line, name, b"show") {
-        return show_line(at);
-    }
-    if words::is(line, name, b"help") {
-        return help_line(at);
-    }
-    unreadable()
-}
-
-// The line by its first word, which ends at `at`.
-#[tactic(auto, unfolding(crate::specs::Lines::line_at, crate::specs::Lines::other_line_at))]
-pub fn any_line(line: &[u8], name: usize, at: usize) -> LineRead
-    ensures { Reads (line_at line.now name at) result.value result.at }
-{
-    if words::is(line, name, b"cmd") {
-        return call_line(invocations::invoke(line, at));
-    }
-    if words::is(line, name, b"step") {
-        return call_line(invocations::step(line, at));
-    }
-    if words::is(line, name, b"startlast") {
-        return start_last_line(line, at);
-    }
-    if words::is(line, name, b"start") {
-        return call_line(invocations::begin(line, at));
-    }
-    if words::is(line, name, b"halt") {
-        return call_line(invocations::halt(line, at));
-    }
-    other_line(line, name, at)
-}
-
+// What a line asks for, where its last word ends it.
 #[tactic(auto, unfolding(crate::specs::Lines::line_read))]
-pub fn read(line: &[u8]) -> Line
+pub fn read(line: &[u8]) -> Option<Line>
     ensures { result ≡ line_read line.now }
 {
-    let read = any_line(line, 0, words::end(line, 0));
-    if read.at != line.len() {
-        return Line::Unreadable;
-    }
-    let found = read.value;
-    found
+    let mut words = Words::new(line);
+    let name = words.first();
+    let read = line_by_name(name, &mut words)?;
+    if words.is_over() { Some(read) } else { None }
 }
 
 pub fn make(making: Making) -> Result<Lamp, Refusal>

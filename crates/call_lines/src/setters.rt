@@ -1,14 +1,13 @@
 // A setter on its own: its line, and the lamp at the clock with the colour that was set.
 ghost use Rattle.std.specs.Prelude.{◌≡◌};
-ghost use Rattle.text.specs.Readers.{Reads, give, ◌then◌, number64};
-ghost use Rattle.call_lines.specs.Setters.{setting_of, hue_setting_at, saturation_setting_at, mireds_setting_at, setting_at, setting_set, setting_answer};
+ghost use Rattle.text.specs.Readers.{Reads};
+ghost use Rattle.call_lines.specs.Setters.{hue_setting_at, saturation_setting_at, mireds_setting_at, setting_at, setting_set, setting_answer};
 
 use color::{Color, ColorSet};
 use lamp::{Answer, Lamp};
 use matter::ACCEPTED;
 use notices::Numeral;
-use text::words::LOST;
-use text::{numbers, words};
+use text::words::Words;
 
 #[derive(Clone, Copy)]
 pub enum NewValue {
@@ -24,84 +23,52 @@ pub struct Setting {
     pub clock: u64,
 }
 
-#[derive(Clone, Copy)]
-pub struct SettingRead {
-    pub value: Setting,
-    pub at: usize,
-}
-
-// What ends each line: the clock.
-fn at_clock(line: &[u8], at: usize, value: NewValue, is_end: bool) -> SettingRead
-    ensures { Reads ((give (setting_of value is_end) then number64) line.now at) result.value result.at }
-{
-    let clock = numbers::number_64(line, at);
-    SettingRead {
-        value: Setting {
-            value,
-            is_end,
-            clock: clock.value,
-        },
-        at: clock.at,
-    }
-}
-
 #[tactic(auto, unfolding(crate::specs::Setters::hue_setting_at))]
-fn hue(line: &[u8], at: usize) -> SettingRead
-    ensures { Reads (hue_setting_at line.now at) result.value result.at }
+fn hue(words: &mut Words) -> Option<Setting>
+    ensures { Reads (hue_setting_at words.old) result words.new }
 {
-    let hue = numbers::number_16(line, at);
-    let is_end = numbers::flag(line, hue.at);
-    let is_enhanced = numbers::flag(line, is_end.at);
-    let value = NewValue::Hue {
-        hue: hue.value,
-        is_enhanced: is_enhanced.value,
-    };
-    at_clock(line, is_enhanced.at, value, is_end.value)
+    let hue = words.read()?;
+    let is_end = words.read()?;
+    let is_enhanced = words.read()?;
+    Some(Setting {
+        value: NewValue::Hue { hue, is_enhanced },
+        is_end,
+        clock: words.read()?,
+    })
 }
 
 #[tactic(auto, unfolding(crate::specs::Setters::saturation_setting_at))]
-fn saturation(line: &[u8], at: usize) -> SettingRead
-    ensures { Reads (saturation_setting_at line.now at) result.value result.at }
+fn saturation(words: &mut Words) -> Option<Setting>
+    ensures { Reads (saturation_setting_at words.old) result words.new }
 {
-    let saturation = numbers::number_8(line, at);
-    let is_end = numbers::flag(line, saturation.at);
-    let value = NewValue::Saturation(saturation.value);
-    at_clock(line, is_end.at, value, is_end.value)
+    Some(Setting {
+        value: NewValue::Saturation(words.read()?),
+        is_end: words.read()?,
+        clock: words.read()?,
+    })
 }
 
 #[tactic(auto, unfolding(crate::specs::Setters::mireds_setting_at))]
-fn mireds(line: &[u8], at: usize) -> SettingRead
-    ensures { Reads (mireds_setting_at line.now at) result.value result.at }
+fn mireds(words: &mut Words) -> Option<Setting>
+    ensures { Reads (mireds_setting_at words.old) result words.new }
 {
-    let mireds = numbers::number_16(line, at);
-    let is_end = numbers::flag(line, mireds.at);
-    let value = NewValue::Mireds(mireds.value);
-    at_clock(line, is_end.at, value, is_end.value)
+    Some(Setting {
+        value: NewValue::Mireds(words.read()?),
+        is_end: words.read()?,
+        clock: words.read()?,
+    })
 }
 
 // The setter's name and its numbers.
 #[tactic(auto, unfolding(crate::specs::Setters::setting_at))]
-pub fn read(line: &[u8], at: usize) -> SettingRead
-    ensures { Reads (setting_at line.now at) result.value result.at }
+pub fn read(words: &mut Words) -> Option<Setting>
+    ensures { Reads (setting_at words.old) result words.new }
 {
-    let name = words::start(line, at);
-    let end = words::end(line, name);
-    if words::is(line, name, b"hue") {
-        return hue(line, end);
-    }
-    if words::is(line, name, b"sat") {
-        return saturation(line, end);
-    }
-    if words::is(line, name, b"ct") {
-        return mireds(line, end);
-    }
-    SettingRead {
-        value: Setting {
-            value: NewValue::Mireds(0),
-            is_end: false,
-            clock: 0,
-        },
-        at: LOST,
+    match words.word()? {
+        b"hue" => hue(words),
+        b"sat" => saturation(words),
+        b"ct" => mireds(words),
+        _ => None,
     }
 }
 

@@ -7,21 +7,23 @@ use native.Mathlib.Omega.{arith}
 use lib.Dec.{eqb, leb}
 use lib.ListN.{length}
 use borrow.Author.Tests.{leb-false, lt-leb, ne_eqb}
-use Rattle.text.specs.declared.digits.Grown.{Grown}
+use Rattle.std.proofs.Common.{Option, Some, None, unwrap_or, option_map, option_and_then}
 use Rattle.text.specs.Digits.{is_digit, not_empty, digits_alone, value, is_number, grown}
 use Rattle.text.specs.Words.{up_to}
 use Rattle.text.proofs.DigitLaws.{value-next, value-join, value_grows}
-use Rattle.fade_line.specs.declared.reader.Asked.{Asked}
+use Rattle.fade_line.specs.declared.reader.Numbers.{Numbers}
 use Rattle.fade_line.specs.declared.reader.Reader.{Reader}
 use Rattle.fade_line.specs.Line.{line, longer, words, largest, all_numbers, wanted, asked_by_words, asked_by}
-use Rattle.fade_line.specs.Reading.{fresh, spoilt, ended, next_word, with_last, next_digit, settled, read_byte, read_all, line_read}
+use Rattle.fade_line.specs.Reading.{fresh, unless_spoilt, next_word, next_digit, settled, read_byte, read_all, asked_of, line_read}
 
 -- ---- a settled line: nothing that follows changes what has been read, nor what it asks for
 
 pub settled-final : (r : Reader) (s : List ℕ) → settled r ≡ true → read_all r s ≡ r
 unfolding read_all read_byte
 settled-final r [] e = refl
-settled-final r (b ∷ s) e = rw e (settled-final r s e)
+settled-final (Reader.Open ns) (b ∷ s) e = absurd (false≢true e)
+settled-final (Reader.Over ns) (b ∷ s) e = settled-final (Reader.Over ns) s e
+settled-final Reader.Bad (b ∷ s) e = settled-final Reader.Bad s e
 
 -- ---- parts: to read two parts is to read them joined
 
@@ -32,15 +34,11 @@ parts r (b ∷ s) t = parts (read_byte r b) s t
 
 -- ---- what spoils the line, and what ends it
 
-spoilt-stays : (r : Reader) (bs : List ℕ) → r.bad ≡ true → line_read (read_all r bs) ≡ Asked.BadLine
-unfolding read_all read_byte line_read
-spoilt-stays r [] e = simp e
-spoilt-stays r (b ∷ bs) e = simp e (spoilt-stays r bs e)
+spoilt-stays : (bs : List ℕ) → line_read (read_all Reader.Bad bs) ≡ None
+spoilt-stays bs = ap line_read (settled-final Reader.Bad bs refl)
 
-ended-stays : (r : Reader) (bs : List ℕ) → r.bad ≡ false → r.over ≡ true → read_all r bs ≡ r
-unfolding read_all read_byte
-ended-stays r [] e f = refl
-ended-stays r (b ∷ bs) e f = simp (e, f) (ended-stays r bs e f)
+ended-stays : (ns : Numbers) (bs : List ℕ) → read_all (Reader.Over ns) bs ≡ Reader.Over ns
+ended-stays ns bs = settled-final (Reader.Over ns) bs refl
 
 -- ---- numbers
 
@@ -91,7 +89,7 @@ glue-longer : (w : List ℕ) (b : ℕ) (ws : List (List ℕ)) → glue w (longer
 glue-longer w b [] = refl
 glue-longer w b (u ∷ us) = ap {B = List (List ℕ)} (λ (x : List ℕ). x ∷ us) (sym (append_assoc w (b ∷ []) u))
 
-none_of : (p : List (List ℕ)) (x : List ℕ) (q : List (List ℕ)) → is_number largest x ≡ false → asked_by_words (p ++ (x ∷ q)) ≡ Asked.BadLine
+none_of : (p : List (List ℕ)) (x : List ℕ) (q : List (List ℕ)) → is_number largest x ≡ false → asked_by_words (p ++ (x ∷ q)) ≡ None
 unfolding asked_by_words
 none_of p x q e = simp (no-numbers p, and-false (eqb (length (p ++ (x ∷ q))) 4))
   where
@@ -99,7 +97,7 @@ none_of p x q e = simp (no-numbers p, and-false (eqb (length (p ++ (x ∷ q))) 4
     no-numbers [] = simp e
     no-numbers (y ∷ p) = ap (λ (t : Bool). is_number largest y && t) (no-numbers p) ∙ and-false (is_number largest y)
 
-spoilt-word : (p : List (List ℕ)) (w : List ℕ) (b : ℕ) (ws : List (List ℕ)) → ((u : List ℕ) → is_number largest (w ++ (b ∷ u)) ≡ false) → asked_by_words (p ++ glue w (longer b ws)) ≡ Asked.BadLine
+spoilt-word : (p : List (List ℕ)) (w : List ℕ) (b : ℕ) (ws : List (List ℕ)) → ((u : List ℕ) → is_number largest (w ++ (b ∷ u)) ≡ false) → asked_by_words (p ++ glue w (longer b ws)) ≡ None
 spoilt-word p w b [] h = none_of p (w ++ (b ∷ [])) [] (h [])
 spoilt-word p w b (u ∷ us) h = none_of p (w ++ (b ∷ u)) us (h u)
 
@@ -111,8 +109,23 @@ before (suc zero) a b c = c ∷ []
 before (suc (suc zero)) a b c = b ∷ c ∷ []
 before (suc (suc (suc k))) a b c = a ∷ b ∷ c ∷ []
 
+abbrev last_of : List ℕ → Option ℕ
+last_of w = cond (not_empty w) (Some (value w)) None
+
+abbrev numbers : ℕ → List ℕ → List ℕ → List ℕ → List ℕ → Numbers
+numbers k a b c w = record { blanks = k; first = value a; second = value b; third = value c; last = last_of w }
+
 abbrev held : ℕ → List ℕ → List ℕ → List ℕ → List ℕ → Reader
-held k a b c w = record { bad = false; over = false; begun = not_empty w; blanks = k; first = value a; second = value b; third = value c; last = value w }
+held k a b c w = Reader.Open (numbers k a b c w)
+
+-- the last word's number, where it has a digit
+last-then : {A : Type 0} (f : ℕ → Option A) (w : List ℕ) → option_and_then f (last_of w) ≡ cond (not_empty w) (f (value w)) None
+last-then f [] = refl
+last-then f (y ∷ w) = refl
+
+last-value : (w : List ℕ) → unwrap_or (last_of w) 0 ≡ value w
+last-value [] = refl
+last-value (y ∷ w) = refl
 
 -- a word of digits within 64 bits is a number unless it is empty
 whole : (w : List ℕ) → digits_alone w ≡ true → leb (value w) largest ≡ true → is_number largest w ≡ not_empty w
@@ -129,11 +142,13 @@ numbers-then (x ∷ p) w e = go (is_number largest x) (numbers-then p w) e
 
 -- at the end of the line
 line-ends : (k : ℕ) (a b c w : List ℕ) → k ≤ 3 → all_numbers (before k a b c) ≡ true → digits_alone w ≡ true → leb (value w) largest ≡ true → line_read (held k a b c w) ≡ asked_by_words (before k a b c ++ (w ∷ []))
-unfolding line_read asked_by_words
+unfolding asked_of asked_by_words
 line-ends zero a b c w h e d n = refl
 line-ends (suc zero) a b c w h e d n = refl
 line-ends (suc (suc zero)) a b c w h e d n = refl
-line-ends (suc (suc (suc zero))) a b c w h e d n = ap (λ (t : Bool). cond t (wanted (value a) (value b) (value c) (value w)) Asked.BadLine) (sym (numbers-then (a ∷ b ∷ c ∷ []) w e ∙ whole w d n))
+line-ends (suc (suc (suc zero))) a b c w h e d n =
+    last-then (wanted (value a) (value b) (value c)) w
+    ∙ ap (λ (t : Bool). cond t (wanted (value a) (value b) (value c) (value w)) None) (sym (numbers-then (a ∷ b ∷ c ∷ []) w e ∙ whole w d n))
 line-ends (suc (suc (suc (suc k)))) a b c w h e d n = absurd (omega (arith, h))
 
 -- ---- and with each byte that comes
@@ -148,22 +163,22 @@ unfolding read_all up_to words
 at-end k a b c w h e d n = line-ends k a b c w h e d n ∙ ap (λ (x : List ℕ). asked_by_words (before k a b c ++ (x ∷ []))) (sym (append-nil w))
 
 at-newline : (x : ℕ) (bs : List ℕ) → eqb x 10 ≡ true → Goes (x ∷ bs)
-unfolding read_all read_byte line_read up_to
-at-newline x bs t k a b c w h e d n = simp (t, ended-stays (ended (held k a b c w)) bs refl refl) (at-end k a b c w h e d n)
+unfolding read_all read_byte asked_of up_to
+at-newline x bs t k a b c w h e d n = simp (t, ended-stays (numbers k a b c w) bs) (at-end k a b c w h e d n)
 
 at_other : (x : ℕ) (bs : List ℕ) → eqb x 10 ≡ false → eqb x 32 ≡ false → is_digit x ≡ false → Goes (x ∷ bs)
 unfolding read_all read_byte next_digit grown up_to words
 at_other x bs t u v k a b c w h e d n =
-    simp (t, u, v, spoilt-stays (spoilt (held k a b c w)) bs refl) (sym (spoilt-word (before k a b c) w x (words (line bs)) (λ z. no_digit w x z v)))
+    simp (t, u, v, spoilt-stays bs) (sym (spoilt-word (before k a b c) w x (words (line bs)) (λ z. no_digit w x z v)))
 
 -- a blank after no digit
 at-second-blank : (x : ℕ) (bs : List ℕ) → eqb x 10 ≡ false → eqb x 32 ≡ true → (k : ℕ) (a b c : List ℕ) →
     line_read (read_all (held k a b c []) (x ∷ bs)) ≡ asked_by_words (before k a b c ++ glue [] (words (line (x ∷ bs))))
 unfolding read_all read_byte next_word up_to words is_number
-at-second-blank x bs t u k a b c = simp (t, u, spoilt-stays (spoilt (held k a b c [])) bs refl) (sym (none_of (before k a b c) [] (words (line bs)) refl))
+at-second-blank x bs t u k a b c = simp (t, u, spoilt-stays bs) (sym (none_of (before k a b c) [] (words (line bs)) refl))
 
 -- five words and more
-too_many : (a b c w : List ℕ) (ws : List (List ℕ)) → glue [] ws ≡ ws → asked_by_words (a ∷ b ∷ c ∷ w ∷ ws) ≡ Asked.BadLine
+too_many : (a b c w : List ℕ) (ws : List (List ℕ)) → glue [] ws ≡ ws → asked_by_words (a ∷ b ∷ c ∷ w ∷ ws) ≡ None
 unfolding asked_by_words
 too_many a b c w [] e = absurd (omega (arith, ap length e))
 too_many a b c w (u ∷ us) e = simp (ne_eqb (suc (suc (suc (suc (suc (length us)))))) 4 (λ q. absurd (omega (arith, q))))
@@ -185,11 +200,11 @@ next-whole x bs t u go y ys k a b c h e d n = simp (t, u, append-nil (y ∷ ys))
     then-words p = ap (λ (q : List (List ℕ)). asked_by_words (p ++ q)) (glue-none (line bs))
 
     by_count : (k : ℕ) → k ≤ 3 → all_numbers (before k a b c) ≡ true →
-        line_read (read_all (next_word (held k a b c w)) bs) ≡ asked_by_words (before k a b c ++ (w ∷ words (line bs)))
+        line_read (read_all (unless_spoilt (next_word (numbers k a b c w))) bs) ≡ asked_by_words (before k a b c ++ (w ∷ words (line bs)))
     by_count zero h e = go 1 b c w [] (omega arith) (one_more zero e) refl refl ∙ then-words (w ∷ [])
     by_count (suc zero) h e = go 2 b c w [] (omega arith) (one_more 1 e) refl refl ∙ then-words (c ∷ w ∷ [])
     by_count (suc (suc zero)) h e = go 3 b c w [] (omega arith) (one_more 2 e) refl refl ∙ then-words (b ∷ c ∷ w ∷ [])
-    by_count (suc (suc (suc zero))) h e = spoilt-stays (spoilt (held 3 a b c w)) bs refl ∙ sym (too_many a b c w (words (line bs)) (glue-none (line bs)))
+    by_count (suc (suc (suc zero))) h e = spoilt-stays bs ∙ sym (too_many a b c w (words (line bs)) (glue-none (line bs)))
     by_count (suc (suc (suc (suc k)))) h e = absurd (omega (arith, h))
 
 at-blank : (x : ℕ) (bs : List ℕ) → eqb x 10 ≡ false → eqb x 32 ≡ true → Goes bs → Goes (x ∷ bs)
@@ -202,21 +217,21 @@ some (y ∷ w) x = refl
 
 at-digit : (x : ℕ) (bs : List ℕ) → eqb x 10 ≡ false → eqb x 32 ≡ false → is_digit x ≡ true → Goes bs → Goes (x ∷ bs)
 unfolding read_all read_byte next_digit grown up_to words
-at-digit x bs t u v go k a b c w h e d n = simp (t, u, v) (by_size (leb (value w * 10 + (x - 48)) largest) refl)
+at-digit x bs t u v go k a b c w h e d n = simp (t, u, v, last-value w) (by_size (leb (value w * 10 + (x - 48)) largest) refl)
   where
-    more : Reader
-    more = record { bad = false; over = false; begun = true; blanks = k; first = value a; second = value b; third = value c; last = value w * 10 + (x - 48) }
+    more : ℕ → Numbers
+    more m = record { blanks = k; first = value a; second = value b; third = value c; last = Some m }
 
-    is_held : held k a b c (w ++ (x ∷ [])) ≡ more
+    is_held : held k a b c (w ++ (x ∷ [])) ≡ Reader.Open (more (value w * 10 + (x - 48)))
     is_held = simp (some w x, value-next 0 w x)
 
     by_size : (z : Bool) → leb (value w * 10 + (x - 48)) largest ≡ z →
-        line_read (read_all (with_last (held k a b c w) (cond z (Grown.To (value w * 10 + (x - 48))) Grown.Refused)) bs) ≡ asked_by_words (before k a b c ++ glue w (longer x (words (line bs))))
+        line_read (read_all (unless_spoilt (option_map more (cond z (Some (value w * 10 + (x - 48))) None))) bs) ≡ asked_by_words (before k a b c ++ glue w (longer x (words (line bs))))
     by_size true z =
         ap (λ (r : Reader). line_read (read_all r bs)) (sym is_held)
         ∙ go k a b c (w ++ (x ∷ [])) h e (digits-next w x d v) (ap (λ (m : ℕ). leb m largest) (value-next 0 w x) ∙ z)
         ∙ ap (λ (q : List (List ℕ)). asked_by_words (before k a b c ++ q)) (sym (glue-longer w x (words (line bs))))
-    by_size false z = spoilt-stays (spoilt (held k a b c w)) bs refl ∙ sym (spoilt-word (before k a b c) w x (words (line bs)) (λ r. too_large w x r z))
+    by_size false z = spoilt-stays bs ∙ sym (spoilt-word (before k a b c) w x (words (line bs)) (λ r. too_large w x r z))
 
 goes : (bs : List ℕ) → Goes bs
 goes [] = at-end

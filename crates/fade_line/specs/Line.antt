@@ -1,11 +1,12 @@
 -- The line that `fade` reads: document 01, "The program `fade`". Bytes are numbers; 10 is the newline, 32 the blank,
 -- 48 to 57 the digits.
-use Rattle.std.specs.Prelude.{ℕ, Bool, true, cond, ◌&&◌, List, [], ◌∷◌, eqb, leb, length, get_or}
+use Rattle.std.specs.Prelude.{ℕ, Bool, true, cond, ◌&&◌, List, [], ◌∷◌, eqb, leb, length, get_or, Option, Some, None, option_map}
 use Rattle.text.specs.Digits.{value, is_number}
 use Rattle.text.specs.Words.{up_to}
 use Rattle.matter.specs.Numbers.{direction_found}
 use Rattle.matter.specs.declared.enums.DirectionFound.{DirectionFound}
-use Rattle.fade_line.specs.declared.reader.Asked.{Asked}
+use Rattle.matter.specs.declared.enums.DirectionEnum.{DirectionEnum}
+use Rattle.fade_line.specs.declared.reader.Wanted.{Wanted}
 
 -- "reads one line": the bytes before the first newline, or all of the input
 abbrev pub line : List ℕ → List ℕ
@@ -30,25 +31,26 @@ abbrev pub all_numbers : List (List ℕ) → Bool
 all_numbers [] = true
 all_numbers (w ∷ ws) = is_number largest w && all_numbers ws
 
-abbrev pub with_direction : DirectionFound → ℕ → ℕ → ℕ → Asked
-with_direction (DirectionFound.Known direction) hue tenths clock =
-    Asked.Fade (record { hue = hue; direction = direction; tenths = tenths; clock = clock })
-with_direction DirectionFound.Reserved hue tenths clock = Asked.BadLine
+abbrev pub known : DirectionFound → Option DirectionEnum
+known (DirectionFound.Known direction) = Some direction
+known DirectionFound.Reserved = None
 
 -- "hue, direction (0 Shortest, 1 Longest, 2 Up, 3 Down), tenths, clock"; "a direction above 3, or a number past its
--- field (hue 255, tenths 65,535, clock 64 bits)" is a bad line
-unfoldable pub wanted : ℕ → ℕ → ℕ → ℕ → Asked
+-- field (hue 255, tenths 65,535, clock 64 bits)" is a bad line, which asks for nothing
+unfoldable pub wanted : ℕ → ℕ → ℕ → ℕ → Option Wanted
 wanted hue direction tenths clock =
     cond (leb hue 255 && leb direction 3 && leb tenths 65535)
-    (with_direction (direction_found direction) hue tenths clock) Asked.BadLine
+    (option_map (λ d. record { hue = hue; direction = d; tenths = tenths; clock = clock })
+    (known (direction_found direction)))
+    None
 
 -- "four decimal numbers"
-unfoldable pub asked_by_words : List (List ℕ) → Asked
+unfoldable pub asked_by_words : List (List ℕ) → Option Wanted
 asked_by_words ws =
     cond (eqb (length ws) 4 && all_numbers ws)
     (wanted (value (get_or ws 0 [])) (value (get_or ws 1 [])) (value (get_or ws 2 [])) (value (get_or ws 3 [])))
-    Asked.BadLine
+    None
 
 -- what an input asks for
-abbrev pub asked_by : List ℕ → Asked
+abbrev pub asked_by : List ℕ → Option Wanted
 asked_by input = asked_by_words (words (line input))

@@ -1,7 +1,7 @@
 -- The program `fade`: document 01, "Checked by sums". "It makes this lamp at that clock, gives the plain command,
 -- starts it, and steps at each wait until done."
 use Rattle.std.specs.Prelude.{Option, Some, None}
-use Rattle.std.specs.Prelude.{ℕ, zero, suc, ◌+◌, ◌-◌, Bool, true, false, cond, ◌&&◌, ◌||◌, List, [], ◌++◌, eqb, ltb}
+use Rattle.std.specs.Prelude.{ℕ, zero, suc, ◌+◌, ◌-◌, Bool, true, false, cond, ◌&&◌, ◌||◌, List, [], ◌++◌, eqb, ltb, Option, Some, None}
 use Rattle.matter.specs.declared.commands.Command.{Command}
 use Rattle.matter.specs.Requests.{request, no_options}
 use Rattle.matter.specs.declared.enums.OnOff.{OnOff}
@@ -14,7 +14,6 @@ use Rattle.lamp.specs.declared.Answer.{Answer}
 use Rattle.lamp.specs.Making.{making}
 use Rattle.lamp.specs.Calls.{start_answer, step_answer}
 use Rattle.commands.specs.Answers.{command_answer}
-use Rattle.fade_line.specs.declared.reader.Asked.{Asked}
 use Rattle.fade_line.specs.declared.reader.Wanted.{Wanted}
 use Rattle.fade_line.specs.declared.writer.Line.{Line}
 use Rattle.fade_line.specs.Line.{asked_by}
@@ -92,9 +91,9 @@ abbrev pub fade_within : ℕ → Wanted → Fade
 fade_within left w = after_making left w (making (record { min = 153; max = 500 }) 31 0 w.clock)
 
 -- as many steps at most as the fade has tenths
-unfoldable pub fade_of : Asked → Fade
-fade_of Asked.BadLine = Fade.BadLine
-fade_of (Asked.Fade w) = fade_within w.tenths w
+unfoldable pub fade_of : Option Wanted → Fade
+fade_of None = Fade.BadLine
+fade_of (Some w) = fade_within w.tenths w
 
 -- ---- what `fade` writes for an input
 

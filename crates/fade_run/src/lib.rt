@@ -7,7 +7,7 @@ ghost use Rattle.fade_line.specs.Text.{fitting};
 ghost use Rattle.fade_run.specs.Run.{line_of, one_text, next_text, rest, start_of, after_command, commanded, after_making, fade_within, fade_of, step_of, is_over, text, moved};
 
 use commands::invoke;
-use fade_line::reader::{Asked, Wanted};
+use fade_line::reader::Wanted;
 use fade_line::writer;
 use fade_line::writer::{LONGEST, Line};
 use lamp::{Answer, Lamp, };
@@ -201,14 +201,14 @@ fn step(stepping: Stepping, out: &mut [u8], at: usize) -> Written
 }
 
 impl Fade {
-    // The run that a line asks for.
+    // The run that a line asks for; a line that asks for none is bad.
     #[tactic(auto, unfolding(crate::specs::Run::fade_of))]
-    pub fn new(asked: Asked) -> Fade
+    pub fn new(asked: Option<Wanted>) -> Fade
         ensures { result ≡ fade_of asked }
     {
         match asked {
-            Asked::BadLine => Fade::BadLine,
-            Asked::Fade(wanted) => begin(wanted),
+            Some(wanted) => begin(wanted),
+            None => Fade::BadLine,
         }
     }
 

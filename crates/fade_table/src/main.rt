@@ -1,7 +1,7 @@
 // What `fade` writes for a table of inputs, good, refused and bad: the name of each, and then the first lines.
 #![tactic(auto)]
 
-use fade_line::reader::{Asked, Reader, asked_by};
+use fade_line::reader::{Reader, Wanted, asked_by};
 use fade_run::Fade;
 use std::io::Write;
 
@@ -14,7 +14,7 @@ fn put(to: &mut impl Write, bytes: &[u8]) {
 }
 
 // The run that an input asks for, as far as the room goes.
-fn show_in(to: &mut impl Write, space: &mut [u8], name: &[u8], asked: Asked) {
+fn show_in(to: &mut impl Write, space: &mut [u8], name: &[u8], asked: Option<Wanted>) {
     let written = Fade::new(asked).write(space);
     let n = written.len;
     put(to, b"== ");
@@ -23,7 +23,7 @@ fn show_in(to: &mut impl Write, space: &mut [u8], name: &[u8], asked: Asked) {
     put(to, &space[..n]);
 }
 
-fn show_asked(to: &mut impl Write, name: &[u8], asked: Asked) {
+fn show_asked(to: &mut impl Write, name: &[u8], asked: Option<Wanted>) {
     let mut space = [0u8; ROOM];
     show_in(to, &mut space, name, asked);
 }

@@ -1,2 +1,1 @@
-pub mod EnumLaws
 pub mod NumbersLaws

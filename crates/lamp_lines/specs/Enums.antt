@@ -1,5 +1,5 @@
 -- The cluster's enums by their numbers, which `matter` states, and the on/off words.
-use Rattle.std.specs.Prelude.{ℕ, List, [], ◌∷◌}
+use Rattle.std.specs.Prelude.{ℕ, List, [], ◌∷◌, Option, Some, None, option_and_then}
 use Rattle.matter.specs.Numbers.{case_numbered, direction_number, directions, move_mode_number, move_modes}
 use Rattle.matter.specs.Numbers.{step_mode_number, step_modes, loop_action_number, loop_actions, loop_direction_number}
 use Rattle.matter.specs.Numbers.{loop_directions, color_mode_number, color_modes, enhanced_color_mode_number}
@@ -12,39 +12,41 @@ use Rattle.matter.specs.declared.enums.EnhancedColorModeEnum.{EnhancedColorModeE
 use Rattle.matter.specs.declared.enums.MoveModeEnum.{MoveModeEnum}
 use Rattle.matter.specs.declared.enums.OnOff.{OnOff}
 use Rattle.matter.specs.declared.enums.StepModeEnum.{StepModeEnum}
-use Rattle.text.specs.Words.{lost}
-use Rattle.text.specs.Readers.{Reader, Row, give, number8, ◌means◌, by_name}
+use Rattle.text.specs.Numbers.{number_of}
+use Rattle.text.specs.Readers.{Reader, Row, give, by_word, ◌means◌, by_name}
 
--- the case whose number is the next word; where no case has it, no position
-abbrev pub enum : {E : Type 0} → (E → ℕ) → List E → E → Reader E
-enum number cases none line at =
-    case_numbered number (λ x. record { value = x; at = (number8 line at).at }) (record { value = none; at = lost }) cases
-    (number8 line at).value
+-- the case whose number is n, where one has it
+abbrev pub case_of : {E : Type 0} → (E → ℕ) → List E → ℕ → Option E
+case_of number cases n = case_numbered number (λ x. Some x) None cases n
 
-unfoldable pub direction_at : Reader DirectionEnum
-direction_at = enum direction_number directions DirectionEnum.Shortest
+-- the next word, as the number of a case
+abbrev pub enum : {E : Type 0} → (ℕ → Option E) → Reader E
+enum numbered = by_word (λ w. option_and_then numbered (number_of 255 w))
 
-unfoldable pub move_mode_at : Reader MoveModeEnum
-move_mode_at = enum move_mode_number move_modes MoveModeEnum.Stop
+abbrev pub direction_at : Reader DirectionEnum
+direction_at = enum (case_of direction_number directions)
 
-unfoldable pub step_mode_at : Reader StepModeEnum
-step_mode_at = enum step_mode_number step_modes StepModeEnum.Up
+abbrev pub move_mode_at : Reader MoveModeEnum
+move_mode_at = enum (case_of move_mode_number move_modes)
 
-unfoldable pub loop_action_at : Reader ColorLoopActionEnum
-loop_action_at = enum loop_action_number loop_actions ColorLoopActionEnum.Deactivate
+abbrev pub step_mode_at : Reader StepModeEnum
+step_mode_at = enum (case_of step_mode_number step_modes)
 
-unfoldable pub loop_direction_at : Reader ColorLoopDirectionEnum
-loop_direction_at = enum loop_direction_number loop_directions ColorLoopDirectionEnum.Decrement
+abbrev pub loop_action_at : Reader ColorLoopActionEnum
+loop_action_at = enum (case_of loop_action_number loop_actions)
 
-unfoldable pub color_mode_at : Reader ColorModeEnum
-color_mode_at = enum color_mode_number color_modes ColorModeEnum.CurrentXAndCurrentY
+abbrev pub loop_direction_at : Reader ColorLoopDirectionEnum
+loop_direction_at = enum (case_of loop_direction_number loop_directions)
 
-unfoldable pub enhanced_mode_at : Reader EnhancedColorModeEnum
-enhanced_mode_at = enum enhanced_color_mode_number enhanced_color_modes EnhancedColorModeEnum.CurrentXAndCurrentY
+abbrev pub color_mode_at : Reader ColorModeEnum
+color_mode_at = enum (case_of color_mode_number color_modes)
+
+abbrev pub enhanced_mode_at : Reader EnhancedColorModeEnum
+enhanced_mode_at = enum (case_of enhanced_color_mode_number enhanced_color_modes)
 
 -- `none`: no on/off handler
 abbrev pub on_offs : List (Row OnOff)
 on_offs = "on" means give OnOff.On ∷ "off" means give OnOff.Off ∷ "none" means give OnOff.NoHandler ∷ []
 
 unfoldable pub on_off_at : Reader OnOff
-on_off_at = by_name on_offs OnOff.NoHandler
+on_off_at = by_name on_offs

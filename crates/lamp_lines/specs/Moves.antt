@@ -1,16 +1,21 @@
 -- Tasks by their names, each with what it asks for.
 use Rattle.std.specs.Prelude.{Option, Some, None}
-use Rattle.std.specs.Prelude.{ℕ, List, [], ◌∷◌}
+use Rattle.std.specs.Prelude.{ℕ, List, [], ◌∷◌, Option, Some, None, option_map}
 use Rattle.tasks.specs.declared.Task.{Task}
-use Rattle.text.specs.Readers.{Read, Reader, give, ◌then◌, number8, number16, number32, flag, signed, or_dash, Row}
+use Rattle.text.specs.Numbers.{number_of, signed_of}
+use Rattle.text.specs.Readers.{Reader, give, ◌then◌, by_word, number16, number32, flag, signed, or_dash, Row}
 use Rattle.text.specs.Readers.{◌means◌, named, unknown}
 use Rattle.lamp_lines.specs.Enums.{move_mode_at, loop_direction_at}
 
+-- a value, or `-` for none
+abbrev pub dashed : {A : Type 0} → (List ℕ → Option A) → Reader (Option A)
+dashed of = by_word (or_dash None (λ w. option_map (λ x. Some x) (of w)))
+
 unfoldable pub delta_at : Reader (Option ℤ)
-delta_at = or_dash None (give Some then signed)
+delta_at = by_word (or_dash None (λ w. option_map (λ delta. Some delta) (signed_of w)))
 
 unfoldable pub target_at : Reader (Option ℕ)
-target_at = or_dash None (give Some then number8)
+target_at = by_word (or_dash None (λ w. option_map (λ n. Some n) (number_of 255 w)))
 
 -- <way|-> <sat|-> <ms> <enhanced>
 unfoldable pub move_to_at : Reader Task
@@ -60,6 +65,6 @@ tasks =
     ∷ "stop" means give Task.Stop
     ∷ []
 
--- the task whose name begins at `name`, with its numbers from `at` on
-unfoldable pub task_at : List ℕ → ℕ → ℕ → Read Task
-task_at = named tasks (unknown Task.Stop)
+-- the task of a name, with its numbers behind it
+unfoldable pub task_at : List ℕ → Reader Task
+task_at = named tasks unknown

@@ -1,210 +1,117 @@
-// Reading the cluster's enums by their numbers, and the on/off words. A number that no case has is LOST.
-ghost use Rattle.std.specs.Prelude.{◌≡◌};
+// Reading the cluster's enums by their numbers, and the on/off words. A number that no case has is none.
+ghost use Rattle.std.specs.Prelude.{◌≡◌, ℕ, Option};
+ghost use Rattle.matter.specs.Numbers.{direction_number, directions, move_mode_number, move_modes, step_mode_number, step_modes, loop_action_number, loop_actions, loop_direction_number, loop_directions, color_mode_number, color_modes, enhanced_color_mode_number, enhanced_color_modes};
 ghost use Rattle.text.specs.Readers.{Reads};
-ghost use Rattle.lamp_lines.specs.Enums.{direction_at, move_mode_at, step_mode_at, loop_action_at, loop_direction_at, color_mode_at, enhanced_mode_at, on_off_at};
+ghost use Rattle.lamp_lines.specs.Enums.{case_of, enum, on_off_at};
 
 use matter::{
     ColorLoopActionEnum, ColorLoopActionFound, ColorLoopDirectionEnum, ColorLoopDirectionFound,
     ColorModeEnum, ColorModeFound, DirectionEnum, DirectionFound, EnhancedColorModeEnum,
     EnhancedColorModeFound, MoveModeEnum, MoveModeFound, OnOff, StepModeEnum, StepModeFound,
 };
-use text::words::LOST;
-use text::{numbers, words};
+use text::words::Words;
 
-#[derive(Clone, Copy)]
-pub struct DirectionRead {
-    pub value: DirectionEnum,
-    pub at: usize,
+// An enum of the cluster, whose cases have numbers.
+pub trait Numbered {
+    ghost numbered: { ℕ → Option Self };
+
+    fn of(number: u8) -> Option<Self>
+        ensures { result ≡ numbered number };
 }
 
-#[derive(Clone, Copy)]
-pub struct MoveModeRead {
-    pub value: MoveModeEnum,
-    pub at: usize,
-}
+impl Numbered for DirectionEnum {
+    ghost numbered = { case_of direction_number directions };
 
-#[derive(Clone, Copy)]
-pub struct StepModeRead {
-    pub value: StepModeEnum,
-    pub at: usize,
-}
-
-#[derive(Clone, Copy)]
-pub struct LoopActionRead {
-    pub value: ColorLoopActionEnum,
-    pub at: usize,
-}
-
-#[derive(Clone, Copy)]
-pub struct LoopDirectionRead {
-    pub value: ColorLoopDirectionEnum,
-    pub at: usize,
-}
-
-#[derive(Clone, Copy)]
-pub struct ModeRead {
-    pub value: ColorModeEnum,
-    pub at: usize,
-}
-
-#[derive(Clone, Copy)]
-pub struct EnhancedModeRead {
-    pub value: EnhancedColorModeEnum,
-    pub at: usize,
-}
-
-#[derive(Clone, Copy)]
-pub struct OnOffRead {
-    pub value: OnOff,
-    pub at: usize,
-}
-
-#[tactic(auto, unfolding(crate::specs::Enums::direction_at))]
-pub fn path_direction(line: &[u8], at: usize) -> DirectionRead
-    ensures { Reads (direction_at line.now at) result.value result.at }
-{
-    let n = numbers::number_8(line, at);
-    match DirectionEnum::of_number(n.value) {
-        DirectionFound::Known(direction) => DirectionRead {
-            value: direction,
-            at: n.at,
-        },
-        DirectionFound::Reserved => DirectionRead {
-            value: DirectionEnum::Shortest,
-            at: LOST,
-        },
+    fn of(number: u8) -> Option<DirectionEnum> {
+        match DirectionEnum::of_number(number) {
+            DirectionFound::Known(case) => Some(case),
+            DirectionFound::Reserved => None,
+        }
     }
 }
 
-#[tactic(auto, unfolding(crate::specs::Enums::move_mode_at))]
-pub fn move_mode(line: &[u8], at: usize) -> MoveModeRead
-    ensures { Reads (move_mode_at line.now at) result.value result.at }
-{
-    let n = numbers::number_8(line, at);
-    match MoveModeEnum::of_number(n.value) {
-        MoveModeFound::Known(mode) => MoveModeRead {
-            value: mode,
-            at: n.at,
-        },
-        MoveModeFound::Reserved => MoveModeRead {
-            value: MoveModeEnum::Stop,
-            at: LOST,
-        },
+impl Numbered for MoveModeEnum {
+    ghost numbered = { case_of move_mode_number move_modes };
+
+    fn of(number: u8) -> Option<MoveModeEnum> {
+        match MoveModeEnum::of_number(number) {
+            MoveModeFound::Known(case) => Some(case),
+            MoveModeFound::Reserved => None,
+        }
     }
 }
 
-#[tactic(auto, unfolding(crate::specs::Enums::step_mode_at))]
-pub fn step_mode(line: &[u8], at: usize) -> StepModeRead
-    ensures { Reads (step_mode_at line.now at) result.value result.at }
-{
-    let n = numbers::number_8(line, at);
-    match StepModeEnum::of_number(n.value) {
-        StepModeFound::Known(mode) => StepModeRead {
-            value: mode,
-            at: n.at,
-        },
-        StepModeFound::Reserved => StepModeRead {
-            value: StepModeEnum::Up,
-            at: LOST,
-        },
+impl Numbered for StepModeEnum {
+    ghost numbered = { case_of step_mode_number step_modes };
+
+    fn of(number: u8) -> Option<StepModeEnum> {
+        match StepModeEnum::of_number(number) {
+            StepModeFound::Known(case) => Some(case),
+            StepModeFound::Reserved => None,
+        }
     }
 }
 
-#[tactic(auto, unfolding(crate::specs::Enums::loop_action_at))]
-pub fn loop_action(line: &[u8], at: usize) -> LoopActionRead
-    ensures { Reads (loop_action_at line.now at) result.value result.at }
-{
-    let n = numbers::number_8(line, at);
-    match ColorLoopActionEnum::of_number(n.value) {
-        ColorLoopActionFound::Known(action) => LoopActionRead {
-            value: action,
-            at: n.at,
-        },
-        ColorLoopActionFound::Reserved => LoopActionRead {
-            value: ColorLoopActionEnum::Deactivate,
-            at: LOST,
-        },
+impl Numbered for ColorLoopActionEnum {
+    ghost numbered = { case_of loop_action_number loop_actions };
+
+    fn of(number: u8) -> Option<ColorLoopActionEnum> {
+        match ColorLoopActionEnum::of_number(number) {
+            ColorLoopActionFound::Known(case) => Some(case),
+            ColorLoopActionFound::Reserved => None,
+        }
     }
 }
 
-#[tactic(auto, unfolding(crate::specs::Enums::loop_direction_at))]
-pub fn loop_direction(line: &[u8], at: usize) -> LoopDirectionRead
-    ensures { Reads (loop_direction_at line.now at) result.value result.at }
-{
-    let n = numbers::number_8(line, at);
-    match ColorLoopDirectionEnum::of_number(n.value) {
-        ColorLoopDirectionFound::Known(direction) => LoopDirectionRead {
-            value: direction,
-            at: n.at,
-        },
-        ColorLoopDirectionFound::Reserved => LoopDirectionRead {
-            value: ColorLoopDirectionEnum::Decrement,
-            at: LOST,
-        },
+impl Numbered for ColorLoopDirectionEnum {
+    ghost numbered = { case_of loop_direction_number loop_directions };
+
+    fn of(number: u8) -> Option<ColorLoopDirectionEnum> {
+        match ColorLoopDirectionEnum::of_number(number) {
+            ColorLoopDirectionFound::Known(case) => Some(case),
+            ColorLoopDirectionFound::Reserved => None,
+        }
     }
 }
 
-#[tactic(auto, unfolding(crate::specs::Enums::color_mode_at))]
-pub fn color_mode(line: &[u8], at: usize) -> ModeRead
-    ensures { Reads (color_mode_at line.now at) result.value result.at }
-{
-    let n = numbers::number_8(line, at);
-    match ColorModeEnum::of_number(n.value) {
-        ColorModeFound::Known(mode) => ModeRead {
-            value: mode,
-            at: n.at,
-        },
-        ColorModeFound::Reserved => ModeRead {
-            value: ColorModeEnum::CurrentXAndCurrentY,
-            at: LOST,
-        },
+impl Numbered for ColorModeEnum {
+    ghost numbered = { case_of color_mode_number color_modes };
+
+    fn of(number: u8) -> Option<ColorModeEnum> {
+        match ColorModeEnum::of_number(number) {
+            ColorModeFound::Known(case) => Some(case),
+            ColorModeFound::Reserved => None,
+        }
     }
 }
 
-#[tactic(auto, unfolding(crate::specs::Enums::enhanced_mode_at))]
-pub fn enhanced_mode(line: &[u8], at: usize) -> EnhancedModeRead
-    ensures { Reads (enhanced_mode_at line.now at) result.value result.at }
-{
-    let n = numbers::number_8(line, at);
-    match EnhancedColorModeEnum::of_number(n.value) {
-        EnhancedColorModeFound::Known(mode) => EnhancedModeRead {
-            value: mode,
-            at: n.at,
-        },
-        EnhancedColorModeFound::Reserved => EnhancedModeRead {
-            value: EnhancedColorModeEnum::CurrentXAndCurrentY,
-            at: LOST,
-        },
+impl Numbered for EnhancedColorModeEnum {
+    ghost numbered = { case_of enhanced_color_mode_number enhanced_color_modes };
+
+    fn of(number: u8) -> Option<EnhancedColorModeEnum> {
+        match EnhancedColorModeEnum::of_number(number) {
+            EnhancedColorModeFound::Known(case) => Some(case),
+            EnhancedColorModeFound::Reserved => None,
+        }
     }
+}
+
+// The next word, as the number of a case.
+pub fn enumerated<E: Numbered>(words: &mut Words) -> Option<E>
+    ensures { Reads (enum E.numbered words.old) result words.new }
+{
+    E::of(words.read()?)
 }
 
 // `on`, `off`, or `none` where there is no on/off handler.
 #[tactic(auto, unfolding(crate::specs::Enums::on_off_at))]
-pub fn on_off(line: &[u8], at: usize) -> OnOffRead
-    ensures { Reads (on_off_at line.now at) result.value result.at }
+pub fn on_off(words: &mut Words) -> Option<OnOff>
+    ensures { Reads (on_off_at words.old) result words.new }
 {
-    let name = words::start(line, at);
-    let end = words::end(line, name);
-    if words::is(line, name, b"on") {
-        return OnOffRead {
-            value: OnOff::On,
-            at: end,
-        };
-    }
-    if words::is(line, name, b"off") {
-        return OnOffRead {
-            value: OnOff::Off,
-            at: end,
-        };
-    }
-    if words::is(line, name, b"none") {
-        return OnOffRead {
-            value: OnOff::NoHandler,
-            at: end,
-        };
-    }
-    OnOffRead {
-        value: OnOff::NoHandler,
-        at: LOST,
+    match words.word()? {
+        b"on" => Some(OnOff::On),
+        b"off" => Some(OnOff::Off),
+        b"none" => Some(OnOff::NoHandler),
+        _ => None,
     }
 }

@@ -1,21 +1,14 @@
 // Reading a running record: its name, the clock and the initial values at its start, and its task's numbers.
 ghost use Rattle.std.specs.Prelude.{◌≡◌};
 ghost use Rattle.text.specs.Readers.{Reads};
-ghost use Rattle.lamp_lines.specs.Records.{at_start, record_of, values_of, running_at};
+ghost use Rattle.lamp_lines.specs.Records.{initial_at, record_of, record_at, running_at};
 
 use crate::moves;
 use tasks::{
     ColorTemperatureRun, ColorTemperatureToRun, HueRun, HueSaturationRun, Running, SaturationRun,
     Task,
 };
-use text::words::LOST;
-use text::{numbers, words};
-
-#[derive(Clone, Copy)]
-pub struct RecordRead {
-    pub value: Running,
-    pub at: usize,
-}
+use text::words::Words;
 
 // The clock at a start and the initial values: a hue or mireds, a saturation, or a hue and a saturation.
 #[derive(Clone, Copy)]
@@ -23,113 +16,100 @@ struct Initial {
     start: u64,
     number: u16,
     saturation: u8,
-    at: usize,
 }
 
-#[tactic(auto, unfolding(crate::specs::Records::at_start))]
-fn initial_values(line: &[u8], name: usize, at: usize) -> Initial
-    ensures { Reads (at_start line.now name at) (values_of result) result.at }
+#[tactic(auto, unfolding(crate::specs::Records::initial_at))]
+fn initial_values(name: &[u8], words: &mut Words) -> Option<Initial>
+    ensures { Reads (initial_at name.now words.old) result words.new }
 {
-    let clock = numbers::number_64(line, at);
-    if words::is(line, name, b"sat_move") {
-        let saturation = numbers::number_8(line, clock.at);
-        return Initial {
-            start: clock.value,
+    let start = words.read()?;
+    if name == b"sat_move".as_slice() {
+        return Some(Initial {
+            start,
             number: 0,
-            saturation: saturation.value,
-            at: saturation.at,
-        };
+            saturation: words.read()?,
+        });
     }
-    let number = numbers::number_16(line, clock.at);
-    if words::is(line, name, b"move_to") {
-        let saturation = numbers::number_8(line, number.at);
-        return Initial {
-            start: clock.value,
-            number: number.value,
-            saturation: saturation.value,
-            at: saturation.at,
-        };
-    }
-    Initial {
-        start: clock.value,
-        number: number.value,
-        saturation: 0,
-        at: number.at,
-    }
+    let number = words.read()?;
+    let saturation = if name == b"move_to".as_slice() {
+        words.read()?
+    } else {
+        0
+    };
+    Some(Initial {
+        start,
+        number,
+        saturation,
+    })
 }
 
-// The record of a task. In a move of the color temperature, the limits that it runs between take the place of the
-// caller's.
+// The record of a task; a Stop task has none. In a move of the color temperature, the limits that it runs between take the
+// place of the caller's.
 #[tactic(auto, unfolding(crate::specs::Records::record_of))]
-fn record(initial: Initial, task: Task) -> Running
-    ensures { result ≡ record_of (values_of initial) task }
+fn record(initial: Initial, task: Task) -> Option<Running>
+    ensures { result ≡ record_of initial task }
 {
-    let start = initial.start;
-    let number = initial.number;
-    let saturation = initial.saturation;
+    let Initial {
+        start,
+        number,
+        saturation,
+    } = initial;
     match task {
-        Task::HueSaturationMoveTo(task) => Running::HueSaturationMoveTo(HueSaturationRun {
+        Task::HueSaturationMoveTo(task) => Some(Running::HueSaturationMoveTo(HueSaturationRun {
             start,
             hue: number,
             saturation,
             task,
-        }),
-        Task::HueMove(task) => Running::HueMove(HueRun {
+        })),
+        Task::HueMove(task) => Some(Running::HueMove(HueRun {
             start,
             hue: number,
             task,
-        }),
-        Task::SaturationMove(task) => Running::SaturationMove(SaturationRun {
+        })),
+        Task::SaturationMove(task) => Some(Running::SaturationMove(SaturationRun {
             start,
             saturation,
             task,
-        }),
+        })),
         Task::ColorTemperatureMoveTo(task) => {
-            Running::ColorTemperatureMoveTo(ColorTemperatureToRun {
+            Some(Running::ColorTemperatureMoveTo(ColorTemperatureToRun {
                 start,
                 mireds: number,
                 task,
-            })
+            }))
         }
-        Task::ColorTemperatureMove(task) => Running::ColorTemperatureMove(ColorTemperatureRun {
-            start,
-            mireds: number,
-            rate: task.rate,
-            lo: task.min,
-            hi: task.max,
-        }),
-        Task::ColorLoop(task) => {
-            let direction = task.direction;
-            Running::ColorLoop {
-                direction,
-                hue: number,
-                seconds: task.seconds,
+        Task::ColorTemperatureMove(task) => {
+            Some(Running::ColorTemperatureMove(ColorTemperatureRun {
                 start,
-            }
+                mireds: number,
+                rate: task.rate,
+                lo: task.min,
+                hi: task.max,
+            }))
         }
-        Task::Stop => Running::Idle,
+        Task::ColorLoop(task) => Some(Running::ColorLoop {
+            direction: task.direction,
+            hue: number,
+            seconds: task.seconds,
+            start,
+        }),
+        Task::Stop => None,
     }
 }
 
-#[tactic(auto, unfolding(crate::specs::Records::running_at))]
-pub fn running(line: &[u8], at: usize) -> RecordRead
-    ensures { Reads (running_at line.now at) result.value result.at }
+fn record_by_name(name: &[u8], words: &mut Words) -> Option<Running>
+    ensures { Reads (record_at name.now words.old) result words.new }
 {
-    let name = words::start(line, at);
-    let end = words::end(line, name);
-    if words::is(line, name, b"idle") {
-        return RecordRead {
-            value: Running::Idle,
-            at: end,
-        };
-    }
-    let stops = words::is(line, name, b"stop");
-    let initial = initial_values(line, name, end);
-    let read = moves::task(line, name, initial.at);
-    let task = read.value;
-    let running = record(initial, task);
-    RecordRead {
-        value: running,
-        at: if stops { LOST } else { read.at },
+    record(initial_values(name, words)?, moves::task(name, words)?)
+}
+
+// `idle`, or a record by its task's name.
+#[tactic(auto, unfolding(crate::specs::Records::running_at))]
+pub fn running(words: &mut Words) -> Option<Running>
+    ensures { Reads (running_at words.old) result words.new }
+{
+    match words.word()? {
+        b"idle" => Some(Running::Idle),
+        name => record_by_name(name, words),
     }
 }

@@ -72,11 +72,15 @@ fn with_turn(kept: Kept, turn: Turn) -> Reply {
     }
 }
 
+fn error(kept: Kept, out: &mut [u8], at: usize) -> Reply {
+    with_turn(kept, state::error(kept.state, out, at))
+}
+
 fn on_row(kept: Kept, what: OnRow, out: &mut [u8], at: usize) -> Reply {
-    let before = kept.state;
     if !kept.has_row {
-        return with_turn(kept, state::error(before, out, at));
+        return error(kept, out, at);
     }
+    let before = kept.state;
     let row = kept.row;
     let last = before.task;
     let turn = answers::on_row(row, what, last, out, at);
@@ -89,32 +93,31 @@ fn on_lamp(kept: Kept, line: Line, out: &mut [u8], at: usize) -> Reply {
     with_turn(kept, state::run(before, line, out, at))
 }
 
-fn run(kept: Kept, line: RowLine, out: &mut [u8], at: usize) -> Reply {
+// A line that asks for nothing is an error.
+fn run(kept: Kept, line: Option<RowLine>, out: &mut [u8], at: usize) -> Reply {
     match line {
-        RowLine::Make(count) => make_row(kept, count, out, at),
-        RowLine::OnRow(what) => on_row(kept, what, out, at),
-        RowLine::Running(mask) => Reply {
+        Some(RowLine::Make(count)) => make_row(kept, count, out, at),
+        Some(RowLine::OnRow(what)) => on_row(kept, what, out, at),
+        Some(RowLine::Running(mask)) => Reply {
             kept: kept,
             at: answers::turning(mask, out, at),
         },
-        RowLine::Lamp(line) => on_lamp(kept, line, out, at),
+        Some(RowLine::Lamp(line)) => on_lamp(kept, line, out, at),
+        None => error(kept, out, at),
     }
 }
 
 // A line of more bytes than can be read is as one that cannot be.
-fn read(line: &[u8]) -> RowLine {
+fn read(line: &[u8]) -> Option<RowLine> {
     if LONGEST < line.len() {
-        return RowLine::Lamp(Line::Unreadable);
+        return None;
     }
     lines::read(line)
 }
 
 // An empty line, and one that begins with `#`, has no answer.
 fn is_silent(line: &[u8]) -> bool {
-    if line.len() == 0 {
-        return true;
-    }
-    line[0] == b'#'
+    matches!(line, [] | [b'#', ..])
 }
 
 // One line, and the newline behind its answer.

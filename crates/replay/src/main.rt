@@ -8,7 +8,7 @@ ghost use Rattle.std.specs.Prelude.{◌≡◌, min, length};
 
 use kept::Kept;
 use std::io::{Read, Write};
-use text::{words, writer};
+use text::writer;
 
 // A block of the input, and the room for answers.
 const BLOCK: usize = 65536;
@@ -87,11 +87,11 @@ fn take_block(
     to: &mut impl Write,
 ) -> Replay {
     let mut replay = start;
-    let mut at = 0;
-    while at < block.len() {
-        let end = words::find(block, at, b'\n');
-        replay = take_part(replay, &block[at..end], end < block.len(), line, out, to);
-        at = end + 1;
+    for part in block.split_inclusive(|byte| *byte == b'\n') {
+        replay = match part.strip_suffix(b"\n") {
+            Some(end) => take_part(replay, end, true, line, out, to),
+            None => take_part(replay, part, false, line, out, to),
+        };
     }
     replay
 }

@@ -158,6 +158,5 @@ pub(crate) fn run(state: State, line: Line, out: &mut [u8], at: usize) -> Turn {
         Line::StartLast(clock) => start_last(state, clock, out, at),
         Line::Ask(leaf) => asked(state, leaf, out, at),
         Line::Help => help(state, out, at),
-        Line::Unreadable => error(state, out, at),
     }
 }

@@ -10,7 +10,7 @@ use borrow.Author.Tests.{eq-eqb, ne_eqb}
 use lib.Dec.{eqb}
 use lib.ListN.{length, take, drop, set, get_or, drop_of_length-le}
 use lib.Seq.{take_all, take-suc-set}
-use Rattle.text.specs.Words.{same}
+use Rattle.std.specs.Str.{bytes_eq}
 use Rattle.std.proofs.lemmas.List.{drop_more}
 use Rattle.row_lines.specs.RowAnswers.{lent_bytes}
 
@@ -52,18 +52,16 @@ lent-all bytes fill n i h l e =
 -- ---- comparing
 
 module _ (bytes : List ℕ) (fill i : ℕ) (h : i < length bytes) where
-  same_next : same (drop i bytes) (rest fill (length bytes) i)
-      ≡ (eqb (get_or bytes i 0) ((fill + i) % 256) && same (drop (i + 1) bytes) (rest fill (length bytes) (i + 1)))
-  unfolding same
+  same_next : bytes_eq (drop i bytes) (rest fill (length bytes) i)
+      ≡ (eqb (get_or bytes i 0) ((fill + i) % 256) && bytes_eq (drop (i + 1) bytes) (rest fill (length bytes) (i + 1)))
   same_next = rw (drop_more bytes i 0 h, rest-next fill (length bytes) i h)
 
-  pub same_more : {whole : Bool} → get_or bytes i 0 ≡ (fill + i) % 256 → same (drop i bytes) (rest fill (length bytes) i) ≡ whole
-      → same (drop (i + 1) bytes) (rest fill (length bytes) (i + 1)) ≡ whole
+  pub same_more : {whole : Bool} → get_or bytes i 0 ≡ (fill + i) % 256 → bytes_eq (drop i bytes) (rest fill (length bytes) i) ≡ whole
+      → bytes_eq (drop (i + 1) bytes) (rest fill (length bytes) (i + 1)) ≡ whole
   same_more e s = (rw (same_next, eq-eqb _ _ e) at s)
 
-  pub same_not : {whole : Bool} → (get_or bytes i 0 ≡ (fill + i) % 256 → ⊥) → same (drop i bytes) (rest fill (length bytes) i) ≡ whole → false ≡ whole
+  pub same_not : {whole : Bool} → (get_or bytes i 0 ≡ (fill + i) % 256 → ⊥) → bytes_eq (drop i bytes) (rest fill (length bytes) i) ≡ whole → false ≡ whole
   same_not e s = (rw (same_next, ne_eqb _ _ e) at s)
 
-pub same-all : (bytes : List ℕ) (fill i : ℕ) {whole : Bool} → length bytes ≤ i → same (drop i bytes) (rest fill (length bytes) i) ≡ whole → true ≡ whole
-unfolding same
+pub same-all : (bytes : List ℕ) (fill i : ℕ) {whole : Bool} → length bytes ≤ i → bytes_eq (drop i bytes) (rest fill (length bytes) i) ≡ whole → true ≡ whole
 same-all bytes fill i h s = rw (drop_of_length-le bytes {i = i} h, rest-none fill (length bytes) i h) at s

@@ -11,7 +11,7 @@ use Rattle.rows.specs.declared.RowStepped.{RowStepped}
 use Rattle.rows.specs.Rows.{row_of, placed, row_stepped, row_bytes, lamp_at, answered_at, put_at, count_of, lowest_of}
 use Rattle.text.specs.Ascii.{ascii}
 use Rattle.text.specs.Digits.{decimal, hex_text}
-use Rattle.text.specs.Words.{same}
+use Rattle.std.specs.Str.{bytes_eq}
 use Rattle.text.specs.Written.{Written}
 use Rattle.lamp_lines.specs.Answers.{number_text, numbers_text, lamp_numbers, running_text, status_text, answer_text}
 use Rattle.call_lines.specs.declared.lines.Line.{Line}
@@ -114,7 +114,7 @@ slice_text bytes = cond (eqb (length bytes) 0) (ascii " -") (ascii " " ++ hex_te
 
 -- "`kept`: byte for byte what was lent; `written`: not"
 unfoldable pub kept_text : List ℕ → ℕ → List ℕ
-kept_text bytes fill = cond (same bytes (lent_bytes fill (length bytes))) (ascii " kept") (ascii " written")
+kept_text bytes fill = cond (bytes_eq bytes (lent_bytes fill (length bytes))) (ascii " kept") (ascii " written")
 
 -- | <wait> | <slice> | kept or written
 abbrev pub lent_text : ℕ → List ℕ → ℕ → List ℕ
@@ -155,7 +155,6 @@ asked_of (Line.StartLast clock) last = last_start last clock
 asked_of (Line.New making) last = Asked.Nothing
 asked_of (Line.Ask leaf) last = Asked.Nothing
 asked_of Line.Help last = Asked.Nothing
-asked_of Line.Unreadable last = Asked.Nothing
 
 -- the answer of the lamp at the place, from the row's
 abbrev pub lamp_answer : RowAnswer → ℕ → Answer

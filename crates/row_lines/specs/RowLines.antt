@@ -1,7 +1,10 @@
 -- The lines of a row: document 02, A.1 and A.3; docs/PROTOCOL.md.
-use Rattle.std.specs.Prelude.{ℕ, cond, List, [], ◌∷◌, eqb, length}
-use Rattle.text.specs.Words.{start_of, end_of}
-use Rattle.text.specs.Readers.{Read, Reader, Row, give, ◌then◌, number8, number16, number32, number64, ◌means◌, named}
+use Rattle.std.specs.Prelude.{ℕ, Bool, false, cond, List, [], ◌∷◌, Option, unwrap_or, option_map}
+use Rattle.std.specs.Str.{bytes_eq}
+use Prim.Native.String.{String}
+use Rattle.text.specs.Ascii.{ascii}
+use Rattle.text.specs.Words.{first_word, behind_word}
+use Rattle.text.specs.Readers.{Read, Reader, Row, give, ◌then◌, number8, number16, number32, number64, word, by_next, at_end, ◌means◌, named}
 use Rattle.call_lines.specs.declared.lines.Line.{Line}
 use Rattle.call_lines.specs.Lines.{line_at}
 use Rattle.row_lines.specs.declared.lines.OnRow.{OnRow}
@@ -27,24 +30,24 @@ step_row_at =
     give (λ size fill clock. RowLine.OnRow (OnRow.Step (record { size = size; fill = fill; clock = clock })))
     then number16 then number8 then number64
 
--- a line of a lamp, its first word next
-abbrev pub next_line : Reader Line
-next_line line at = line_at line (start_of line at) (end_of line (start_of line at))
-
 -- <place> <line>
 unfoldable pub place_at : Reader RowLine
 place_at =
-    give (λ place line. RowLine.OnRow (OnRow.At (record { place = place; line = line }))) then number8 then next_line
+    give (λ place line. RowLine.OnRow (OnRow.At (record { place = place; line = line }))) then number8
+    then by_next line_at
 
 -- any other line is the lamp's
-unfoldable pub lamp_line_at : List ℕ → ℕ → ℕ → Read RowLine
-lamp_line_at line name at = record { value = RowLine.Lamp (line_at line name at).value; at = (line_at line name at).at }
+unfoldable pub lamp_line_at : List ℕ → Reader RowLine
+lamp_line_at name = give RowLine.Lamp then line_at name
+
+-- whether a word is the next
+abbrev pub is_next : String → List ℕ → Bool
+is_next name line = unwrap_or (option_map (λ (w : Read (List ℕ)). bytes_eq w.value (ascii name)) (word line)) false
 
 -- `leaf running <word>`; any other leaf is the lamp's
 unfoldable pub leaf_line_at : Reader RowLine
-leaf_line_at line at =
-    named ("running" means running_at ∷ []) (λ l p. lamp_line_at l 0 at) line (start_of line at)
-    (end_of line (start_of line at))
+leaf_line_at line =
+    cond (is_next "running" line) (by_next (λ name. running_at) line) (lamp_line_at (ascii "leaf") line)
 
 abbrev pub row_lines : List (Row RowLine)
 row_lines =
@@ -58,10 +61,9 @@ row_lines =
     ∷ "leaf" means leaf_line_at
     ∷ []
 
-unfoldable pub row_line_at : Reader RowLine
-row_line_at line at = named row_lines (λ l p. lamp_line_at l 0 p) line 0 at
+-- by the first word
+unfoldable pub row_line_at : List ℕ → Reader RowLine
+row_line_at name = named row_lines (lamp_line_at name) name
 
-unfoldable pub row_line_read : List ℕ → RowLine
-row_line_read line =
-    let read : Read RowLine = row_line_at line (end_of line 0) in
-    cond (eqb read.at (length line)) read.value (RowLine.Lamp Line.Unreadable)
+unfoldable pub row_line_read : List ℕ → Option RowLine
+row_line_read line = at_end (row_line_at (first_word line) (behind_word line))

@@ -3,7 +3,7 @@
 ghost use Rattle.std.specs.Prelude.{◌≡◌, ◌++◌, cond, ◌+◌, ◌*◌, ◌%◌, ◌<◌, min, length, take, drop};
 ghost use Rattle.text.specs.Ascii.{ascii};
 ghost use Rattle.text.specs.Digits.{decimal};
-ghost use Rattle.text.specs.Words.{same};
+ghost use Rattle.std.specs.Str.{bytes_eq};
 ghost use Rattle.text.specs.Written.{Written};
 ghost use Rattle.lamp_lines.specs.Answers.{number_text, numbers_text, lamp_numbers, status_text, answer_text};
 ghost use Rattle.row_lines.specs.RowAnswers.{summed, lamp_text, lamps_text, row_text, then_row, Turned, shown_row, unread, fresh_place, fresh_row, with_count, with_mask, lowest_text, turning_text, says, lent_bytes, slice_text, kept_text, lent_text, step_with, step_row, last_start, on_lamp_asked, asked_of, lamp_answer, lamp_hidden, called_at, lamp_missing, edited_at, edited_on, answered_place, on_row};
@@ -286,7 +286,7 @@ fn fill(bytes: &mut [u8], from: u8)
 
 // Whether every byte is as it was lent.
 fn is_filled(bytes: &[u8], from: u8) -> bool
-    ensures { result ≡ same bytes.now (lent_bytes from (length bytes.now)) }
+    ensures { result ≡ bytes_eq bytes.now (lent_bytes from (length bytes.now)) }
 {
     let mut i = 0;
     while i < bytes.len() {
@@ -403,7 +403,6 @@ fn asked_at(line: Line, last: Option<Task>) -> Asked
         Line::New(_) => Asked::Nothing,
         Line::Ask(_) => Asked::Nothing,
         Line::Help => Asked::Nothing,
-        Line::Unreadable => Asked::Nothing,
     }
 }
 

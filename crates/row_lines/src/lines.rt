@@ -5,7 +5,7 @@ ghost use Rattle.row_lines.specs.RowLines.{make_at, count_at, mask_at, running_a
 
 use call_lines::lines;
 use call_lines::lines::Line;
-use text::{numbers, words};
+use text::words::Words;
 
 // A row call: the size of the slice that is lent, and the number that its bytes begin at.
 #[derive(Clone, Copy)]
@@ -42,161 +42,108 @@ pub enum RowLine {
     Lamp(Line),
 }
 
-#[derive(Clone, Copy)]
-struct RowLineRead {
-    value: RowLine,
-    at: usize,
-}
-
 #[tactic(auto, unfolding(crate::specs::RowLines::make_at))]
-fn make_line(line: &[u8], at: usize) -> RowLineRead
-    ensures { Reads (make_at line.now at) result.value result.at }
+fn make_line(words: &mut Words) -> Option<RowLine>
+    ensures { Reads (make_at words.old) result words.new }
 {
-    let count = numbers::number_8(line, at);
-    RowLineRead {
-        value: RowLine::Make(count.value),
-        at: count.at,
-    }
+    Some(RowLine::Make(words.read()?))
 }
 
 #[tactic(auto, unfolding(crate::specs::RowLines::count_at))]
-fn count_line(line: &[u8], at: usize) -> RowLineRead
-    ensures { Reads (count_at line.now at) result.value result.at }
+fn count_line(words: &mut Words) -> Option<RowLine>
+    ensures { Reads (count_at words.old) result words.new }
 {
-    let count = numbers::number_8(line, at);
-    RowLineRead {
-        value: RowLine::OnRow(OnRow::Count(count.value)),
-        at: count.at,
-    }
+    Some(RowLine::OnRow(OnRow::Count(words.read()?)))
 }
 
 #[tactic(auto, unfolding(crate::specs::RowLines::mask_at))]
-fn mask_line(line: &[u8], at: usize) -> RowLineRead
-    ensures { Reads (mask_at line.now at) result.value result.at }
+fn mask_line(words: &mut Words) -> Option<RowLine>
+    ensures { Reads (mask_at words.old) result words.new }
 {
-    let mask = numbers::number_32(line, at);
-    RowLineRead {
-        value: RowLine::OnRow(OnRow::Mask(mask.value)),
-        at: mask.at,
-    }
+    Some(RowLine::OnRow(OnRow::Mask(words.read()?)))
 }
 
 #[tactic(auto, unfolding(crate::specs::RowLines::running_at))]
-fn running_line(line: &[u8], at: usize) -> RowLineRead
-    ensures { Reads (running_at line.now at) result.value result.at }
+fn running_line(words: &mut Words) -> Option<RowLine>
+    ensures { Reads (running_at words.old) result words.new }
 {
-    let mask = numbers::number_32(line, at);
-    RowLineRead {
-        value: RowLine::Running(mask.value),
-        at: mask.at,
-    }
+    Some(RowLine::Running(words.read()?))
 }
 
 #[tactic(auto, unfolding(crate::specs::RowLines::step_row_at))]
-fn step_line(line: &[u8], at: usize) -> RowLineRead
-    ensures { Reads (step_row_at line.now at) result.value result.at }
+fn step_line(words: &mut Words) -> Option<RowLine>
+    ensures { Reads (step_row_at words.old) result words.new }
 {
-    let size = numbers::number_16(line, at);
-    let fill = numbers::number_8(line, size.at);
-    let clock = numbers::number_64(line, fill.at);
-    RowLineRead {
-        value: RowLine::OnRow(OnRow::Step(RowStep {
-            size: size.value,
-            fill: fill.value,
-            clock: clock.value,
-        })),
-        at: clock.at,
-    }
+    Some(RowLine::OnRow(OnRow::Step(RowStep {
+        size: words.read()?,
+        fill: words.read()?,
+        clock: words.read()?,
+    })))
 }
 
 #[tactic(auto, unfolding(crate::specs::RowLines::place_at))]
-fn place_line(line: &[u8], at: usize) -> RowLineRead
-    ensures { Reads (place_at line.now at) result.value result.at }
+fn place_line(words: &mut Words) -> Option<RowLine>
+    ensures { Reads (place_at words.old) result words.new }
 {
-    let place = numbers::number_8(line, at);
-    let name = words::start(line, place.at);
-    let read = lines::any_line(line, name, words::end(line, name));
-    let asked = read.value;
-    RowLineRead {
-        value: RowLine::OnRow(OnRow::At(AtPlace {
-            place: place.value,
-            line: asked,
-        })),
-        at: read.at,
-    }
+    let place = words.read()?;
+    let name = words.word()?;
+    let line = lines::line_by_name(name, words)?;
+    Some(RowLine::OnRow(OnRow::At(AtPlace { place, line })))
 }
 
 // A line of the lamp alone.
 #[tactic(auto, unfolding(crate::specs::RowLines::lamp_line_at))]
-fn lamp_line(line: &[u8], name: usize, at: usize) -> RowLineRead
-    ensures { Reads (lamp_line_at line.now name at) result.value result.at }
+fn lamp_line(name: &[u8], words: &mut Words) -> Option<RowLine>
+    ensures { Reads (lamp_line_at name.now words.old) result words.new }
 {
-    let read = lines::any_line(line, name, at);
-    let asked = read.value;
-    RowLineRead {
-        value: RowLine::Lamp(asked),
-        at: read.at,
-    }
+    Some(RowLine::Lamp(lines::line_by_name(name, words)?))
 }
 
 // A leaf: the readings of a mask, or the lamp's.
 #[tactic(auto, unfolding(crate::specs::RowLines::leaf_line_at))]
-fn leaf_line(line: &[u8], at: usize) -> RowLineRead
-    ensures { Reads (leaf_line_at line.now at) result.value result.at }
+fn leaf_line(words: &mut Words) -> Option<RowLine>
+    ensures { Reads (leaf_line_at words.old) result words.new }
 {
-    let name = words::start(line, at);
-    let end = words::end(line, name);
-    if words::is(line, name, b"running") {
-        return running_line(line, end);
+    if let Some(b"running") = words.ahead().word() {
+        words.word()?;
+        return running_line(words);
     }
-    lamp_line(line, 0, at)
+    lamp_line(b"leaf", words)
 }
 
+// The line by its first word. (A `match` on names of more than a few letters is not proved.)
 #[tactic(auto, unfolding(crate::specs::RowLines::row_line_at))]
-fn any_line(line: &[u8], at: usize) -> RowLineRead
-    ensures { Reads (row_line_at line.now at) result.value result.at }
+fn line_by_name(name: &[u8], words: &mut Words) -> Option<RowLine>
+    ensures { Reads (row_line_at name.now words.old) result words.new }
 {
-    if words::is(line, 0, b"row") {
-        return make_line(line, at);
+    if name == b"row".as_slice() {
+        make_line(words)
+    } else if name == b"rowcount".as_slice() {
+        count_line(words)
+    } else if name == b"rowword".as_slice() {
+        mask_line(words)
+    } else if name == b"rowshow".as_slice() {
+        Some(RowLine::OnRow(OnRow::Show))
+    } else if name == b"rowstep".as_slice() {
+        step_line(words)
+    } else if name == b"turning".as_slice() {
+        Some(RowLine::OnRow(OnRow::Turning))
+    } else if name == b"at".as_slice() {
+        place_line(words)
+    } else if name == b"leaf".as_slice() {
+        leaf_line(words)
+    } else {
+        lamp_line(name, words)
     }
-    if words::is(line, 0, b"rowcount") {
-        return count_line(line, at);
-    }
-    if words::is(line, 0, b"rowword") {
-        return mask_line(line, at);
-    }
-    if words::is(line, 0, b"rowshow") {
-        return RowLineRead {
-            value: RowLine::OnRow(OnRow::Show),
-            at,
-        };
-    }
-    if words::is(line, 0, b"rowstep") {
-        return step_line(line, at);
-    }
-    if words::is(line, 0, b"turning") {
-        return RowLineRead {
-            value: RowLine::OnRow(OnRow::Turning),
-            at,
-        };
-    }
-    if words::is(line, 0, b"at") {
-        return place_line(line, at);
-    }
-    if words::is(line, 0, b"leaf") {
-        return leaf_line(line, at);
-    }
-    lamp_line(line, 0, at)
 }
 
+// What a line asks for, where its last word ends it.
 #[tactic(auto, unfolding(crate::specs::RowLines::row_line_read))]
-pub fn read(line: &[u8]) -> RowLine
+pub fn read(line: &[u8]) -> Option<RowLine>
     ensures { result ≡ row_line_read line.now }
 {
-    let read = any_line(line, words::end(line, 0));
-    if read.at != line.len() {
-        return RowLine::Lamp(Line::Unreadable);
-    }
-    let found = read.value;
-    found
+    let mut words = Words::new(line);
+    let name = words.first();
+    let read = line_by_name(name, &mut words)?;
+    if words.is_over() { Some(read) } else { None }
 }

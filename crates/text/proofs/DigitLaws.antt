@@ -11,7 +11,7 @@ use lib.Dec.{ltb, leb}
 use lib.IntN.{ℤ, pos, negsuc, nat_abs}
 use lib.ListN.{length, length-append}
 use lib.Signed.{lt_z}
-use Rattle.text.specs.declared.digits.Grown.{Grown}
+use Rattle.std.proofs.Common.{Some, None}
 use Rattle.text.specs.Digits.{is_digit, digits_alone, value_from, value, grown, decimal_in, decimal, signed_decimal}
 use Rattle.text.proofs.WriteLaws.{side}
 
@@ -32,11 +32,11 @@ value_grows v (x ∷ w) = omega (arith, value_grows (v * 10 + (x - 48)) w)
 -- ---- a number with one digit more
 
 -- what is refused is no digit, or spoils the number for whatever follows
-pub grown-refused : (v b most : ℕ) (w : List ℕ) → grown v b most ≡ Grown.Refused → (digits_alone (b ∷ w) && leb (value_from v (b ∷ w)) most) ≡ false
+pub grown-refused : (v b most : ℕ) (w : List ℕ) → grown v b most ≡ None → (digits_alone (b ∷ w) && leb (value_from v (b ∷ w)) most) ≡ false
 unfolding grown
 grown-refused v b most w e = by_tests (is_digit b) (leb (v * 10 + (b - 48)) most) refl refl e
   where
-    by_tests : (t u : Bool) → is_digit b ≡ t → leb (v * 10 + (b - 48)) most ≡ u → cond (t && u) (Grown.To (v * 10 + (b - 48))) Grown.Refused ≡ Grown.Refused
+    by_tests : (t u : Bool) → is_digit b ≡ t → leb (v * 10 + (b - 48)) most ≡ u → cond (t && u) (Some (v * 10 + (b - 48))) None ≡ None
         → (digits_alone (b ∷ w) && leb (value_from v (b ∷ w)) most) ≡ false
     by_tests false u f g e = simp f
     by_tests true false f g e =
@@ -45,11 +45,11 @@ grown-refused v b most w e = by_tests (is_digit b) (leb (v * 10 + (b - 48)) most
         ∙ and-false (digits_alone (b ∷ w))
     by_tests true true f g e = let z : ◌≡◌ {A = ℕ} 0 1 = cc in absurd (omega arith)
 
-pub grown-to : (v b most n : ℕ) → grown v b most ≡ Grown.To n → (is_digit b ≡ true) × (n ≡ v * 10 + (b - 48)) × (n ≤ most)
+pub grown-to : (v b most n : ℕ) → grown v b most ≡ Some n → (is_digit b ≡ true) × (n ≡ v * 10 + (b - 48)) × (n ≤ most)
 unfolding grown
 grown-to v b most n e = by_tests (is_digit b) (leb (v * 10 + (b - 48)) most) refl refl e
   where
-    by_tests : (t u : Bool) → is_digit b ≡ t → leb (v * 10 + (b - 48)) most ≡ u → cond (t && u) (Grown.To (v * 10 + (b - 48))) Grown.Refused ≡ Grown.To n
+    by_tests : (t u : Bool) → is_digit b ≡ t → leb (v * 10 + (b - 48)) most ≡ u → cond (t && u) (Some (v * 10 + (b - 48))) None ≡ Some n
         → (is_digit b ≡ true) × (n ≡ v * 10 + (b - 48)) × (n ≤ most)
     by_tests false u f g e = let z : ◌≡◌ {A = ℕ} 0 1 = cc in absurd (omega arith)
     by_tests true false f g e = let z : ◌≡◌ {A = ℕ} 0 1 = cc in absurd (omega arith)

@@ -3,5 +3,3 @@ pub mod DigitLaws
 pub mod WordLaws
 pub mod NumberLaws
 pub mod PairLaws
-pub mod NamedLaws
-pub mod ReadLaws

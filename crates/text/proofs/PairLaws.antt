@@ -1,103 +1,75 @@
--- A word of pairs of hexadecimal digits, pair by pair.
-use Prim.Native.Nat.{ℕ, suc, ◌+◌, ◌*◌, ◌/◌, ◌%◌, ◌<◌, ◌≤◌}
+-- A word of pairs of hexadecimal digits: its bytes, and that what is written reads back.
+use Prim.Native.Nat.{ℕ, zero, suc, ◌+◌, ◌*◌, ◌/◌, ◌%◌, ◌<◌, ◌≤◌}
 use native.Mathlib.Omega.{arith}
-use mathlib.Core.Path.{◌≡◌, refl, sym, ◌∙◌}
+use mathlib.Core.Path.{◌≡◌, refl, ap, ◌∙◌}
 use mathlib.Core.Logic.{⊎_elim}
-use mathlib.Core.Bool.{Bool, true, false, not, ◌&&◌, false≢true}
-use mathlib.Core.List.{List, [], ◌∷◌}
-use borrow.Author.Tests.{eqb-true, lt-ltb, le-ltb, le-leb, lt-leb}
+use mathlib.Core.Bool.{Bool, true, false, ◌&&◌}
+use mathlib.Core.List.{List, [], ◌∷◌, ◌++◌}
+use borrow.Author.Tests.{lt-ltb, le-ltb, le-leb, lt-leb}
 use lib.Dec.{eqb}
-use lib.ListN.{length, get_or, get_or-eq_default}
+use lib.ListN.{length, get_or, take, drop, set, length-append, length-drop}
+use lib.Seq.{length-take-le, take-length}
+use Rattle.std.specs.List.{list_all}
 use Rattle.text.specs.Digits.{is_hex_digit, hex_value, hex_digit, hex_text}
-use Rattle.text.specs.declared.pairs.BytesRead.{BytesRead}
-use Rattle.text.specs.Written.{pasted, Written}
-use Rattle.text.specs.Words.{word_at, in_word, start_of, end_of}
-use Rattle.text.specs.Pairs.{is_pairs, bytes_of, are_bytes, no_bytes, bytes_taken, bytes_read}
-use Rattle.text.proofs.WriteLaws.{side, pasted-none, wrote-all}
-use Rattle.text.proofs.WordLaws.{in_by, word_here, word_inside, word_over}
+use Rattle.text.specs.Written.{pasted}
+use Rattle.text.specs.Pairs.{is_pairs, bytes_of}
+use Rattle.text.proofs.WriteLaws.{side}
 
--- two digits at a place
-abbrev pub pair_at : List ℕ → ℕ → Bool
-pair_at line at = is_hex_digit (get_or line at 0) && is_hex_digit (get_or line (at + 1) 0)
-
--- their byte
-abbrev pub byte_at : List ℕ → ℕ → ℕ
-byte_at line at = hex_value (get_or line at 0) * 16 + hex_value (get_or line (at + 1) 0)
-
--- a digit is in a word
-digit-in : (line : List ℕ) (i : ℕ) → is_hex_digit (get_or line i 0) ≡ true → in_word line i ≡ true
-digit-in line i e =
-    ⊎_elim
-    (λ h. sym (in_by line i h) ∙ no-blank (eqb (get_or line i 0) 32) refl)
-    (λ h. absurd (false≢true (rw (get_or-eq_default line 0 {n = i} h) at e)))
-    (side i (length line))
-  where
-    no-blank : (t : Bool) → eqb (get_or line i 0) 32 ≡ t → not t ≡ true
-    no-blank true f = absurd (false≢true (rw (eqb-true (get_or line i 0) 32 f) at e))
-    no-blank false f = refl
-
-both : (a b : Bool) → (a && b) ≡ true → b ≡ true
-both true b e = e
-both false b e = absurd (false≢true e)
-
-next-two : (at : ℕ) → at + 1 + 1 ≡ at + 2
-next-two at = omega arith
-
--- a pair is the beginning of its word
-pair-word : (line : List ℕ) (at : ℕ) → in_word line at ≡ true → pair_at line at ≡ true
-    → word_at line at ≡ get_or line at 0 ∷ get_or line (at + 1) 0 ∷ word_at line (at + 2)
-pair-word line at i e =
-    let second = digit-in line (at + 1) (both (is_hex_digit (get_or line at 0)) (is_hex_digit (get_or line (at + 1) 0)) e) in
-    rw (word_here line at i, word_here line (at + 1) second, next-two at)
-
-pub pair_inside : (line : List ℕ) (at : ℕ) → pair_at line at ≡ true → at + 1 < length line
-pair_inside line at e = word_inside line (at + 1) (digit-in line (at + 1) (both (is_hex_digit (get_or line at 0)) (is_hex_digit (get_or line (at + 1) 0)) e))
-
-pub pairs_next : (line : List ℕ) (at : ℕ) → in_word line at ≡ true → pair_at line at ≡ true → is_pairs (word_at line (at + 2)) ≡ is_pairs (word_at line at)
-unfolding is_pairs
-pairs_next line at i e = rw (pair-word line at i e, e)
-
-pub bytes_next : (line : List ℕ) (at : ℕ) → in_word line at ≡ true → pair_at line at ≡ true → bytes_of (word_at line at) ≡ byte_at line at ∷ bytes_of (word_at line (at + 2))
+pub bytes_half : (w : List ℕ) → length (bytes_of w) ≡ length w / 2
 unfolding bytes_of
-bytes_next line at i e = rw (pair-word line at i e)
+bytes_half [] = omega arith
+bytes_half (a ∷ []) = omega arith
+bytes_half (a ∷ b ∷ w) = omega (arith, bytes_half w)
 
-pub pairs-not : (line : List ℕ) (at : ℕ) → in_word line at ≡ true → pair_at line at ≡ false → is_pairs (word_at line at) ≡ false
+pub pairs_all : (w : List ℕ) → (eqb (length w % 2) 0 && list_all is_hex_digit w) ≡ is_pairs w
 unfolding is_pairs
-pairs-not line at i e = rw (word_here line at i) (by-second (in_word line (at + 1)) refl)
+pairs_all [] = refl
+pairs_all (a ∷ []) = refl
+pairs_all (a ∷ b ∷ w) =
+    let even : suc (suc (length w)) % 2 ≡ length w % 2 = omega arith in
+    ap (λ (n : ℕ). eqb n 0 && (is_hex_digit a && (is_hex_digit b && list_all is_hex_digit w))) even
+    ∙ by_digits (eqb (length w % 2) 0) (is_hex_digit a) (is_hex_digit b) (list_all is_hex_digit w)
+    ∙ ap (λ (t : Bool). (is_hex_digit a && is_hex_digit b) && t) (pairs_all w)
   where
-    by-second : (t : Bool) → in_word line (at + 1) ≡ t → is_pairs (get_or line at 0 ∷ word_at line (at + 1)) ≡ false
-    by-second true j = rw (word_here line (at + 1) j, e)
-    by-second false j = rw (word_over line (at + 1) j)
+    by_digits : (e s t u : Bool) → (e && (s && (t && u))) ≡ ((s && t) && (e && u))
+    by_digits true true true u = refl
+    by_digits true true false u = refl
+    by_digits true false t u = refl
+    by_digits false true true u = refl
+    by_digits false true false u = refl
+    by_digits false false t u = refl
 
-pub pairs-hold : (line : List ℕ) (at : ℕ) → in_word line at ≡ true → is_pairs (word_at line at) ≡ true → pair_at line at ≡ true
-pairs-hold line at i e = by-test (pair_at line at) refl
-  where
-    by-test : (t : Bool) → pair_at line at ≡ t → t ≡ true
-    by-test true f = refl
-    by-test false f = absurd (false≢true (sym (pairs-not line at i f) ∙ e))
-
-pub bytes-half : (w : List ℕ) → length (bytes_of w) ≡ length w / 2
+-- the byte of a pair
+pub byte_at : (w : List ℕ) (i : ℕ) → i < length w / 2 → get_or (bytes_of w) i 0 ≡ hex_value (get_or w (2 * i) 0) * 16 + hex_value (get_or w (2 * i + 1) 0)
 unfolding bytes_of
-bytes-half [] = omega arith
-bytes-half (a ∷ []) = omega arith
-bytes-half (a ∷ b ∷ w) = omega (arith, bytes-half w)
+byte_at [] i h = absurd (omega arith)
+byte_at (a ∷ []) i h = absurd (omega arith)
+byte_at (a ∷ b ∷ w) zero h = refl
+byte_at (a ∷ b ∷ w) (suc i) h =
+    let first : 2 * suc i ≡ suc (suc (2 * i)) = omega arith in
+    let second : 2 * suc i + 1 ≡ suc (suc (2 * i + 1)) = omega arith in
+    rw (second, first) (byte_at w i (omega arith))
 
--- ---- the word's bytes, all or none
+-- one byte more
+pub put_next : (old bs : List ℕ) (i : ℕ) → i < length bs → length bs ≤ length old → set (take i bs ++ drop i old) i (get_or bs i 0) ≡ take (i + 1) bs ++ drop (i + 1) old
+put_next [] bs i h k = absurd (omega arith)
+put_next (o ∷ old) [] i h k = absurd (omega arith)
+put_next (o ∷ old) (b ∷ bs) zero h k = refl
+put_next (o ∷ old) (b ∷ bs) (suc i) h k =
+    let next : suc i + 1 ≡ suc (i + 1) = omega arith in
+    rw next (ap (λ (l : List ℕ). b ∷ l) (put_next old bs i (omega arith) (omega arith)))
 
-module _ (line : List ℕ) (at : ℕ) (out : List ℕ) where
-  pub not-bytes : are_bytes (length out) (word_at line (start_of line at)) ≡ false
-      → (no_bytes ≡ bytes_read line at (length out)) × (out ≡ pasted out 0 (bytes_taken line at (length out)))
-  unfolding bytes_read bytes_taken
-  not-bytes e = rw e (refl, sym (pasted-none out 0))
+pub put_length : (old bs : List ℕ) (i : ℕ) → i ≤ length bs → length bs ≤ length old → length (take i bs ++ drop i old) ≡ length old
+put_length old bs i h k = simp (length-append, length-take-le, length-drop) (omega arith)
 
-  pub are-bytes : {new : List ℕ} {next : ℕ} → are_bytes (length out) (word_at line (start_of line at)) ≡ true → length (bytes_of (word_at line (start_of line at))) ≤ length out
-      → Written out 0 (bytes_of (word_at line (start_of line at))) new next
-      → (◌≡◌ {A = BytesRead} (record { count = next; at = end_of line (start_of line at) }) (bytes_read line at (length out))) × (new ≡ pasted out 0 (bytes_taken line at (length out)))
-  unfolding bytes_read bytes_taken
-  are-bytes {new} {next} e room w =
-      let all = wrote-all out 0 (bytes_of (word_at line (start_of line at))) (omega arith) w in
-      let count : next ≡ length (bytes_of (word_at line (start_of line at))) = omega (arith, all.place) in
-      rw (e, count) (refl, all.bytes)
+pub put_all : (old bs : List ℕ) → take (length bs) bs ++ drop (length bs) old ≡ pasted old 0 bs
+unfolding pasted
+put_all old bs = let none : 0 + length bs ≡ length bs = omega arith in rw (take-length, none) refl
+
+-- no bytes change nothing
+pub put_none : (old : List ℕ) → pasted old 0 [] ≡ old
+unfolding pasted
+put_none old = refl
 
 -- ---- what is written reads back
 

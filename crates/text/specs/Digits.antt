@@ -1,6 +1,5 @@
 -- Numbers and bytes as digits. A byte is a number: 48 to 57 are the digits, 97 to 102 `a` to `f`, 45 is the minus.
-use Rattle.std.specs.Prelude.{ℕ, zero, suc, ◌+◌, ◌-◌, ◌*◌, ◌/◌, ◌%◌, Bool, true, false, cond, ◌&&◌, ◌||◌, List, [], ◌∷◌, ◌++◌, leb, ltb, ℤ, pos, negsuc}
-use Rattle.text.specs.declared.digits.Grown.{Grown}
+use Rattle.std.specs.Prelude.{ℕ, zero, suc, ◌+◌, ◌-◌, ◌*◌, ◌/◌, ◌%◌, Bool, true, false, cond, ◌&&◌, ◌||◌, List, [], ◌∷◌, ◌++◌, leb, ltb, ℤ, pos, negsuc, Option, Some, None}
 
 -- ---- decimal
 
@@ -28,8 +27,8 @@ unfoldable pub is_number : ℕ → List ℕ → Bool
 is_number most w = not_empty w && digits_alone w && leb (value w) most
 
 -- a number with one digit more, where the byte is a digit and the number is at most `most`
-unfoldable pub grown : ℕ → ℕ → ℕ → Grown
-grown v b most = cond (is_digit b && leb (v * 10 + (b - 48)) most) (Grown.To (v * 10 + (b - 48))) Grown.Refused
+unfoldable pub grown : ℕ → ℕ → ℕ → Option ℕ
+grown v b most = cond (is_digit b && leb (v * 10 + (b - 48)) most) (Some (v * 10 + (b - 48))) None
 
 -- the last k digits of n, leading zeros left out; 0 has one digit
 unfoldable pub decimal_in : ℕ → ℕ → List ℕ

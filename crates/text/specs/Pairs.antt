@@ -1,8 +1,7 @@
 -- Bytes that are a word of a line: two hexadecimal digits each.
-use Rattle.std.specs.Prelude.{ℕ, ◌+◌, ◌*◌, Bool, true, false, cond, ◌&&◌, List, [], ◌∷◌, leb, length}
-use Rattle.text.specs.declared.pairs.BytesRead.{BytesRead}
+use Rattle.std.specs.Prelude.{ℕ, ◌+◌, ◌*◌, Bool, true, false, cond, ◌&&◌, List, [], ◌∷◌, leb, length, Option, Some, None, unwrap_or, option_map}
 use Rattle.text.specs.Digits.{not_empty, is_hex_digit, hex_value}
-use Rattle.text.specs.Words.{lost, word_at, start_of, end_of}
+use Rattle.text.specs.Readers.{Read, Reader, by_word}
 
 unfoldable pub is_pairs : List ℕ → Bool
 is_pairs [] = true
@@ -18,16 +17,18 @@ bytes_of (a ∷ b ∷ w) = (hex_value a * 16 + hex_value b) ∷ bytes_of w
 abbrev pub are_bytes : ℕ → List ℕ → Bool
 are_bytes room w = not_empty w && is_pairs w && leb (length (bytes_of w)) room
 
--- the bytes of the next word; none where it has another form or too many
-unfoldable pub bytes_taken : List ℕ → ℕ → ℕ → List ℕ
-bytes_taken line at room =
-    cond (are_bytes room (word_at line (start_of line at))) (bytes_of (word_at line (start_of line at))) []
+-- the bytes of a word; none where it has another form or too many
+unfoldable pub bytes_in : ℕ → List ℕ → Option (List ℕ)
+bytes_in room w = cond (are_bytes room w) (Some (bytes_of w)) None
 
-abbrev pub no_bytes : BytesRead
-no_bytes = record { count = 0; at = lost }
+-- as a text
+abbrev pub or_none : Option (List ℕ) → List ℕ
+or_none bytes = unwrap_or bytes []
 
-unfoldable pub bytes_read : List ℕ → ℕ → ℕ → BytesRead
-bytes_read line at room =
-    cond (are_bytes room (word_at line (start_of line at)))
-    (record { count = length (bytes_of (word_at line (start_of line at))); at = end_of line (start_of line at) })
-    no_bytes
+-- those of the next word
+abbrev pub bytes_taken : ℕ → List ℕ → List ℕ
+bytes_taken room line = or_none (option_map (λ (r : Read (List ℕ)). r.value) (by_word (bytes_in room) line))
+
+-- how many they are
+abbrev pub bytes_read : ℕ → Reader ℕ
+bytes_read room = by_word (λ w. option_map length (bytes_in room w))

@@ -2,37 +2,22 @@
 ghost use Rattle.std.specs.Prelude.{◌≡◌, ◌<◌};
 ghost use Rattle.text.specs.Digits.{grown, is_hex_digit, hex_value, hex_digit};
 
-// A number with one digit more. Refused: a byte that is no digit, or a number that is too large.
-#[derive(Clone, Copy)]
-pub enum Grown {
-    To(u64),
-    Refused,
-}
-
+// A number with one digit more. None: a byte that is no digit, or a number that is too large.
 #[tactic(auto, unfolding(crate::specs::Digits::grown))]
-pub fn with_digit(value: u64, byte: u8, most: u64) -> Grown
+pub fn with_digit(value: u64, byte: u8, most: u64) -> Option<u64>
     ensures { result ≡ grown value byte most }
 {
-    if byte < b'0' {
-        return Grown::Refused;
+    if !byte.is_ascii_digit() {
+        return None;
     }
-    if b'9' < byte {
-        return Grown::Refused;
-    }
-    let digit = (byte - b'0') as u64;
-    if most < digit {
-        return Grown::Refused;
-    }
-    if (most - digit) / 10 < value {
-        return Grown::Refused;
-    }
-    Grown::To(value * 10 + digit)
+    let grown = value.checked_mul(10)?.checked_add((byte - b'0') as u64)?;
+    if grown <= most { Some(grown) } else { None }
 }
 
 pub fn is_hex_digit(byte: u8) -> bool
     ensures { result ≡ is_hex_digit byte }
 {
-    ((b'0' <= byte) & (byte <= b'9')) | ((b'a' <= byte) & (byte <= b'f'))
+    matches!(byte, b'0'..=b'9' | b'a'..=b'f')
 }
 
 // A hexadecimal digit's number; 0 for any other byte.
@@ -40,19 +25,11 @@ pub fn is_hex_digit(byte: u8) -> bool
 pub fn hex_value(byte: u8) -> u8
     ensures { (result ≡ hex_value byte) × (result < 16) }
 {
-    if byte < b'0' {
-        return 0;
+    match byte {
+        b'0'..=b'9' => byte - b'0',
+        b'a'..=b'f' => byte - 87,
+        _ => 0,
     }
-    if byte <= b'9' {
-        return byte - b'0';
-    }
-    if byte < b'a' {
-        return 0;
-    }
-    if byte <= b'f' {
-        return byte - 87;
-    }
-    0
 }
 
 // The digit of the last four bits of a number.
@@ -60,9 +37,8 @@ pub fn hex_value(byte: u8) -> u8
 pub fn hex_digit(number: u8) -> u8
     ensures { result ≡ hex_digit number }
 {
-    let digit = number % 16;
-    if digit < 10 {
-        return digit + 48;
+    match number % 16 {
+        digit @ 0..=9 => digit + b'0',
+        digit => digit + 87,
     }
-    digit + 87
 }

@@ -1,174 +1,95 @@
-// Numbers that are the words of a line, each within its width.
-ghost use Rattle.std.specs.Prelude.{◌≡◌, ◌≤◌, eqb, pos, neg_ℤ, get_or};
-ghost use Rattle.text.specs.Numbers.{no_number, number_from, number_read, flag_read, read8, read16, read32, read64, signed_read};
+// What a word says: a number within its width, or a flag.
+ghost use Rattle.std.specs.Prelude.{◌≡◌, ◌≤◌, ℕ, List, Option, option_map, IfSome, pos};
+ghost use Rattle.text.specs.Numbers.{number_of, flag_of, signed_of, negated};
 
-use crate::digits::{Grown, with_digit};
-use crate::words::{LOST, in_word, start};
+use crate::digits::with_digit;
 
-const MOST_8: u64 = 255;
+// A value that a word says. Where the word says none, it is not as asked.
+pub trait FromWord {
+    ghost meaning: { List ℕ → Option Self };
 
-const MOST_16: u64 = 65535;
-
-const MOST_32: u64 = 4294967295;
-
-const MOST_64: u64 = 18446744073709551615;
-
-// The sizes of the largest and of the smallest signed number.
-const MOST_SIGNED: u64 = 9223372036854775807;
-
-const LEAST_SIGNED: u64 = 9223372036854775808;
-
-// What was read, and where it ended.
-#[derive(Clone, Copy)]
-pub struct FlagRead {
-    pub value: bool,
-    pub at: usize,
+    fn from_word(word: &[u8]) -> Option<Self>
+        ensures { result ≡ meaning word.now };
 }
 
-#[derive(Clone, Copy)]
-pub struct Read8 {
-    pub value: u8,
-    pub at: usize,
-}
-
-#[derive(Clone, Copy)]
-pub struct Read16 {
-    pub value: u16,
-    pub at: usize,
-}
-
-#[derive(Clone, Copy)]
-pub struct Read32 {
-    pub value: u32,
-    pub at: usize,
-}
-
-#[derive(Clone, Copy)]
-pub struct Read64 {
-    pub value: u64,
-    pub at: usize,
-}
-
-#[derive(Clone, Copy)]
-pub struct SignedRead {
-    pub value: i64,
-    pub at: usize,
-}
-
-fn refused() -> Read64
-    ensures { result ≡ no_number }
+// A word as a number of at most `most`.
+#[tactic(auto, unfolding(crate::specs::Numbers::number_of, crate::specs::Digits::is_number), using(crate::proofs::NumberLaws::after_refused, crate::proofs::NumberLaws::after_next, crate::proofs::NumberLaws::next_within))]
+pub fn number(word: &[u8], most: u64) -> Option<u64>
+    ensures value { result ≡ number_of most word.now }
+    ensures within { IfSome result (λ n. n ≤ most) }
 {
-    Read64 { value: 0, at: LOST }
-}
-
-// The word that begins at `from`, as a number of at most `most`.
-#[tactic(auto, using(crate::proofs::WordLaws::word_inside))]
-fn number_from(line: &[u8], from: usize, most: u64) -> Read64
-    ensures { (result ≡ number_from line.now from most) × (result.value ≤ most) }
-{
-    let mut at = from;
-    let mut value: u64 = 0;
-    while in_word(line, at) {
-        match with_digit(value, line[at], most) {
-            Grown::To(n) => value = n,
-            Grown::Refused => return refused(),
-        }
-        at += 1;
+    if word.is_empty() {
+        return None;
     }
-    if at == from {
-        return refused();
+    let mut value = 0;
+    for byte in word {
+        value = with_digit(value, *byte, most)?;
     }
-    Read64 { value, at }
+    Some(value)
 }
 
-// The next word, as a number of at most `most`.
-pub fn number(line: &[u8], at: usize, most: u64) -> Read64
-    ensures { (result ≡ number_read line.now at most) × (result.value ≤ most) }
-{
-    number_from(line, start(line, at), most)
-}
+impl FromWord for bool {
+    ghost meaning = { flag_of };
 
-pub fn flag(line: &[u8], at: usize) -> FlagRead
-    ensures { result ≡ flag_read line.now at }
-{
-    let n = number(line, at, 1);
-    FlagRead {
-        value: n.value == 1,
-        at: n.at,
+    fn from_word(word: &[u8]) -> Option<bool> {
+        Some(number(word, 1)? == 1)
     }
 }
 
-pub fn number_8(line: &[u8], at: usize) -> Read8
-    ensures { result ≡ read8 line.now at }
-{
-    let n = number(line, at, MOST_8);
-    Read8 {
-        value: n.value as u8,
-        at: n.at,
+impl FromWord for u8 {
+    ghost meaning = { number_of 255 };
+
+    fn from_word(word: &[u8]) -> Option<u8> {
+        Some(number(word, u8::MAX as u64)? as u8)
     }
 }
 
-pub fn number_16(line: &[u8], at: usize) -> Read16
-    ensures { result ≡ read16 line.now at }
-{
-    let n = number(line, at, MOST_16);
-    Read16 {
-        value: n.value as u16,
-        at: n.at,
+impl FromWord for u16 {
+    ghost meaning = { number_of 65535 };
+
+    fn from_word(word: &[u8]) -> Option<u16> {
+        Some(number(word, u16::MAX as u64)? as u16)
     }
 }
 
-pub fn number_32(line: &[u8], at: usize) -> Read32
-    ensures { result ≡ read32 line.now at }
-{
-    let n = number(line, at, MOST_32);
-    Read32 {
-        value: n.value as u32,
-        at: n.at,
+impl FromWord for u32 {
+    ghost meaning = { number_of 4294967295 };
+
+    fn from_word(word: &[u8]) -> Option<u32> {
+        Some(number(word, u32::MAX as u64)? as u32)
     }
 }
 
-pub fn number_64(line: &[u8], at: usize) -> Read64
-    ensures { result ≡ read64 line.now at }
-{
-    number(line, at, MOST_64)
+impl FromWord for u64 {
+    ghost meaning = { number_of 18446744073709551615 };
+
+    fn from_word(word: &[u8]) -> Option<u64> {
+        number(word, u64::MAX)
+    }
 }
 
 // The number below 0 of this size.
 fn below_zero(size: u64) -> i64
     requires { size ≤ 9223372036854775808 }
-    ensures { result ≡ neg_ℤ (pos size) }
+    ensures { result ≡ negated size }
 {
-    if size == LEAST_SIGNED {
-        return i64::MIN;
+    match i64::try_from(size) {
+        Ok(size) => -size,
+        Err(_) => i64::MIN,
     }
-    0 - (size as i64)
 }
 
-fn is_minus(line: &[u8], at: usize) -> bool
-    ensures { result ≡ eqb (get_or line.now at 0) 45 }
-{
-    if at < line.len() {
-        return line[at] == b'-';
-    }
-    false
-}
+// With a minus or without.
+impl FromWord for i64 {
+    ghost meaning = { signed_of };
 
-// The next word, as a number with or without a minus.
-pub fn signed(line: &[u8], at: usize) -> SignedRead
-    ensures { result ≡ signed_read line.now at }
-{
-    let from = start(line, at);
-    if is_minus(line, from) {
-        let n = number_from(line, from + 1, LEAST_SIGNED);
-        return SignedRead {
-            value: below_zero(n.value),
-            at: n.at,
-        };
-    }
-    let n = number_from(line, from, MOST_SIGNED);
-    SignedRead {
-        value: n.value as i64,
-        at: n.at,
+    #[tactic(auto, unfolding(crate::specs::Numbers::signed_of))]
+    fn from_word(word: &[u8]) -> Option<i64> {
+        let (sign, size) = word.split_first()?;
+        if *sign == b'-' {
+            Some(below_zero(number(size, i64::MIN.unsigned_abs())?))
+        } else {
+            Some(number(word, i64::MAX as u64)? as i64)
+        }
     }
 }

@@ -1,91 +1,64 @@
 // Bytes that are a word of a line: two hexadecimal digits each, small letters.
-ghost use Rattle.std.specs.Prelude.{◌≡◌, true, ◌&&◌, ◌+◌, ◌*◌, ◌<◌, length, get_or};
-ghost use Rattle.text.specs.Digits.{is_hex_digit, hex_value};
-ghost use Rattle.text.specs.Words.{word_at};
-ghost use Rattle.text.specs.Pairs.{is_pairs, bytes_of, no_bytes, bytes_taken, bytes_read};
-ghost use Rattle.text.specs.Written.{pasted, Written};
+ghost use Rattle.std.specs.Prelude.{◌≡◌, ◌≤◌, length, option_map};
+ghost use Rattle.std.specs.List.{list_all};
+ghost use Rattle.text.specs.Digits.{is_hex_digit};
+ghost use Rattle.text.specs.Pairs.{is_pairs, are_bytes, bytes_of, bytes_in, or_none, bytes_taken, bytes_read};
+ghost use Rattle.text.specs.Readers.{Reads};
+ghost use Rattle.text.specs.Written.{pasted};
 
 use crate::digits::{hex_value, is_hex_digit};
-use crate::words::{LOST, end, in_word, start};
-use crate::writer;
+use crate::words::Words;
 
-// How many bytes were read, and where their word ended.
-#[derive(Clone, Copy)]
-pub struct BytesRead {
-    pub count: usize,
-    pub at: usize,
+fn are_hex_digits(word: &[u8]) -> bool
+    ensures { result ≡ list_all is_hex_digit word.now }
+{
+    word.iter().all(|digit| is_hex_digit(*digit))
 }
 
-// Whether two digits are at `at`.
-fn is_pair(line: &[u8], at: usize) -> bool
-    requires { at < length line.now }
-    ensures { result ≡ (is_hex_digit (get_or line.now at 0) && is_hex_digit (get_or line.now (at + 1) 0)) }
+#[tactic(auto, using(crate::proofs::PairLaws::pairs_all))]
+fn are_pairs(word: &[u8]) -> bool
+    ensures { result ≡ is_pairs word.now }
 {
-    if line.len() - at < 2 {
-        return false;
-    }
-    is_hex_digit(line[at]) & is_hex_digit(line[at + 1])
+    (word.len() % 2 == 0) & are_hex_digits(word)
 }
 
-// The byte of the two digits at `at`.
-fn pair(line: &[u8], at: usize) -> u8
-    requires { at + 1 < length line.now }
-    ensures { result ≡ hex_value (get_or line.now at 0) * 16 + hex_value (get_or line.now (at + 1) 0) }
+// Whether a word is so many bytes at most, and one at least.
+#[tactic(auto, using(crate::proofs::PairLaws::bytes_half))]
+fn are_bytes(word: &[u8], room: usize) -> bool
+    ensures { result ≡ are_bytes room word.now }
 {
-    hex_value(line[at]) * 16 + hex_value(line[at + 1])
+    !word.is_empty() & are_pairs(word) & (word.len() / 2 <= room)
 }
 
-// Whether the word that begins at `from` is pairs of digits.
-#[tactic(auto, using(crate::proofs::WordLaws::word_inside))]
-fn are_pairs(line: &[u8], from: usize) -> bool
-    ensures { result ≡ is_pairs (word_at line.now from) }
+#[tactic(auto, using(crate::proofs::PairLaws::bytes_half, crate::proofs::PairLaws::put_length))]
+fn put(word: &[u8], out: &mut [u8])
+    requires { length (bytes_of word.now) ≤ length out.old }
+    ensures { out.new ≡ pasted out.old 0 (bytes_of word.now) }
 {
-    let mut at = from;
-    while in_word(line, at) {
-        if !is_pair(line, at) {
-            return false;
-        }
-        at += 2;
+    for i in 0..word.len() / 2 {
+        out[i] = hex_value(word[2 * i]) * 16 + hex_value(word[2 * i + 1]);
     }
-    true
 }
 
-// Writes the bytes of a word of pairs.
-fn take_pairs(line: &[u8], from: usize, out: &mut [u8]) -> usize
-    requires { is_pairs (word_at line.now from) ≡ true }
-    ensures { Written out.old 0 (bytes_of (word_at line.now from)) out.new result }
+// The bytes of a word, to the start of `out`, and how many they are. A word of another form, or of more bytes than fit,
+// gives none.
+#[tactic(auto, unfolding(crate::specs::Pairs::bytes_in), using(crate::proofs::PairLaws::bytes_half, crate::proofs::PairLaws::put_none))]
+pub fn from_word(word: &[u8], out: &mut [u8]) -> Option<usize>
+    ensures value { result ≡ option_map length (bytes_in (length out.old) word.now) }
+    ensures out_after { out.new ≡ pasted out.old 0 (or_none (bytes_in (length out.old) word.now)) }
 {
-    let mut at = from;
-    let mut to = 0;
-    while in_word(line, at) {
-        to = writer::byte(out, to, pair(line, at));
-        at += 2;
+    if !are_bytes(word, out.len()) {
+        return None;
     }
-    to
+    put(word, out);
+    Some(word.len() / 2)
 }
 
-fn refused() -> BytesRead
-    ensures { result ≡ no_bytes }
+// Those of the next word.
+#[tactic(auto, using(crate::proofs::PairLaws::put_none))]
+pub fn bytes(words: &mut Words, out: &mut [u8]) -> Option<usize>
+    ensures value { Reads (bytes_read (length out.old) words.old) result words.new }
+    ensures out_after { out.new ≡ pasted out.old 0 (bytes_taken (length out.old) words.old) }
 {
-    BytesRead { count: 0, at: LOST }
-}
-
-// The bytes of the next word, to the start of `out`. A word of another form, or of more bytes than fit, gives none.
-pub fn bytes(line: &[u8], at: usize, out: &mut [u8]) -> BytesRead
-    ensures value { result ≡ bytes_read line.now at (length out.old) }
-    ensures out_after { out.new ≡ pasted out.old 0 (bytes_taken line.now at (length out.old)) }
-{
-    let from = start(line, at);
-    if !in_word(line, from) {
-        return refused();
-    }
-    if !are_pairs(line, from) {
-        return refused();
-    }
-    let end = end(line, from);
-    if out.len() < (end - from) / 2 {
-        return refused();
-    }
-    let count = take_pairs(line, from, out);
-    BytesRead { count, at: end }
+    from_word(words.word()?, out)
 }

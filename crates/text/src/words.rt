@@ -1,73 +1,81 @@
-// The words of a line. A position is where the last word ended; the next word begins after one blank. A word that is not
-// as asked gives the position LOST, at which nothing can be read and no line ends. So a row of readings needs one test,
-// at its end.
-ghost use Rattle.std.specs.Prelude.{◌≡◌, ◌≤◌, max, length};
-ghost use Rattle.text.specs.Words.{find_from, in_word, start_of, end_of, is_word};
+// The words of a line, which single blanks part, read one after the other.
+ghost use Rattle.std.specs.Prelude.{◌≡◌, ◌==◌, List, ℕ, ◌<◌, eqb, length, IfSome, option_map};
+ghost use Rattle.std.specs.List.{position_from};
+ghost use Rattle.text.specs.Words.{first_word, behind_word};
+ghost use Rattle.text.specs.Readers.{Reads, word, by_word};
 
-pub const LOST: usize = usize::MAX;
+use crate::numbers::FromWord;
+use std::marker::Model;
 
-// The place of the next such byte from `from` on; the end where there is none, and `from` behind the end.
-#[tactic(auto, unfolding(crate::specs::Words::up_to), using(crate::proofs::WordLaws::found_here, crate::proofs::WordLaws::found_next))]
-pub fn find(bytes: &[u8], from: usize, byte: u8) -> usize
-    ensures { (result ≡ find_from bytes.now from byte) × (from ≤ result) × (result ≤ max from (length bytes.now)) }
-{
-    if bytes.len() <= from {
-        return from;
-    }
-    for i in from..bytes.len() {
-        if bytes[i] == byte {
-            return i;
-        }
-    }
-    bytes.len()
+// What is left of a line: it begins at the blank behind the word that was read last.
+#[derive(Drop)]
+pub struct Words<'a> {
+    rest: &'a [u8],
 }
 
-// Whether a byte of a word is at `at`.
-#[tactic(auto, using(crate::proofs::WordLaws::in_by, crate::proofs::WordLaws::word_outside))]
-pub fn in_word(line: &[u8], at: usize) -> bool
-    ensures { result ≡ in_word line.now at }
-{
-    if at < line.len() {
-        return line[at] != b' ';
-    }
-    false
+impl<'a> Model for Words<'a> {
+    ghost Value = { List ℕ };
+
+    ghost view = { λ w. w.rest.now };
 }
 
-// Where the next word begins.
-pub fn start(line: &[u8], at: usize) -> usize
-    ensures { result ≡ start_of line.now at }
+fn first_blank(line: &[u8]) -> Option<usize>
+    ensures value { result ≡ position_from (λ b. eqb b 32) 0 line.now }
+    ensures inside { IfSome result (λ i. i < length line.now) }
 {
-    if at < line.len() {
-        if line[at] == b' ' {
-            return at + 1;
-        }
-    }
-    LOST
+    line.iter().position(|byte| *byte == b' ')
 }
 
-// The end of the word that begins at `from`, whatever it is.
-pub fn end(line: &[u8], from: usize) -> usize
-    ensures { result ≡ end_of line.now from }
-{
-    find(line, from, b' ')
-}
-
-// Whether the word that begins at `from` is `text`.
-#[tactic(auto, using(crate::proofs::WordLaws::word_inside))]
-pub fn is(line: &[u8], from: usize, text: &[u8]) -> bool
-    ensures { result ≡ is_word line.now from text.now }
-{
-    let mut at = from;
-    let mut i = 0;
-    while i < text.len() {
-        if !in_word(line, at) {
-            return false;
-        }
-        if line[at] != text[i] {
-            return false;
-        }
-        at += 1;
-        i += 1;
+impl<'a> Words<'a> {
+    pub fn new(line: &'a [u8]) -> Words<'a>
+        ensures { result ≡ line.now }
+    {
+        Words { rest: line }
     }
-    !in_word(line, at)
+
+    // The same words, to look ahead.
+    pub fn ahead(&self) -> Words<'a>
+        ensures { result ≡ self.now }
+    {
+        Words { rest: self.rest }
+    }
+
+    // The word that a line begins with.
+    #[tactic(auto, using(crate::proofs::WordLaws::place_of_blank, crate::proofs::WordLaws::take_word))]
+    pub fn first(&mut self) -> &'a [u8]
+        ensures word { result.now ≡ first_word self.old }
+        ensures left { self.new ≡ behind_word self.old }
+    {
+        let line = self.rest;
+        let (word, rest) = line.split_at(first_blank(line).unwrap_or(line.len()));
+        self.rest = rest;
+        word
+    }
+
+    // The next word, which begins behind a blank.
+    #[tactic(auto, unfolding(crate::specs::Readers::word))]
+    pub fn word(&mut self) -> Option<&'a [u8]>
+        ensures { Reads (word self.old) (option_map (λ w. w.now) result) self.new }
+    {
+        let (blank, line) = self.rest.split_first()?;
+        if *blank != b' ' {
+            return None;
+        }
+        self.rest = line;
+        Some(self.first())
+    }
+
+    // The next word, as a value.
+    pub fn read<T: FromWord>(&mut self) -> Option<T>
+        ensures { Reads (by_word T.meaning self.old) result self.new }
+    {
+        T::from_word(self.word()?)
+    }
+
+    // Whether nothing is left.
+    pub fn is_over(&self) -> bool
+        ensures { result ≡ (length self.now == 0) }
+    {
+        self.rest.is_empty()
+    }
 }
