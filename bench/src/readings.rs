@@ -8,7 +8,7 @@ use std::hint::black_box;
 use oracle_lib::random::Random;
 use yemkruos::lamp::Lamp;
 use yemkruos::tasks::Running;
-use yemkruos::{lowest_running, running_count, Lowest};
+use yemkruos::{lowest_running, running_count};
 
 #[cfg(feature = "archive")]
 use crate::library;
@@ -76,10 +76,10 @@ impl Asked {
 
 /// Both in one number; 32 stands for no place.
 #[inline(always)]
-fn numbered(count: u32, lowest: Lowest) -> u64 {
+fn numbered(count: u32, lowest: Option<u8>) -> u64 {
     let lowest = match lowest {
-        Lowest::Nothing => 32,
-        Lowest::At(place) => place.into(),
+        None => 32,
+        Some(place) => place.into(),
     };
     u64::from(count) + 64 * lowest
 }
@@ -87,11 +87,11 @@ fn numbered(count: u32, lowest: Lowest) -> u64 {
 /// Count and lowest place in one loop, as crate `measure` reads them.
 #[inline(always)]
 fn at_once(lamps: &[Lamp; 32]) -> u64 {
-    let (mut count, mut lowest) = (0, Lowest::Nothing);
+    let (mut count, mut lowest) = (0, None);
     for (place, lamp) in lamps.iter().enumerate().rev() {
         if lamp.running.is_running() {
             count += 1;
-            lowest = Lowest::At(place as u8);
+            lowest = Some(place as u8);
         }
     }
     numbered(count, lowest)
@@ -103,8 +103,8 @@ fn in_turn(lamps: &[Lamp; 32]) -> u64 {
     let runs = |lamp: &Lamp| lamp.running.is_running();
     let count = lamps.iter().filter(|lamp| runs(lamp)).count();
     let lowest = match lamps.iter().position(runs) {
-        None => Lowest::Nothing,
-        Some(place) => Lowest::At(place as u8),
+        None => None,
+        Some(place) => Some(place as u8),
     };
     numbered(count as u32, lowest)
 }

@@ -3,7 +3,7 @@
 use std::hint::black_box;
 
 use yemkruos::lamp::{Call, Lamp};
-use yemkruos::tasks::{ColorLoop, HueDelta, HueMove, HueSaturationMoveTo, TargetSaturation, Task};
+use yemkruos::tasks::{ColorLoop, HueMove, HueSaturationMoveTo, Task};
 use yemkruos::{Bounds, ColorLoopDirectionEnum, MoveModeEnum, NewLamp, Row, ALL_FEATURES};
 
 use crate::sums::Sums;
@@ -21,8 +21,8 @@ fn task(place: usize) -> Task {
     let directions = [MoveModeEnum::Up, MoveModeEnum::Down];
     match place % 3 {
         0 => Task::HueSaturationMoveTo(HueSaturationMoveTo {
-            delta: HueDelta::By(-30_000),
-            saturation: TargetSaturation::To(254),
+            delta: Some(-30_000),
+            saturation: Some(254),
             ms: 6_553_500,
             enhanced: false,
         }),

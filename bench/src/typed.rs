@@ -3,6 +3,7 @@
 
 use crate_side::{Ours, Theirs};
 use yemkruos::lamp::{Answer, Call, Lamp};
+use yemkruos::matter::number_of;
 use yemkruos::tasks::Running;
 
 use crate::rows::Row;
@@ -47,7 +48,7 @@ fn fold(sums: &mut Sums, answer: &Answer) {
     sums.add_all(&words::of_fields(&crate_side::fields(&answer.lamp)));
     let record = crate_side::record(&answer.lamp.running);
     sums.add_all(&record.map_or(IDLE, |r| words::of_record(&r)));
-    sums.add(answer.number.into());
+    sums.add(number_of(answer.verdict).into());
     let mut places = [0u8; 16];
     for (place, notice) in places.iter_mut().zip(answer.notices) {
         *place = notice.number();

@@ -2,7 +2,7 @@
 //! row call every tenth of a second.
 
 use yemkruos::{
-    ALL_FEATURES, Bounds, Command, DirectionEnum, Lowest, NewLamp, Notice, OnOff, Refusal, Row,
+    ALL_FEATURES, Bounds, Command, DirectionEnum, NewLamp, Notice, OnOff, Refusal, Row,
     Task, lowest_running, notices_at, running_count,
 };
 
@@ -39,7 +39,7 @@ fn main() -> Result<(), Refusal> {
 
     // The starts wrote the device; the first step is due in a tenth of a second.
     let mut wait = 100;
-    while lowest_running(row.running_mask) != Lowest::Nothing {
+    while lowest_running(row.running_mask) != None {
         clock += wait;
         let mut bytes = [0; BYTES];
         let stepped = row.step(&mut bytes, clock).result()?;

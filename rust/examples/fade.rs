@@ -1,6 +1,5 @@
 //! `cargo run --example fade -- 128 0 2 5000`: hue, direction, tenths, clock. Writes what the program `fade` writes.
 
-use yemkruos::matter::DirectionFound;
 use yemkruos::{ALL_FEATURES, Answer, Bounds, Command, DirectionEnum, NewLamp, OnOff, Refusal};
 
 struct Fade {
@@ -14,9 +13,7 @@ fn read(words: &[String]) -> Option<Fade> {
     let [hue, direction, tenths, clock] = words else {
         return None;
     };
-    let DirectionFound::Known(direction) = DirectionEnum::of_number(direction.parse().ok()?) else {
-        return None;
-    };
+    let direction = DirectionEnum::try_from(direction.parse::<u8>().ok()?).ok()?;
     Some(Fade {
         hue: hue.parse().ok()?,
         direction,

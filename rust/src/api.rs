@@ -1,46 +1,58 @@
-//! On top of the made modules, by hand: results, notices and causes as enums, constructors with names. Nothing here
+//! On top of the made modules, by hand: results, iterators over notices, constructors with names. Nothing here
 //! decides anything, and nothing here is proved.
 
+use core::cmp::Ordering;
 use core::error::Error;
 use core::fmt;
+use core::hash::{Hash, Hasher};
 
 use crate::commands;
 use crate::hue;
-use crate::lamp::{Answer, Call, Lamp, Made};
+use crate::lamp::{Answer, Call, Lamp};
 use crate::matter::{
     self, Bounds, ColorLoopActionEnum, ColorLoopDirectionEnum, Command, CommandOptions,
-    DirectionEnum, MoveModeEnum, OnOff, Request, StepModeEnum,
+    DirectionEnum, MoveModeEnum, OnOff, Refusal, Request, StepModeEnum,
 };
-use crate::notices::{self, Notices};
+use crate::notices::{Notice, Notices};
 use crate::rows::{Row, RowAnswer, RowStepped};
-use crate::tasks::{GivenTask, Task};
+use crate::tasks::Task;
 
-/// An enum over the numbers that a made module has as constants, with a text for each.
+/// What an enum of the proved source lacks for users of the crate: all of its cases, a case of a number, and a text for each.
 macro_rules! numbered {
-    ($(#[$about:meta])* $name:ident of $source:ident { $($case:ident = $number:ident: $text:literal,)* }) => {
-        $(#[$about])*
-        #[derive(Clone, Copy, Debug, PartialEq, Eq, PartialOrd, Ord, Hash)]
-        pub enum $name {
-            $(#[doc = $text] $case,)*
-        }
-
+    ($name:ident { $($case:ident = $number:literal: $text:literal,)* }) => {
         impl $name {
             /// All of them, by their numbers.
             pub const ALL: &'static [Self] = &[$(Self::$case),*];
 
             /// The number of documents 01 and 02.
-            pub const fn number(self) -> u8 {
-                match self {
-                    $(Self::$case => $source::$number,)*
-                }
+            pub fn number(self) -> u8 {
+                self.into()
             }
 
             /// What has this number, if anything has.
             pub const fn of_number(number: u8) -> Option<Self> {
                 match number {
-                    $($source::$number => Some(Self::$case),)*
+                    $($number => Some(Self::$case),)*
                     _ => None,
                 }
+            }
+        }
+
+        impl PartialOrd for $name {
+            fn partial_cmp(&self, other: &Self) -> Option<Ordering> {
+                Some(self.cmp(other))
+            }
+        }
+
+        impl Ord for $name {
+            fn cmp(&self, other: &Self) -> Ordering {
+                self.number().cmp(&other.number())
+            }
+        }
+
+        impl Hash for $name {
+            fn hash<H: Hasher>(&self, state: &mut H) {
+                self.number().hash(state);
             }
         }
 
@@ -55,44 +67,41 @@ macro_rules! numbered {
 }
 
 numbered! {
-    /// Why a call is refused. The lamp is then as it was.
-    Refusal of matter {
-        ConstraintError = CONSTRAINT_ERROR: "hue or saturation above 254, or mireds 0",
-        InvalidCommand = INVALID_COMMAND: "a rate or a step of 0",
-        Clock = CLOCK_REFUSED: "a clock earlier than the lamp's, or above the limit",
-        CrossedBounds = CROSSED_BOUNDS: "a physical minimum above the maximum",
-        InvalidTask = INVALID_TASK: "an invalid task",
-        StepWhileIdle = STEP_WHILE_IDLE: "a step while nothing runs",
-        InvalidLamp = INVALID_LAMP: "an invalid lamp, a row of more than 32, or a wrong running mask",
-        ShortSlice = SHORT_SLICE: "a slice shorter than sixteen bytes a lamp of the row",
-        NoPlace = NO_PLACE: "a place that the row does not have",
+    Refusal {
+        ConstraintError = 1: "hue or saturation above 254, or mireds 0",
+        InvalidCommand = 2: "a rate or a step of 0",
+        Clock = 4: "a clock earlier than the lamp's, or above the limit",
+        CrossedBounds = 5: "a physical minimum above the maximum",
+        InvalidTask = 6: "an invalid task",
+        StepWhileIdle = 7: "a step while nothing runs",
+        InvalidLamp = 8: "an invalid lamp, a row of more than 32, or a wrong running mask",
+        ShortSlice = 9: "a slice shorter than sixteen bytes a lamp of the row",
+        NoPlace = 10: "a place that the row does not have",
     }
 }
 
 impl Error for Refusal {}
 
 numbered! {
-    /// What a call asks its caller to do: report an attribute, store the state, write the device, take a task,
-    /// know of a tie.
-    Notice of notices {
-        RemainingTime = REMAINING_TIME: "RemainingTime is reported",
-        CurrentHue = CURRENT_HUE: "CurrentHue is reported",
-        EnhancedCurrentHue = ENHANCED_CURRENT_HUE: "EnhancedCurrentHue is reported",
-        CurrentSaturation = CURRENT_SATURATION: "CurrentSaturation is reported",
-        ColorTemperatureMireds = COLOR_TEMPERATURE_MIREDS: "ColorTemperatureMireds is reported",
-        ColorMode = COLOR_MODE: "ColorMode is reported",
-        EnhancedColorMode = ENHANCED_COLOR_MODE: "EnhancedColorMode is reported",
-        ColorLoopActive = COLOR_LOOP_ACTIVE: "ColorLoopActive is reported",
-        ColorLoopDirection = COLOR_LOOP_DIRECTION: "ColorLoopDirection is reported",
-        ColorLoopTime = COLOR_LOOP_TIME: "ColorLoopTime is reported",
-        ColorLoopStartEnhancedHue = COLOR_LOOP_START_ENHANCED_HUE: "ColorLoopStartEnhancedHue is reported",
-        ColorLoopStoredEnhancedHue = COLOR_LOOP_STORED_ENHANCED_HUE: "ColorLoopStoredEnhancedHue is reported",
-        MarkedDirty = MARKED_DIRTY: "the state is marked dirty: it is to be stored",
-        ScenesNotified = SCENES_NOTIFIED: "the scenes are notified",
-        DeviceHueSaturation = DEVICE_HUE_SATURATION: "the device is written: hue and saturation",
-        DeviceMireds = DEVICE_MIREDS: "the device is written: mireds",
-        TaskGiven = TASK_GIVEN: "a task is given",
-        HueTie = HUE_TIE: "the hue of the task given goes half the circle, and the other way round is as long",
+    Notice {
+        RemainingTime = 1: "RemainingTime is reported",
+        CurrentHue = 2: "CurrentHue is reported",
+        EnhancedCurrentHue = 3: "EnhancedCurrentHue is reported",
+        CurrentSaturation = 4: "CurrentSaturation is reported",
+        ColorTemperatureMireds = 5: "ColorTemperatureMireds is reported",
+        ColorMode = 6: "ColorMode is reported",
+        EnhancedColorMode = 7: "EnhancedColorMode is reported",
+        ColorLoopActive = 8: "ColorLoopActive is reported",
+        ColorLoopDirection = 9: "ColorLoopDirection is reported",
+        ColorLoopTime = 10: "ColorLoopTime is reported",
+        ColorLoopStartEnhancedHue = 11: "ColorLoopStartEnhancedHue is reported",
+        ColorLoopStoredEnhancedHue = 12: "ColorLoopStoredEnhancedHue is reported",
+        MarkedDirty = 13: "the state is marked dirty: it is to be stored",
+        ScenesNotified = 14: "the scenes are notified",
+        DeviceHueSaturation = 15: "the device is written: hue and saturation",
+        DeviceMireds = 16: "the device is written: mireds",
+        TaskGiven = 17: "a task is given",
+        HueTie = 18: "the hue of the task given goes half the circle, and the other way round is as long",
     }
 }
 
@@ -155,10 +164,7 @@ macro_rules! results {
             /// The answer of an accepted call, or why it was refused.
             #[inline]
             pub fn result(self) -> Result<$answer, Refusal> {
-                match Refusal::of_number(self.number) {
-                    None => Ok(self),
-                    Some(refusal) => Err(refusal),
-                }
+                self.verdict.map(|()| self)
             }
         })*
     };
@@ -170,10 +176,7 @@ macro_rules! given_tasks {
         $(impl $answer {
             /// The task that the caller is to start; for [`Task::Stop`], to halt.
             pub fn given_task(&self) -> Option<Task> {
-                match self.task {
-                    GivenTask::Nothing => None,
-                    GivenTask::Given(task) => Some(task),
-                }
+                self.task
             }
         })*
     };
@@ -219,12 +222,7 @@ pub struct NewLamp {
 impl NewLamp {
     /// The lamp, unless the clock is above the limit or the bounds are crossed.
     pub fn make(self) -> Result<Lamp, Refusal> {
-        match Lamp::new(self.bounds, self.features, self.options, self.clock) {
-            Made::Lamp(lamp) => Ok(lamp),
-            Made::Refused(number) => {
-                Err(Refusal::of_number(number).unwrap_or(Refusal::InvalidLamp))
-            }
-        }
+        Lamp::new(self.bounds, self.features, self.options, self.clock)
     }
 }
 

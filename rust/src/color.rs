@@ -9,6 +9,7 @@ use crate::matter::ColorModeEnum;
 use crate::matter::EnhancedColorModeEnum;
 use crate::matter::color_mode_of;
 use crate::matter::default_color_mode;
+use crate::notices::Notice;
 use crate::notices::Numeral;
 use crate::progress::clamped_sum;
 
@@ -31,21 +32,19 @@ pub struct Color {
     pub stamps: Stamps,
 }
 
-/// What a setter has to report: whether the number stays the same, which reports nothing; else whether the attribute is due; its
-/// notice; and whether it is an enhanced hue.
+/// What a setter has to report of a change: whether the attribute is due, its notice, and whether it is an enhanced hue.
 #[derive(Clone, Copy, Debug, PartialEq, Eq)]
 pub struct Change {
-    pub same: bool,
     pub due: bool,
-    pub attribute: u8,
+    pub attribute: Notice,
     pub enhanced: bool,
 }
 
-/// The colour after a setter, and the change.
+/// The colour after a setter, and the change; none where the number stays the same, which reports nothing.
 #[derive(Clone, Copy, Debug, PartialEq, Eq)]
 pub struct ColorSet {
     pub color: Color,
-    pub change: Change,
+    pub change: Option<Change>,
 }
 
 /// Whether an attribute is reported: at an end, or one second or more after it last was. A stamp after the clock is never
@@ -76,49 +75,34 @@ fn hue_mode(is_enhanced: bool) -> EnhancedColorModeEnum {
 /// The enhanced mode after a saturation is set: a hue one stays.
 fn kept_hue_mode(emode: EnhancedColorModeEnum) -> EnhancedColorModeEnum {
     match emode {
-        EnhancedColorModeEnum::CurrentHueAndCurrentSaturation => {
-            EnhancedColorModeEnum::CurrentHueAndCurrentSaturation
-        }
-        EnhancedColorModeEnum::CurrentXAndCurrentY => {
-            EnhancedColorModeEnum::CurrentHueAndCurrentSaturation
-        }
-        EnhancedColorModeEnum::ColorTemperatureMireds => {
-            EnhancedColorModeEnum::CurrentHueAndCurrentSaturation
-        }
-        EnhancedColorModeEnum::EnhancedCurrentHueAndCurrentSaturation => {
-            EnhancedColorModeEnum::EnhancedCurrentHueAndCurrentSaturation
-        }
+        EnhancedColorModeEnum::EnhancedCurrentHueAndCurrentSaturation => emode,
+        _ => EnhancedColorModeEnum::CurrentHueAndCurrentSaturation,
     }
 }
 
 fn modes_agree(mode: ColorModeEnum, emode: EnhancedColorModeEnum) -> bool {
-    mode.number() == color_mode_of(emode).number()
+    mode == color_mode_of(emode)
 }
 
 impl Change {
-    /// Where nothing is set.
-    pub fn none() -> Self {
-        Change {
-            same: true,
-            due: false,
-            attribute: 0,
-            enhanced: false,
-        }
-    }
-
     /// The change's notices in front of a list: persistence first, unless the loop is active; where it is due the attribute,
     /// with an enhanced hue that too, and both modes; scenes last.
     pub fn cons(self, list: Numeral, loop_active: bool) -> Numeral {
-        if self.same {
-            return list;
-        }
         let due = self.due;
-        list.cons(crate::notices::SCENES_NOTIFIED)
-            .cons_if(due, crate::notices::ENHANCED_COLOR_MODE)
-            .cons_if(due, crate::notices::COLOR_MODE)
-            .cons_if(due & self.enhanced, crate::notices::ENHANCED_CURRENT_HUE)
-            .cons_if(due, self.attribute)
-            .cons_if(!loop_active, crate::notices::MARKED_DIRTY)
+        list.note(Notice::ScenesNotified)
+            .note_if(due, Notice::EnhancedColorMode)
+            .note_if(due, Notice::ColorMode)
+            .note_if(due & self.enhanced, Notice::EnhancedCurrentHue)
+            .note_if(due, self.attribute)
+            .note_if(!loop_active, Notice::MarkedDirty)
+    }
+}
+
+/// The same of a change, where there is one.
+pub fn cons_change(change: Option<Change>, list: Numeral, loop_active: bool) -> Numeral {
+    match change {
+        Some(change) => change.cons(list, loop_active),
+        None => list,
     }
 }
 
@@ -145,12 +129,7 @@ impl Color {
         if (self.hue == new_eh) & !is_end {
             return ColorSet {
                 color: self,
-                change: Change {
-                    same: true,
-                    due: false,
-                    attribute: crate::notices::CURRENT_HUE,
-                    enhanced: is_enhanced,
-                },
+                change: None,
             };
         }
         let stamps = self.stamps;
@@ -168,12 +147,11 @@ impl Color {
                 },
                 ..self
             },
-            change: Change {
-                same: false,
-                due: due,
-                attribute: crate::notices::CURRENT_HUE,
+            change: Some(Change {
+                due,
+                attribute: Notice::CurrentHue,
                 enhanced: is_enhanced,
-            },
+            }),
         }
     }
 
@@ -182,12 +160,7 @@ impl Color {
         if (self.saturation == new_sat) & !is_end {
             return ColorSet {
                 color: self,
-                change: Change {
-                    same: true,
-                    due: false,
-                    attribute: crate::notices::CURRENT_SATURATION,
-                    enhanced: false,
-                },
+                change: None,
             };
         }
         let stamps = self.stamps;
@@ -206,12 +179,11 @@ impl Color {
                 },
                 ..self
             },
-            change: Change {
-                same: false,
-                due: due,
-                attribute: crate::notices::CURRENT_SATURATION,
+            change: Some(Change {
+                due,
+                attribute: Notice::CurrentSaturation,
                 enhanced: false,
-            },
+            }),
         }
     }
 
@@ -220,12 +192,7 @@ impl Color {
         if (self.mireds == new_mireds) & !is_end {
             return ColorSet {
                 color: self,
-                change: Change {
-                    same: true,
-                    due: false,
-                    attribute: crate::notices::COLOR_TEMPERATURE_MIREDS,
-                    enhanced: false,
-                },
+                change: None,
             };
         }
         let stamps = self.stamps;
@@ -242,12 +209,11 @@ impl Color {
                 },
                 ..self
             },
-            change: Change {
-                same: false,
-                due: due,
-                attribute: crate::notices::COLOR_TEMPERATURE_MIREDS,
+            change: Some(Change {
+                due,
+                attribute: Notice::ColorTemperatureMireds,
                 enhanced: false,
-            },
+            }),
         }
     }
 

@@ -31,15 +31,14 @@ use crate::lamp::Call;
 use crate::lamp::Lamp;
 pub use loops::cmd_color_loop_set;
 use loops::set_loop;
-use crate::matter::ACCEPTED;
 use crate::matter::Command;
 use crate::matter::CommandOptions;
 use crate::matter::OnOff;
+use crate::matter::Refusal;
 use crate::matter::Request;
 use crate::matter::should_continue;
 use outcomes::Outcome;
 use outcomes::given;
-use outcomes::refused;
 use outcomes::skipped;
 pub use saturations::cmd_move_saturation;
 pub use saturations::cmd_move_to_saturation;
@@ -47,7 +46,6 @@ pub use saturations::cmd_step_saturation;
 use saturations::move_saturation;
 use saturations::step_saturation;
 use saturations::to_saturation;
-use crate::tasks::TargetSaturation;
 use crate::tasks::Task;
 pub use temperatures::cmd_move_color_temperature;
 pub use temperatures::cmd_move_to_color_temperature;
@@ -86,7 +84,7 @@ fn execute(lamp: Lamp, command: Command, clock: u64) -> Outcome {
             hue,
             direction,
             time,
-        } => to_hue(lamp, hue, direction, TargetSaturation::Keep, time, true),
+        } => to_hue(lamp, hue, direction, None, time, true),
         Command::EnhancedMoveHue { mode, rate } => move_hue(lamp, mode, rate as u32, true),
         Command::EnhancedStepHue { mode, size, time } => step_hue(lamp, mode, size, time, true),
         Command::MoveToColorTemperature { mireds, time } => to_mireds(lamp, mireds, time),
@@ -115,49 +113,37 @@ fn execute(lamp: Lamp, command: Command, clock: u64) -> Outcome {
 }
 
 /// A command's checks in their order: 8 and 4, Stop mode, its own numbers, off.
-fn outcome(lamp: Lamp, request: Request, on_off: OnOff, clock: u64) -> Outcome {
-    let cause = lamp.first_cause(clock);
-    if cause != ACCEPTED {
-        return refused(lamp, cause);
-    }
+fn outcome(lamp: Lamp, request: Request, on_off: OnOff, clock: u64) -> Result<Outcome, Refusal> {
+    lamp.first_cause(clock)?;
     let command = request.command;
     let checks = checks_of(command);
     if checks.stop {
-        return given(lamp, Task::Stop);
+        return Ok(given(lamp, Task::Stop));
     }
-    if checks.cause != ACCEPTED {
-        return refused(lamp, checks.cause);
-    }
+    checks.cause?;
     let options = request.options;
     if !should_continue(on_off, lamp.options, options.mask, options.overrides) {
-        return skipped(lamp);
+        return Ok(skipped(lamp));
     }
-    execute(lamp, command, clock)
-}
-
-/// The clock after a call: a refused one leaves it as it was.
-fn clock_after(number: u8, before: u64, clock: u64) -> u64 {
-    if number == ACCEPTED { clock } else { before }
+    Ok(execute(lamp, command, clock))
 }
 
 /// Any command, with its options, the on/off input and the clock.
 pub fn invoke(lamp: Lamp, request: Request, on_off: OnOff, clock: u64) -> Answer {
-    let o = outcome(lamp, request, on_off, clock);
-    let color = o.color;
-    let looping = o.looping;
-    let reported = o.reported;
-    let task = o.task;
-    Answer {
-        number: o.number,
-        lamp: Lamp {
-            clock: clock_after(o.number, lamp.clock, clock),
-            color: color,
-            looping: looping,
-            ..lamp
+    match outcome(lamp, request, on_off, clock) {
+        Ok(done) => Answer {
+            verdict: Ok(()),
+            lamp: Lamp {
+                clock,
+                color: done.color,
+                looping: done.looping,
+                ..lamp
+            },
+            notices: done.reported.notices(),
+            task: done.task,
+            wait: 0,
         },
-        notices: reported.notices(),
-        task: task,
-        wait: 0,
+        Err(refusal) => lamp.refused(refusal),
     }
 }
 

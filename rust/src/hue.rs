@@ -8,15 +8,7 @@ use crate::matter::DirectionEnum;
 
 /// The distance up from one hue to another. The distance down is the distance up the other way round.
 fn distance_up(from: u16, to: u16) -> u16 {
-    u16::wrapping_sub(to, from)
-}
-
-fn plus(n: u16) -> i32 {
-    n as i32
-}
-
-fn minus(n: u16) -> i32 {
-    -(n as i32)
+    to.wrapping_sub(from)
 }
 
 /// The signed delta from one hue to another. A tie: Shortest or Longest was asked, and both distances are 32,768.
@@ -32,10 +24,22 @@ const HALF_TURN: u16 = 32768;
 /// The distance that `direction` chooses, with its sign.
 fn chosen_delta(up: u16, down: u16, direction: DirectionEnum) -> i32 {
     match direction {
-        DirectionEnum::Up => plus(up),
-        DirectionEnum::Down => minus(down),
-        DirectionEnum::Shortest => { if up <= down { plus(up) } else { minus(down) } }
-        DirectionEnum::Longest => { if up > down { plus(up) } else { minus(down) } }
+        DirectionEnum::Up => i32::from(up),
+        DirectionEnum::Down => -i32::from(down),
+        DirectionEnum::Shortest => {
+            if up <= down {
+                i32::from(up)
+            } else {
+                -i32::from(down)
+            }
+        }
+        DirectionEnum::Longest => {
+            if up > down {
+                i32::from(up)
+            } else {
+                -i32::from(down)
+            }
+        }
     }
 }
 
@@ -61,9 +65,9 @@ pub fn hue_path_delta(current: u16, target: u16, direction: DirectionEnum) -> Hu
 pub fn moved_hue(start: u16, part: i64) -> u16 {
     let turn = part % 65536;
     if turn >= 0 {
-        u16::wrapping_add(start, turn as u16)
+        start.wrapping_add(turn as u16)
     } else {
-        u16::wrapping_sub(start, (0 - turn) as u16)
+        start.wrapping_sub((0 - turn) as u16)
     }
 }
 
@@ -72,10 +76,5 @@ pub const LAST_CURRENT_HUE: u8 = 254;
 
 /// CurrentHue: the upper byte of the stored hue, at most 254.
 pub fn current_hue(hue: u16) -> u8 {
-    let upper = hue / 256;
-    if upper < LAST_CURRENT_HUE as u16 {
-        upper as u8
-    } else {
-        LAST_CURRENT_HUE
-    }
+    ((hue / 256) as u8).min(LAST_CURRENT_HUE)
 }

@@ -8,18 +8,14 @@ mod calls;
 mod passes;
 
 use crate::color::Color;
-use crate::matter::ACCEPTED;
 use crate::matter::Bounds;
 use crate::matter::CLOCK_LIMIT;
-use crate::matter::CLOCK_REFUSED;
-use crate::matter::CROSSED_BOUNDS;
 use crate::matter::ColorLoopDirectionEnum;
-use crate::matter::INVALID_LAMP;
 use crate::matter::OnOff;
+use crate::matter::Refusal;
 use crate::matter::Request;
 use crate::notices::Notices;
 use crate::remaining_time::RemainingTime;
-use crate::tasks::GivenTask;
 use crate::tasks::Running;
 use crate::tasks::Task;
 
@@ -45,14 +41,14 @@ pub struct Lamp {
     pub running: Running,
 }
 
-/// What a call gives: 0 or the number of its refusal, the lamp after it, what it reports, the task it gives, and how long to
-/// wait for the next step, in milliseconds.
+/// What a call gives: that it is accepted or why it is refused, the lamp after it, what it reports, the task it gives where it
+/// gives one, and how long to wait for the next step, in milliseconds.
 #[derive(Clone, Copy, Debug, PartialEq, Eq)]
 pub struct Answer {
-    pub number: u8,
+    pub verdict: Result<(), Refusal>,
     pub lamp: Lamp,
     pub notices: Notices,
-    pub task: GivenTask,
+    pub task: Option<Task>,
     pub wait: u64,
 }
 
@@ -76,13 +72,6 @@ pub enum Call {
     },
 }
 
-/// A lamp, or the number of the refusal and no lamp.
-#[derive(Clone, Copy, Debug, PartialEq, Eq)]
-pub enum Made {
-    Lamp(Lamp),
-    Refused(u8),
-}
-
 /// A lamp as it is made, with these bounds, features, options and clock.
 fn fresh(bounds: Bounds, feature_map: u32, options: u8, clock: u64) -> Lamp {
     Lamp {
@@ -104,23 +93,20 @@ fn fresh(bounds: Bounds, feature_map: u32, options: u8, clock: u64) -> Lamp {
 
 impl Lamp {
     /// A fresh lamp, unless the clock is above the limit or the bounds are crossed.
-    pub fn new(bounds: Bounds, feature_map: u32, options: u8, clock: u64) -> Made {
+    pub fn new(bounds: Bounds, feature_map: u32, options: u8, clock: u64) -> Result<Lamp, Refusal> {
         if CLOCK_LIMIT < clock {
-            return Made::Refused(CLOCK_REFUSED);
+            return Err(Refusal::Clock);
         }
         if bounds.max < bounds.min {
-            return Made::Refused(CROSSED_BOUNDS);
+            return Err(Refusal::CrossedBounds);
         }
-        Made::Lamp(fresh(bounds, feature_map, options, clock))
+        Ok(fresh(bounds, feature_map, options, clock))
     }
 
     pub fn is_valid(self) -> bool {
-        let color = self.color;
-        let running = self.running;
-        let bounds = self.bounds;
         (self.clock <= CLOCK_LIMIT)
-            & color.is_valid(bounds, self.clock)
-            & running.is_valid(bounds, self.clock)
+            & self.color.is_valid(self.bounds, self.clock)
+            & self.running.is_valid(self.bounds, self.clock)
     }
 
     /// The same lamp at another clock.
@@ -128,26 +114,30 @@ impl Lamp {
         Lamp { clock: now, ..self }
     }
 
-    /// The two causes that every call but a step checks first: an invalid lamp, and the clock. 0 where there is
-    /// neither.
-    pub fn first_cause(self, clock: u64) -> u8 {
+    /// The two causes that every call but a step checks first: an invalid lamp, and the clock.
+    pub fn first_cause(self, clock: u64) -> Result<(), Refusal> {
         if !self.is_valid() {
-            return INVALID_LAMP;
+            return Err(Refusal::InvalidLamp);
         }
         if (clock < self.clock) | (CLOCK_LIMIT < clock) {
-            return CLOCK_REFUSED;
+            return Err(Refusal::Clock);
         }
-        ACCEPTED
+        Ok(())
     }
 
-    /// A refusal: the number, the lamp as it was, an empty list, no task, wait 0.
-    pub fn refused(self, number: u8) -> Answer {
+    /// The lamp as it was, with this verdict: an empty list, no task, wait 0.
+    pub fn unchanged(self, verdict: Result<(), Refusal>) -> Answer {
         Answer {
-            number: number,
+            verdict,
             lamp: self,
             notices: Notices::new(),
-            task: GivenTask::Nothing,
+            task: None,
             wait: 0,
         }
+    }
+
+    /// A refusal.
+    pub fn refused(self, cause: Refusal) -> Answer {
+        self.unchanged(Err(cause))
     }
 }

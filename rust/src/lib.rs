@@ -115,14 +115,14 @@
 //!
 //! ```
 //! use yemkruos::{
-//!     ALL_FEATURES, Bounds, Command, DirectionEnum, Lowest, NewLamp, OnOff, Refusal, Row, lowest_running, running_count,
+//!     ALL_FEATURES, Bounds, Command, DirectionEnum, NewLamp, OnOff, Refusal, Row, lowest_running, running_count,
 //! };
 //!
 //! # fn main() -> Result<(), Refusal> {
 //! let bounds = Bounds { min: 153, max: 500 };
 //! let lamp = NewLamp { bounds, features: ALL_FEATURES, options: 0, clock: 5000 }.make()?;
 //! let mut row = Row::new(2, [lamp; 32]);
-//! assert_eq!((running_count(row.running_mask), lowest_running(row.running_mask)), (0, Lowest::Nothing));
+//! assert_eq!((running_count(row.running_mask), lowest_running(row.running_mask)), (0, None));
 //!
 //! // The command gives a task; the lamp runs once that is started.
 //! let command = Command::move_to_hue(128, DirectionEnum::Down, 2);
@@ -130,11 +130,11 @@
 //! assert_eq!(answer.row.running_mask, 0);
 //! row = answer.row.start_at(1, answer.given_task().unwrap(), 5000)?.row;
 //! assert_eq!(row.running_mask, 0b10);
-//! assert_eq!((running_count(row.running_mask), lowest_running(row.running_mask)), (1, Lowest::At(1)));
+//! assert_eq!((running_count(row.running_mask), lowest_running(row.running_mask)), (1, Some(1)));
 //!
 //! // Done.
 //! row = row.step(&mut [0; 32], 5200).result()?.row;
-//! assert_eq!((running_count(row.running_mask), lowest_running(row.running_mask)), (0, Lowest::Nothing));
+//! assert_eq!((running_count(row.running_mask), lowest_running(row.running_mask)), (0, None));
 //!
 //! // A mask that does not say what the lamps do makes the row invalid.
 //! row.running_mask = 0b10;
@@ -174,14 +174,16 @@ pub mod tasks;
 
 mod api;
 
-pub use api::{ALL_FEATURES, NewLamp, Notice, NoticeIter, Refusal, notices_at};
+pub use api::{ALL_FEATURES, NewLamp, NoticeIter, notices_at};
 pub use arc::{Band, passes_through, plain_passes_through};
 pub use lamp::{Answer, Call, Lamp};
 pub use matter::{
     Bounds, ColorLoopActionEnum, ColorLoopDirectionEnum, ColorModeEnum, Command, CommandOptions,
-    DirectionEnum, EnhancedColorModeEnum, MoveModeEnum, OnOff, Request, StepModeEnum,
+    DirectionEnum, EnhancedColorModeEnum, MoveModeEnum, OnOff, Refusal, Request, Reserved,
+    StepModeEnum,
 };
-pub use rows::{Lowest, Row, RowAnswer, RowStepped, lowest_running, running_count};
+pub use notices::Notice;
+pub use rows::{Row, RowAnswer, RowStepped, lowest_running, running_count};
 pub use tasks::Task;
 
 // The README's example is a test.

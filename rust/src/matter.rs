@@ -1,41 +1,24 @@
 // Made by rust/make from crates/matter/src/lib.rt: not to be edited.
 //! The vocabulary of the Color Control cluster: enums, bitmaps, commands, limits, and the causes of a refusal.
 
-mod causes;
 mod commands;
 mod enums;
 mod limits;
 mod options;
+mod refusals;
 
-pub use causes::ACCEPTED;
-pub use causes::CLOCK_REFUSED;
-pub use causes::CONSTRAINT_ERROR;
-pub use causes::CROSSED_BOUNDS;
-pub use causes::INVALID_COMMAND;
-pub use causes::INVALID_LAMP;
-pub use causes::INVALID_TASK;
-pub use causes::NO_PLACE;
-pub use causes::SHORT_SLICE;
-pub use causes::STEP_WHILE_IDLE;
 pub use commands::Command;
 pub use commands::CommandOptions;
 pub use commands::Request;
 pub use enums::ColorLoopActionEnum;
-pub use enums::ColorLoopActionFound;
 pub use enums::ColorLoopDirectionEnum;
-pub use enums::ColorLoopDirectionFound;
 pub use enums::ColorModeEnum;
-pub use enums::ColorModeFound;
 pub use enums::DirectionEnum;
-pub use enums::DirectionFound;
 pub use enums::EnhancedColorModeEnum;
-pub use enums::EnhancedColorModeFound;
 pub use enums::MoveModeEnum;
-pub use enums::MoveModeFound;
 pub use enums::OnOff;
-pub use enums::OnOffFound;
+pub use enums::Reserved;
 pub use enums::StepModeEnum;
-pub use enums::StepModeFound;
 pub use enums::color_mode_of;
 pub use limits::Bounds;
 pub use limits::CLOCK_LIMIT;
@@ -52,3 +35,5 @@ pub use options::XY;
 pub use options::contains;
 pub use options::default_color_mode;
 pub use options::should_continue;
+pub use refusals::Refusal;
+pub use refusals::number_of;

@@ -1,43 +1,54 @@
 // Made by rust/make from crates/notices/src/lib.rt: not to be edited.
 //! What a call reports, in the order in which it comes: a list of notice numbers in sixteen places, unused places 0.
 
-/// The numbers of the notices, as document 01 lists them, and after them document 02's.
-pub const REMAINING_TIME: u8 = 1;
+/// What a call reports: document 01's notices, and after them document 02's.
+#[derive(Clone, Copy, Debug, PartialEq, Eq)]
+pub enum Notice {
+    RemainingTime,
+    CurrentHue,
+    EnhancedCurrentHue,
+    CurrentSaturation,
+    ColorTemperatureMireds,
+    ColorMode,
+    EnhancedColorMode,
+    ColorLoopActive,
+    ColorLoopDirection,
+    ColorLoopTime,
+    ColorLoopStartEnhancedHue,
+    ColorLoopStoredEnhancedHue,
+    MarkedDirty,
+    ScenesNotified,
+    DeviceHueSaturation,
+    DeviceMireds,
+    TaskGiven,
+    /// Document 02's: the hue of the task given goes half the circle, and the other way round is as long.
+    HueTie,
+}
 
-pub const CURRENT_HUE: u8 = 2;
-
-pub const ENHANCED_CURRENT_HUE: u8 = 3;
-
-pub const CURRENT_SATURATION: u8 = 4;
-
-pub const COLOR_TEMPERATURE_MIREDS: u8 = 5;
-
-pub const COLOR_MODE: u8 = 6;
-
-pub const ENHANCED_COLOR_MODE: u8 = 7;
-
-pub const COLOR_LOOP_ACTIVE: u8 = 8;
-
-pub const COLOR_LOOP_DIRECTION: u8 = 9;
-
-pub const COLOR_LOOP_TIME: u8 = 10;
-
-pub const COLOR_LOOP_START_ENHANCED_HUE: u8 = 11;
-
-pub const COLOR_LOOP_STORED_ENHANCED_HUE: u8 = 12;
-
-pub const MARKED_DIRTY: u8 = 13;
-
-pub const SCENES_NOTIFIED: u8 = 14;
-
-pub const DEVICE_HUE_SATURATION: u8 = 15;
-
-pub const DEVICE_MIREDS: u8 = 16;
-
-pub const TASK_GIVEN: u8 = 17;
-
-/// Document 02's: the hue of the task given goes half the circle, and the other way round is as long.
-pub const HUE_TIE: u8 = 18;
+impl From<Notice> for u8 {
+    fn from(notice: Notice) -> u8 {
+        match notice {
+            Notice::RemainingTime => 1,
+            Notice::CurrentHue => 2,
+            Notice::EnhancedCurrentHue => 3,
+            Notice::CurrentSaturation => 4,
+            Notice::ColorTemperatureMireds => 5,
+            Notice::ColorMode => 6,
+            Notice::EnhancedColorMode => 7,
+            Notice::ColorLoopActive => 8,
+            Notice::ColorLoopDirection => 9,
+            Notice::ColorLoopTime => 10,
+            Notice::ColorLoopStartEnhancedHue => 11,
+            Notice::ColorLoopStoredEnhancedHue => 12,
+            Notice::MarkedDirty => 13,
+            Notice::ScenesNotified => 14,
+            Notice::DeviceHueSaturation => 15,
+            Notice::DeviceMireds => 16,
+            Notice::TaskGiven => 17,
+            Notice::HueTie => 18,
+        }
+    }
+}
 
 #[derive(Clone, Copy, Debug, PartialEq, Eq)]
 pub struct Notices {
@@ -77,18 +88,28 @@ impl Numeral {
         }
     }
 
-    /// A notice in front of the list.
+    /// A digit in front: the number of a notice.
     pub fn cons(self, number: u8) -> Self {
         Numeral {
-            low: self.low % LAST * DIGIT + (number as u64),
+            low: self.low % LAST * DIGIT + u64::from(number),
             high: self.high % LAST * DIGIT + self.low / LAST,
-            len: usize::wrapping_add(self.len, 1),
+            len: self.len.wrapping_add(1),
         }
     }
 
-    /// A notice in front where the test holds.
+    /// A digit in front where the test holds.
     pub fn cons_if(self, test: bool, number: u8) -> Self {
         if test { self.cons(number) } else { self }
+    }
+
+    /// A notice in front of the list.
+    pub fn note(self, notice: Notice) -> Self {
+        self.cons(u8::from(notice))
+    }
+
+    /// A notice in front where the test holds.
+    pub fn note_if(self, test: bool, notice: Notice) -> Self {
+        self.cons_if(test, u8::from(notice))
     }
 
     /// The list in its places.

@@ -13,7 +13,6 @@ use crate::matter::INVALID_LAMP;
 use crate::matter::NO_PLACE;
 use crate::matter::SHORT_SLICE;
 use crate::notices::Notices;
-use crate::tasks::GivenTask;
 
 /// The most lamps of a row.
 pub const MOST: u8 = 32;
@@ -29,7 +28,7 @@ pub struct Row {
 
 /// The lowest place of a row at which a lamp runs.
 #[derive(Clone, Copy, Debug, PartialEq, Eq)]
-pub enum Lowest {
+pub enum Option<u8> {
     Nothing,
     At(u8),
 }
@@ -48,7 +47,7 @@ pub struct RowAnswer {
     pub number: u8,
     pub row: Row,
     pub notices: Notices,
-    pub task: GivenTask,
+    pub task: Option<Task>,
     pub wait: u64,
 }
 
@@ -58,11 +57,11 @@ pub fn running_count(mask: u32) -> u32 {
 }
 
 /// The lowest place at which a lamp runs, from a row's running mask alone.
-pub fn lowest_running(mask: u32) -> Lowest {
+pub fn lowest_running(mask: u32) -> Option<u8> {
     if mask == 0 {
-        return Lowest::Nothing;
+        return None;
     }
-    Lowest::At(mask.trailing_zeros() as u8)
+    Some(mask.trailing_zeros() as u8)
 }
 
 /// The mask of these lamps.
@@ -177,7 +176,7 @@ impl Row {
             number,
             row: self,
             notices: Notices::new(),
-            task: GivenTask::Nothing,
+            task: None,
             wait: 0,
         }
     }

@@ -8,27 +8,13 @@ use crate::matter::Bounds;
 use crate::matter::ColorLoopDirectionEnum;
 use crate::matter::MoveModeEnum;
 
-/// The signed way of the hue, where a task moves it (hue_delta, an Option\<i32>, in the source).
-#[derive(Clone, Copy, Debug, PartialEq, Eq)]
-pub enum HueDelta {
-    Keep,
-    By(i64),
-}
-
-/// The saturation a task moves to, where it moves it (target_saturation, an Option\<u8>, in the source).
-#[derive(Clone, Copy, Debug, PartialEq, Eq)]
-pub enum TargetSaturation {
-    Keep,
-    To(u8),
-}
-
-/// To a hue, a saturation or both: the way of the hue, the time in milliseconds, the target, and whether the hue is reported
-/// as an enhanced one.
+/// To a hue, a saturation or both: the signed way of the hue where it moves the hue, the time in milliseconds, the target
+/// where it moves the saturation, and whether the hue is reported as an enhanced one.
 #[derive(Clone, Copy, Debug, PartialEq, Eq)]
 pub struct HueSaturationMoveTo {
-    pub delta: HueDelta,
+    pub delta: Option<i64>,
     pub ms: u32,
-    pub saturation: TargetSaturation,
+    pub saturation: Option<u8>,
     pub enhanced: bool,
 }
 
@@ -161,67 +147,41 @@ fn within_bounds(bounds: Bounds, mireds: u16) -> bool {
 
 /// Up and down move; stop does not.
 fn moving(direction: MoveModeEnum) -> bool {
-    match direction {
-        MoveModeEnum::Stop => false,
-        MoveModeEnum::Up => true,
-        MoveModeEnum::Down => true,
+    !matches!(direction, MoveModeEnum::Stop)
+}
+
+fn is_valid_delta(delta: Option<i64>) -> bool {
+    match delta {
+        None => true,
+        Some(way) => (-65535 <= way) & (way <= 65535),
     }
 }
 
-impl HueDelta {
-    fn given(self) -> bool {
-        match self {
-            HueDelta::Keep => false,
-            HueDelta::By(_) => true,
-        }
-    }
-
-    fn is_valid(self) -> bool {
-        match self {
-            HueDelta::Keep => true,
-            HueDelta::By(way) => (-65535 <= way) & (way <= 65535),
-        }
-    }
-}
-
-impl TargetSaturation {
-    fn given(self) -> bool {
-        match self {
-            TargetSaturation::Keep => false,
-            TargetSaturation::To(_) => true,
-        }
-    }
-
-    fn is_valid(self) -> bool {
-        match self {
-            TargetSaturation::Keep => true,
-            TargetSaturation::To(saturation) => saturation <= 254,
-        }
+fn is_valid_saturation(target: Option<u8>) -> bool {
+    match target {
+        None => true,
+        Some(saturation) => saturation <= 254,
     }
 }
 
 impl HueSaturationMoveTo {
     fn is_valid(self) -> bool {
-        let delta = self.delta;
-        let saturation = self.saturation;
         is_valid_time(self.ms)
-            & delta.is_valid()
-            & saturation.is_valid()
-            & (delta.given() | saturation.given())
+            & is_valid_delta(self.delta)
+            & is_valid_saturation(self.saturation)
+            & (self.delta.is_some() | self.saturation.is_some())
     }
 }
 
 impl HueMove {
     fn is_valid(self) -> bool {
-        let direction = self.direction;
-        (0 < self.rate) & (self.rate <= 65535) & moving(direction)
+        (0 < self.rate) & (self.rate <= 65535) & moving(self.direction)
     }
 }
 
 impl SaturationMove {
     fn is_valid(self) -> bool {
-        let direction = self.direction;
-        (0 < self.rate) & (self.rate <= 255) & moving(direction)
+        (0 < self.rate) & (self.rate <= 255) & moving(self.direction)
     }
 }
 
@@ -242,15 +202,7 @@ impl Task {
 impl Running {
     /// Whether something runs.
     pub fn is_running(self) -> bool {
-        match self {
-            Running::Idle => false,
-            Running::HueSaturationMoveTo(_) => true,
-            Running::HueMove(_) => true,
-            Running::SaturationMove(_) => true,
-            Running::ColorTemperatureMoveTo(_) => true,
-            Running::ColorTemperatureMove(_) => true,
-            Running::ColorLoop { .. } => true,
-        }
+        !matches!(self, Running::Idle)
     }
 
     /// Whether a lamp with these bounds and this clock can be valid with this record.
@@ -258,16 +210,14 @@ impl Running {
         match self {
             Running::Idle => true,
             Running::HueSaturationMoveTo(run) => {
-                let task = run.task;
-                task.is_valid() & (0 < task.ms) & (run.saturation <= 254) & (run.start <= clock)
+                run.task.is_valid()
+                    & (0 < run.task.ms)
+                    & (run.saturation <= 254)
+                    & (run.start <= clock)
             }
-            Running::HueMove(run) => {
-                let task = run.task;
-                task.is_valid() & (run.start <= clock)
-            }
+            Running::HueMove(run) => { run.task.is_valid() & (run.start <= clock) }
             Running::SaturationMove(run) => {
-                let task = run.task;
-                task.is_valid() & (run.saturation <= 254) & (run.start <= clock)
+                run.task.is_valid() & (run.saturation <= 254) & (run.start <= clock)
             }
             Running::ColorTemperatureMoveTo(run) => {
                 let task = run.task;
@@ -288,11 +238,4 @@ impl Running {
             Running::ColorLoop { start, .. } => start <= clock,
         }
     }
-}
-
-/// The task that an answer gives, where it gives one.
-#[derive(Clone, Copy, Debug, PartialEq, Eq)]
-pub enum GivenTask {
-    Nothing,
-    Given(Task),
 }

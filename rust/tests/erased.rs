@@ -6,12 +6,12 @@ use std::path::{Path, PathBuf};
 
 const MADE: &str = "// Made by rust/make from ";
 
-/// The lines of a source without its clauses, its `ghost use` items and its attributes for the prover.
+/// The lines of a source without its clauses, its ghost items and its attributes for the prover.
 fn without_clauses(source: &str) -> Vec<&str> {
     let erased = [
         "requires ",
         "ensures ",
-        "ghost use ",
+        "ghost ",
         "#[tactic(",
         "#![tactic(",
         "#[cycle(",

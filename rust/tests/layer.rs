@@ -2,9 +2,9 @@
 
 use yemkruos::hue;
 use yemkruos::matter::{self, CLOCK_LIMIT};
-use yemkruos::tasks::{HueDelta, HueSaturationMoveTo, TargetSaturation};
+use yemkruos::tasks::{HueSaturationMoveTo};
 use yemkruos::{
-    ALL_FEATURES, Band, Bounds, Call, Command, DirectionEnum, Lamp, Lowest, NewLamp, Notice, OnOff,
+    ALL_FEATURES, Band, Bounds, Call, Command, DirectionEnum, Lamp, NewLamp, Notice, OnOff,
     Refusal, Row, Task, lowest_running, notices_at, passes_through, plain_passes_through,
     running_count,
 };
@@ -38,7 +38,8 @@ fn numbers_and_names_agree() {
             .into_iter()
             .all(|(n, r)| Notice::of_number(n) == Some(r))
     );
-    assert_eq!(Refusal::of_number(matter::ACCEPTED), None);
+    assert_eq!(matter::number_of(Ok(())), 0);
+    assert_eq!(Refusal::of_number(0), None);
     assert_eq!(Notice::of_number(0), None);
 }
 
@@ -251,25 +252,25 @@ fn a_place_that_is_not_there_is_refused_or_left() {
 }
 
 /// What reading each lamp of the row gives: how many run, and the lowest place.
-fn read_each(row: &Row) -> (u32, Lowest) {
+fn read_each(row: &Row) -> (u32, Option<u8>) {
     let runs: Vec<u8> = (0..row.count)
         .filter(|place| row.lamps[usize::from(*place)].running.is_running())
         .collect();
     let lowest = runs
         .first()
-        .map_or(Lowest::Nothing, |place| Lowest::At(*place));
+        .map_or(None, |place| Some(*place));
     (runs.len() as u32, lowest)
 }
 
-fn readings(mask: u32) -> (u32, Lowest) {
+fn readings(mask: u32) -> (u32, Option<u8>) {
     (running_count(mask), lowest_running(mask))
 }
 
 /// A fade of so many milliseconds.
 fn fade(ms: u32) -> Task {
     Task::HueSaturationMoveTo(HueSaturationMoveTo {
-        delta: HueDelta::By(100),
-        saturation: TargetSaturation::Keep,
+        delta: Some(100),
+        saturation: None,
         ms,
         enhanced: true,
     })
@@ -326,7 +327,7 @@ fn lamps_past_the_count_have_no_bit() {
     for count in [32, 33, 255] {
         let all = Row::new(count, [turns.lamps[0]; 32]);
         assert_eq!(all.running_mask, u32::MAX);
-        assert_eq!(readings(all.running_mask), (32, Lowest::At(0)));
+        assert_eq!(readings(all.running_mask), (32, Some(0)));
     }
     assert_eq!(Row::new(0, turns.lamps).running_mask, 0);
 }
@@ -334,20 +335,20 @@ fn lamps_past_the_count_have_no_bit() {
 #[test]
 fn readings_are_those_of_reading_each_lamp() {
     let mut row = Row::new(32, [NEW.make().unwrap(); 32]);
-    assert_eq!(readings(row.running_mask), (0, Lowest::Nothing));
+    assert_eq!(readings(row.running_mask), (0, None));
     for place in [31, 5, 17, 6] {
         let ms = 100 * u32::from(place);
         row = row.start_at(place, fade(ms), 5000).unwrap().row;
         assert_eq!(readings(row.running_mask), read_each(&row));
     }
-    assert_eq!(readings(row.running_mask), (4, Lowest::At(5)));
+    assert_eq!(readings(row.running_mask), (4, Some(5)));
     let mut bytes = [0; 512];
     for (clock, left) in [
-        (5400, (4, Lowest::At(5))),
-        (5500, (3, Lowest::At(6))),
-        (5600, (2, Lowest::At(17))),
-        (6700, (1, Lowest::At(31))),
-        (8100, (0, Lowest::Nothing)),
+        (5400, (4, Some(5))),
+        (5500, (3, Some(6))),
+        (5600, (2, Some(17))),
+        (6700, (1, Some(31))),
+        (8100, (0, None)),
     ] {
         row = row.step(&mut bytes, clock).result().unwrap().row;
         assert_eq!(

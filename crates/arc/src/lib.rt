@@ -9,7 +9,7 @@ use hue::{LAST_CURRENT_HUE, hue_path_delta};
 use matter::DirectionEnum;
 
 // The hues from `low` up to `high`, past 65,535 to 0 where `high` is below `low`.
-#[derive(Clone, Copy)]
+#[derive(Clone, Copy, Debug, PartialEq, Eq)]
 pub struct Band {
     pub low: u16,
     pub high: u16,

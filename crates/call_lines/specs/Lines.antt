@@ -5,7 +5,8 @@ use Rattle.tasks.specs.declared.Running.{Running}
 use Rattle.lamp.specs.declared.Answer.{Answer}
 use Rattle.lamp.specs.declared.Call.{Call}
 use Rattle.lamp.specs.declared.Lamp.{Lamp}
-use Rattle.lamp.specs.declared.Made.{Made}
+use Rattle.std.specs.Prelude.{Result, Ok, Err}
+use Rattle.matter.specs.declared.refusals.Refusal.{Refusal}
 use Rattle.lamp.specs.Answers.{refusal}
 use Rattle.lamp.specs.Making.{making}
 use Rattle.lamp.specs.Passes.{changed}
@@ -72,7 +73,7 @@ line_read line = at_end (line_at (first_word line) (behind_word line))
 
 -- ---- what a lamp answers
 
-abbrev pub made : Making → Made
+abbrev pub made : Making → Result Lamp Refusal
 made m = making m.bounds m.features m.options m.clock
 
 -- a lamp that was put in place or shown: nothing is reported

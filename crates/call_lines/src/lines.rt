@@ -7,7 +7,7 @@ ghost use Rattle.call_lines.specs.Lines.{making_at, line_at, line_read, made, sh
 use crate::leaves::Leaf;
 use crate::setters::Setting;
 use crate::{invocations, leaves, setters};
-use lamp::{Answer, Call, Lamp, Made};
+use lamp::{Answer, Call, Lamp, };
 use lamp_lines::{fields, records};
 use matter::{ACCEPTED, Bounds};
 use tasks::Running;
@@ -100,7 +100,7 @@ pub fn read(line: &[u8]) -> Option<Line>
     if words.is_over() { Some(read) } else { None }
 }
 
-pub fn make(making: Making) -> Made
+pub fn make(making: Making) -> Result<Lamp, Refusal>
     ensures { result ≡ made making }
 {
     let bounds = making.bounds;

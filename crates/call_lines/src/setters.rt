@@ -7,7 +7,6 @@ use color::{Color, ColorSet};
 use lamp::{Answer, Lamp};
 use matter::ACCEPTED;
 use notices::Numeral;
-use tasks::GivenTask;
 use text::words::Words;
 
 #[derive(Clone, Copy)]
@@ -112,7 +111,7 @@ pub fn set(lamp: Lamp, setting: Setting) -> Answer
             ..now
         },
         notices: reported.notices(),
-        task: GivenTask::Nothing,
+        task: None,
         wait: 0,
     }
 }

@@ -1,15 +1,17 @@
 -- The setters change and tell what document 01 says: one argument for the three of them.
 use Prim.Native.Nat.{ℕ, ◌+◌, ◌≤◌, ◌<◌}
 use mathlib.Core.Bool.{Bool, true, false, not, cond, ◌&&◌, ◌||◌, true≢false, and-false}
-use mathlib.Core.List.{[], ◌∷◌, ◌++◌, append_assoc}
+use mathlib.Core.List.{List, [], ◌∷◌, ◌++◌, append_assoc}
 use mathlib.Core.Logic.{⊎_elim}
-use mathlib.Core.Path.{◌≡◌, refl, sym, ◌∙◌}
+use mathlib.Core.Path.{◌≡◌, refl, sym, subst, ◌∙◌}
 use lib.Dec.{eqb, leb}
 use borrow.Author.Tests.{eqb-true, eqb-false, le-leb, lt-leb}
 use Rattle.matter.specs.declared.enums.EnhancedColorModeEnum.{EnhancedColorModeEnum}
+use Rattle.notices.specs.declared.Notice.{Notice}
+use Rattle.notices.specs.Names.{notice_number, EnhancedCurrentHue}
 use Rattle.notices.specs.Notices.{only}
 use Rattle.color.specs.declared.Color.{Color}
-use Rattle.color.specs.Setters.{due, same, change_notices, hue_mode, kept_hue_mode, hue_set, hue_reported, saturation_set, mireds_set}
+use Rattle.color.specs.Setters.{due, same, change_notices, change_of, change_reported, hue_mode, kept_hue_mode, hue_set, hue_reported, saturation_set, mireds_set}
 use Rattle.color.specs.Changes.{Attribute, Changes, hue_attribute, saturation_attribute, mireds_attribute, SettersChange}
 
 -- a colour that is set: the number and the modes, with a stamp, and the rest as it was
@@ -40,29 +42,39 @@ module _ (a : Attribute) (c : Color) (new clock : ℕ) (active : Bool) (after : 
       }
 
   -- by whether the numbers are equal, it is an end, and the last notice is a second old
-  by : (t end d : Bool) → eqb (a.number c) new ≡ t → leb (a.stamp c + 1000) clock ≡ d →
-      Changes a c new end clock active
-      (cond (t && not end) c (after (cond (end || d) clock (a.stamp c))))
-      (cond (t && not end) [] (change_notices active (cond (t && not end) false (end || d)) a.notices))
-  by t true d e f = rw and-false (changed true true (λ h. absurd (true≢false h)) (λ h. refl) (λ h. refl) (λ h. absurd (true≢false h)))
-  by true false d e f =
-      let same : a.number c ≡ new = eqb-true _ _ e in
-      record {
-        equal = λ h k. (refl, refl);
-        set = λ h. ⊎_elim (λ n. absurd (n same)) (λ k. absurd (true≢false (sym k))) h;
-        at-end = λ k. absurd (true≢false (sym k));
-        after-a-second = λ n h. absurd (n same);
-        within-a-second = λ n h k. absurd (n same);
-        rest = refl;
-      }
-  by false false d e f =
-      changed false d (λ h. eqb-false _ _ e) (λ h. absurd (true≢false (sym h))) (λ h. sym f ∙ le-leb _ _ h) (λ k h. sym f ∙ lt-leb _ _ h)
+  module _ (notice : Notice) (enhanced : Bool) (its : (notice_number notice ∷ only enhanced EnhancedCurrentHue) ≡ a.notices) where
+    with_its : (end due : Bool) →
+        Changes a c new end clock active (after (cond due clock (a.stamp c))) (change_notices active due a.notices) →
+        Changes a c new end clock active (after (cond due clock (a.stamp c))) (change_notices active due (notice_number notice ∷ only enhanced EnhancedCurrentHue))
+    with_its end due =
+        subst (λ (xs : List ℕ). Changes a c new end clock active (after (cond due clock (a.stamp c))) (change_notices active due xs)) (sym its)
 
-  follows : (end : Bool) →
-      Changes a c new end clock active
-      (cond (same (a.number c) new end) c (after (cond (due end (a.stamp c) clock) clock (a.stamp c))))
-      (cond (same (a.number c) new end) [] (change_notices active (cond (same (a.number c) new end) false (due end (a.stamp c) clock)) a.notices))
-  follows end = by (eqb (a.number c) new) end (leb (a.stamp c + 1000) clock) refl refl
+    by : (t end d : Bool) → eqb (a.number c) new ≡ t → leb (a.stamp c + 1000) clock ≡ d →
+        Changes a c new end clock active
+        (cond (t && not end) c (after (cond (end || d) clock (a.stamp c))))
+        (change_reported (change_of (t && not end) (end || d) notice enhanced) active)
+    by t true d e f =
+        rw and-false
+        (with_its true true (changed true true (λ h. absurd (true≢false h)) (λ h. refl) (λ h. refl) (λ h. absurd (true≢false h))))
+    by true false d e f =
+        let same : a.number c ≡ new = eqb-true _ _ e in
+        record {
+          equal = λ h k. (refl, refl);
+          set = λ h. ⊎_elim (λ n. absurd (n same)) (λ k. absurd (true≢false (sym k))) h;
+          at-end = λ k. absurd (true≢false (sym k));
+          after-a-second = λ n h. absurd (n same);
+          within-a-second = λ n h k. absurd (n same);
+          rest = refl;
+        }
+    by false false d e f =
+        with_its false d
+        (changed false d (λ h. eqb-false _ _ e) (λ h. absurd (true≢false (sym h))) (λ h. sym f ∙ le-leb _ _ h) (λ k h. sym f ∙ lt-leb _ _ h))
+
+    follows : (end : Bool) →
+        Changes a c new end clock active
+        (cond (same (a.number c) new end) c (after (cond (due end (a.stamp c) clock) clock (a.stamp c))))
+        (change_reported (change_of (same (a.number c) new end) (due end (a.stamp c) clock) notice enhanced) active)
+    follows end = by (eqb (a.number c) new) end (leb (a.stamp c + 1000) clock) refl refl
 
 -- ---- the three setters
 
@@ -82,7 +94,7 @@ module _ (c : Color) (new : ℕ) (end : Bool) (clock : ℕ) (active : Bool) wher
   unfolding hue_set
   hue-changes enhanced =
       follows (hue_attribute enhanced) c new clock active _
-      (record { number = λ s. refl; mode = λ s. refl; emode = λ s. hue-emode enhanced c.emode; stamp = λ s. refl; rest = λ s. refl }) end
+      (record { number = λ s. refl; mode = λ s. refl; emode = λ s. hue-emode enhanced c.emode; stamp = λ s. refl; rest = λ s. refl }) Notice.CurrentHue enhanced refl end
 
   pub setters-change : SettersChange c new end clock active
   unfolding saturation_set mireds_set
@@ -91,8 +103,8 @@ module _ (c : Color) (new : ℕ) (end : Bool) (clock : ℕ) (active : Bool) wher
         hue = hue-changes;
         saturation =
             follows saturation_attribute c new clock active _
-            (record { number = λ s. refl; mode = λ s. refl; emode = λ s. kept-emode c.emode; stamp = λ s. refl; rest = λ s. refl }) end;
+            (record { number = λ s. refl; mode = λ s. refl; emode = λ s. kept-emode c.emode; stamp = λ s. refl; rest = λ s. refl }) Notice.CurrentSaturation false refl end;
         mireds =
             follows mireds_attribute c new clock active _
-            (record { number = λ s. refl; mode = λ s. refl; emode = λ s. refl; stamp = λ s. refl; rest = λ s. refl }) end;
+            (record { number = λ s. refl; mode = λ s. refl; emode = λ s. refl; stamp = λ s. refl; rest = λ s. refl }) Notice.ColorTemperatureMireds false refl end;
       }

@@ -1,7 +1,7 @@
 -- The setters keep the form of the colour at the clock they set it at, validity lasts as the clock goes on, and a setter reports few notices.
 use Prim.Native.Nat.{ℕ, ◌+◌, ◌≤◌}
 use mathlib.Core.Bool.{Bool, true, false, cond}
-use mathlib.Core.List.{List, [], ◌∷◌}
+use mathlib.Core.List.{List, ◌∷◌}
 use mathlib.Core.Path.{◌≡◌, refl}
 use native.Mathlib.Omega.{arith}
 use lib.Dec.{leb}
@@ -13,7 +13,8 @@ use Rattle.matter.specs.declared.enums.EnhancedColorModeEnum.{EnhancedColorModeE
 use Rattle.matter.proofs.Laws.{cond_both, leb-later, each, all_of}
 use Rattle.matter.specs.Limits.{saturation_limit}
 use Rattle.matter.specs.InRange.{Short}
-use Rattle.notices.specs.Names.{EnhancedCurrentHue}
+use Rattle.std.specs.Prelude.{Option, Some, None}
+use Rattle.notices.specs.Names.{EnhancedCurrentHue, notice_number}
 use Rattle.notices.specs.Notices.{only}
 use Rattle.color.specs.declared.Change.{Change}
 use Rattle.color.specs.declared.Color.{Color}
@@ -118,16 +119,21 @@ module _ (c : Color) (new : ℕ) (end : Bool) (clock : ℕ) where
 
 -- ---- a setter reports few
 
--- a setter reports nothing, or four notices and its attribute's
-reported-few : (quiet active reported : Bool) (attributes : List ℕ) → length (cond quiet [] (change_notices active reported attributes)) ≤ 4 + length attributes
-reported-few true active reported xs = omega arith
-reported-few false true true xs = simp length-append (omega arith)
-reported-few false true false xs = omega arith
-reported-few false false true xs = simp length-append (omega arith)
-reported-few false false false xs = omega arith
+-- a setter that sets reports four notices and its attribute's, or fewer
+reported-few : (active reported : Bool) (attributes : List ℕ) → length (change_notices active reported attributes) ≤ 4 + length attributes
+reported-few true true xs = simp length-append (omega arith)
+reported-few true false xs = omega arith
+reported-few false true xs = simp length-append (omega arith)
+reported-few false false xs = omega arith
+
+-- a change of an enhanced hue
+abbrev pub enhanced_change : Option Change → Bool
+enhanced_change None = false
+enhanced_change (Some change) = change.enhanced
 
 -- a change reports at most five, and one more where it is of an enhanced hue
-pub change-few : (change : Change) (active : Bool) → length (change_reported change active) ≤ 5 + length (only change.enhanced EnhancedCurrentHue)
-change-few change active =
+pub change-few : (change : Option Change) (active : Bool) → length (change_reported change active) ≤ 5 + length (only (enhanced_change change) EnhancedCurrentHue)
+change-few None active = omega arith
+change-few (Some change) active =
     omega
-    (arith, reported-few change.same active change.due (change.attribute ∷ only change.enhanced EnhancedCurrentHue))
+    (arith, reported-few active change.due (notice_number change.attribute ∷ only change.enhanced EnhancedCurrentHue))

@@ -6,10 +6,12 @@ use mathlib.Core.List.{[], ◌∷◌, ◌++◌}
 use native.Mathlib.Omega.{arith}
 use lib.Dec.{leb}
 use borrow.Author.Tests.{leb-true, leb-false, le-leb, lt-leb}
+use Rattle.std.specs.Prelude.{Option, Some, None}
+use Rattle.notices.specs.declared.Notice.{Notice}
 use Rattle.notices.specs.declared.Numeral.{Numeral}
 use Rattle.notices.specs.Notices.{only}
 use Rattle.notices.specs.Numerals.{consed, in_front}
-use Rattle.notices.specs.Names.{EnhancedCurrentHue, ColorMode, EnhancedColorMode, marked_dirty}
+use Rattle.notices.specs.Names.{EnhancedCurrentHue, ColorMode, EnhancedColorMode, marked_dirty, notice_number}
 use Rattle.notices.proofs.Numerals.{Below, none, more, below-append, below-only}
 use Rattle.color.specs.declared.Change.{Change}
 use Rattle.color.specs.Setters.{change_notices, change_reported}
@@ -35,6 +37,36 @@ change-in-front false true true attribute l = refl
 change-in-front false true false attribute l = refl
 change-in-front false false enhanced attribute l = refl
 
+-- an attribute whose number is below a bound, where there is a change
+abbrev pub AttributeBelow : ℕ → Option Change → Type 0
+AttributeBelow bound None = Unit
+AttributeBelow bound (Some change) = notice_number change.attribute < bound
+
+-- every notice's number is a byte
+pub notice-small : (notice : Notice) → notice_number notice < 19
+notice-small Notice.RemainingTime = omega arith
+notice-small Notice.CurrentHue = omega arith
+notice-small Notice.EnhancedCurrentHue = omega arith
+notice-small Notice.CurrentSaturation = omega arith
+notice-small Notice.ColorTemperatureMireds = omega arith
+notice-small Notice.ColorMode = omega arith
+notice-small Notice.EnhancedColorMode = omega arith
+notice-small Notice.ColorLoopActive = omega arith
+notice-small Notice.ColorLoopDirection = omega arith
+notice-small Notice.ColorLoopTime = omega arith
+notice-small Notice.ColorLoopStartEnhancedHue = omega arith
+notice-small Notice.ColorLoopStoredEnhancedHue = omega arith
+notice-small Notice.MarkedDirty = omega arith
+notice-small Notice.ScenesNotified = omega arith
+notice-small Notice.DeviceHueSaturation = omega arith
+notice-small Notice.DeviceMireds = omega arith
+notice-small Notice.TaskGiven = omega arith
+notice-small Notice.HueTie = omega arith
+
+pub attribute-byte : (change : Option Change) → AttributeBelow 256 change
+attribute-byte None = tt
+attribute-byte (Some change) = omega (arith, notice-small change.attribute)
+
 -- a change's notices are below every bound that is above 14 and above the attribute
 module _ (bound : ℕ) (high : 14 < bound) where
   attribute-below : (enhanced : Bool) (attribute : ℕ) → attribute < bound → Below bound (attribute ∷ only enhanced EnhancedCurrentHue)
@@ -45,11 +77,8 @@ module _ (bound : ℕ) (high : 14 < bound) where
   due_below true enhanced attribute h = below-append (attribute-below enhanced attribute h) (more (omega arith) (more (omega arith) none))
   due_below false enhanced attribute h = none
 
-  notices-below : (t d active enhanced : Bool) (attribute : ℕ) → attribute < bound →
-      Below bound (cond t [] (change_notices active d (attribute ∷ only enhanced EnhancedCurrentHue)))
-  notices-below true d active enhanced attribute h = none
-  notices-below false d active enhanced attribute h =
-      below-append (below-only (not active) marked_dirty (omega arith)) (below-append (due_below d enhanced attribute h) (more (omega arith) none))
-
-  pub change-below : (change : Change) (active : Bool) → change.attribute < bound → Below bound (change_reported change active)
-  change-below change active h = notices-below change.same change.due active change.enhanced change.attribute h
+  pub change-below : (change : Option Change) (active : Bool) → AttributeBelow bound change → Below bound (change_reported change active)
+  change-below None active h = none
+  change-below (Some change) active h =
+      below-append (below-only (not active) marked_dirty (omega arith))
+      (below-append (due_below change.due change.enhanced (notice_number change.attribute) h) (more (omega arith) none))

@@ -1,10 +1,10 @@
 -- The setters: document 01, leaf 5.
-use Rattle.std.specs.Prelude.{ℕ, ◌+◌, Bool, true, false, not, cond, ◌&&◌, ◌||◌, List, [], ◌∷◌, ◌++◌, eqb, leb}
+use Rattle.std.specs.Prelude.{ℕ, ◌+◌, Bool, false, not, cond, ◌&&◌, ◌||◌, List, [], ◌∷◌, ◌++◌, eqb, leb, Option, Some, None}
 use Rattle.matter.specs.declared.enums.ColorModeEnum.{ColorModeEnum}
 use Rattle.matter.specs.declared.enums.EnhancedColorModeEnum.{EnhancedColorModeEnum}
+use Rattle.notices.specs.declared.Notice.{Notice}
 use Rattle.notices.specs.Notices.{only}
-use Rattle.notices.specs.Names.{CurrentHue, EnhancedCurrentHue, CurrentSaturation, ColorTemperatureMireds, ColorMode}
-use Rattle.notices.specs.Names.{EnhancedColorMode, marked_dirty, scenes_notified}
+use Rattle.notices.specs.Names.{EnhancedCurrentHue, ColorMode, EnhancedColorMode, marked_dirty, scenes_notified, notice_number}
 use Rattle.color.specs.declared.Color.{Color}
 use Rattle.color.specs.declared.Change.{Change}
 use Rattle.color.specs.declared.ColorSet.{ColorSet}
@@ -39,20 +39,20 @@ kept_hue_mode EnhancedColorModeEnum.ColorTemperatureMireds = EnhancedColorModeEn
 kept_hue_mode EnhancedColorModeEnum.EnhancedCurrentHueAndCurrentSaturation =
     EnhancedColorModeEnum.EnhancedCurrentHueAndCurrentSaturation
 
--- what a change reports, with the loop active or not: nothing where the number is the same
-abbrev pub change_reported : Change → Bool → List ℕ
-change_reported change active =
-    cond change.same []
-    (change_notices active change.due (change.attribute ∷ only change.enhanced EnhancedCurrentHue))
+-- what a change reports, with the loop active or not: nothing where there is none
+abbrev pub change_reported : Option Change → Bool → List ℕ
+change_reported None active = []
+change_reported (Some change) active =
+    change_notices active change.due (notice_number change.attribute ∷ only change.enhanced EnhancedCurrentHue)
 
 -- a setter's change, from whether the number is the same and whether the attribute is due
-abbrev pub change_of : Bool → Bool → ℕ → Bool → Change
+abbrev pub change_of : Bool → Bool → Notice → Bool → Option Change
 change_of same due attribute enhanced =
-    record { same = same; due = cond same false due; attribute = attribute; enhanced = enhanced }
+    cond same None (Some (record { due = due; attribute = attribute; enhanced = enhanced }))
 
 -- where nothing is set
-abbrev pub no_change : Change
-no_change = record { same = true; due = false; attribute = 0; enhanced = false }
+abbrev pub no_change : Option Change
+no_change = None
 
 -- `set_hue` at this clock: the colour after it
 unfoldable pub hue_set : Color → ℕ → Bool → Bool → ℕ → Color
@@ -73,9 +73,9 @@ hue_set c new end enhanced clock =
     })
 
 -- the change
-abbrev pub hue_change : Color → ℕ → Bool → Bool → ℕ → Change
+abbrev pub hue_change : Color → ℕ → Bool → Bool → ℕ → Option Change
 hue_change c new end enhanced clock =
-    change_of (same c.hue new end) (due end c.stamps.hue clock) CurrentHue enhanced
+    change_of (same c.hue new end) (due end c.stamps.hue clock) Notice.CurrentHue enhanced
 
 -- both, as `set_hue` answers them
 abbrev pub set_hue : Color → ℕ → Bool → Bool → ℕ → ColorSet
@@ -105,9 +105,9 @@ saturation_set c new end clock =
     })
 
 -- the change
-abbrev pub saturation_change : Color → ℕ → Bool → ℕ → Change
+abbrev pub saturation_change : Color → ℕ → Bool → ℕ → Option Change
 saturation_change c new end clock =
-    change_of (same c.saturation new end) (due end c.stamps.saturation clock) CurrentSaturation false
+    change_of (same c.saturation new end) (due end c.stamps.saturation clock) Notice.CurrentSaturation false
 
 -- both, as `set_saturation` answers them
 abbrev pub set_saturation : Color → ℕ → Bool → ℕ → ColorSet
@@ -137,9 +137,9 @@ mireds_set c new end clock =
     })
 
 -- the change
-abbrev pub mireds_change : Color → ℕ → Bool → ℕ → Change
+abbrev pub mireds_change : Color → ℕ → Bool → ℕ → Option Change
 mireds_change c new end clock =
-    change_of (same c.mireds new end) (due end c.stamps.mireds clock) ColorTemperatureMireds false
+    change_of (same c.mireds new end) (due end c.stamps.mireds clock) Notice.ColorTemperatureMireds false
 
 -- both, as `set_color_temperature` answers them
 abbrev pub set_mireds : Color → ℕ → Bool → ℕ → ColorSet

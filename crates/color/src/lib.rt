@@ -5,16 +5,16 @@
 
 ghost use Rattle.std.specs.Prelude.{◌≡◌, cond};
 ghost use Rattle.notices.specs.Numerals.{in_front};
-ghost use Rattle.color.specs.Setters.{due, change_reported, hue_mode, kept_hue_mode, no_change, set_hue, set_saturation, set_mireds};
+ghost use Rattle.color.specs.Setters.{due, change_reported, hue_mode, kept_hue_mode, set_hue, set_saturation, set_mireds};
 ghost use Rattle.color.specs.Valid.{modes_agree, color_valid};
 ghost use Rattle.color.specs.Making.{new_color};
 
 use matter::{Bounds, ColorModeEnum, EnhancedColorModeEnum, color_mode_of, default_color_mode};
-use notices::Numeral;
+use notices::{Notice, Numeral};
 use progress::clamped_sum;
 
 // The clocks at which each attribute was last reported.
-#[derive(Clone, Copy)]
+#[derive(Clone, Copy, Debug, PartialEq, Eq)]
 pub struct Stamps {
     pub hue: u64,
     pub saturation: u64,
@@ -22,7 +22,7 @@ pub struct Stamps {
 }
 
 // EnhancedCurrentHue, CurrentSaturation, ColorTemperatureMireds, ColorMode, EnhancedColorMode, and their stamps.
-#[derive(Clone, Copy)]
+#[derive(Clone, Copy, Debug, PartialEq, Eq)]
 pub struct Color {
     pub hue: u16,
     pub saturation: u8,
@@ -32,21 +32,19 @@ pub struct Color {
     pub stamps: Stamps,
 }
 
-// What a setter has to report: whether the number stays the same, which reports nothing; else whether the attribute is due; its
-// notice; and whether it is an enhanced hue.
-#[derive(Clone, Copy)]
+// What a setter has to report of a change: whether the attribute is due, its notice, and whether it is an enhanced hue.
+#[derive(Clone, Copy, Debug, PartialEq, Eq)]
 pub struct Change {
-    pub same: bool,
     pub due: bool,
-    pub attribute: u8,
+    pub attribute: Notice,
     pub enhanced: bool,
 }
 
-// The colour after a setter, and the change.
-#[derive(Clone, Copy)]
+// The colour after a setter, and the change; none where the number stays the same, which reports nothing.
+#[derive(Clone, Copy, Debug, PartialEq, Eq)]
 pub struct ColorSet {
     pub color: Color,
-    pub change: Change,
+    pub change: Option<Change>,
 }
 
 // Whether an attribute is reported: at an end, or one second or more after it last was. A stamp after the clock is never
@@ -85,56 +83,42 @@ fn kept_hue_mode(emode: EnhancedColorModeEnum) -> EnhancedColorModeEnum
     ensures { result ≡ kept_hue_mode emode }
 {
     match emode {
-        EnhancedColorModeEnum::CurrentHueAndCurrentSaturation => {
-            EnhancedColorModeEnum::CurrentHueAndCurrentSaturation
-        }
-        EnhancedColorModeEnum::CurrentXAndCurrentY => {
-            EnhancedColorModeEnum::CurrentHueAndCurrentSaturation
-        }
-        EnhancedColorModeEnum::ColorTemperatureMireds => {
-            EnhancedColorModeEnum::CurrentHueAndCurrentSaturation
-        }
-        EnhancedColorModeEnum::EnhancedCurrentHueAndCurrentSaturation => {
-            EnhancedColorModeEnum::EnhancedCurrentHueAndCurrentSaturation
-        }
+        EnhancedColorModeEnum::EnhancedCurrentHueAndCurrentSaturation => emode,
+        _ => EnhancedColorModeEnum::CurrentHueAndCurrentSaturation,
     }
 }
 
 fn modes_agree(mode: ColorModeEnum, emode: EnhancedColorModeEnum) -> bool
     ensures { result ≡ modes_agree mode emode }
 {
-    mode.number() == color_mode_of(emode).number()
+    mode == color_mode_of(emode)
 }
 
 impl Change {
-    // Where nothing is set.
-    pub fn none() -> Self
-        ensures { result ≡ no_change }
-    {
-        Change {
-            same: true,
-            due: false,
-            attribute: 0,
-            enhanced: false,
-        }
-    }
-
     // The change's notices in front of a list: persistence first, unless the loop is active; where it is due the attribute,
     // with an enhanced hue that too, and both modes; scenes last.
     #[tactic(auto, unfolding(notices::specs::Numerals::in_front))]
     pub fn cons(self, list: Numeral, loop_active: bool) -> Numeral
-        ensures { result ≡ in_front (change_reported self loop_active) list }
+        ensures { result ≡ in_front (change_reported (Some self) loop_active) list }
     {
-        if self.same {
-            return list;
-        }
         let due = self.due;
-        list.cons(notices::SCENES_NOTIFIED)
-            .cons_if(due, notices::ENHANCED_COLOR_MODE)
-            .cons_if(due, notices::COLOR_MODE)
-            .cons_if(due & self.enhanced, notices::ENHANCED_CURRENT_HUE)
-            .cons_if(due, self.attribute)
-            .cons_if(!loop_active, notices::MARKED_DIRTY)
+        list.note(Notice::ScenesNotified)
+            .note_if(due, Notice::EnhancedColorMode)
+            .note_if(due, Notice::ColorMode)
+            .note_if(due & self.enhanced, Notice::EnhancedCurrentHue)
+            .note_if(due, self.attribute)
+            .note_if(!loop_active, Notice::MarkedDirty)
+    }
+}
+
+// The same of a change, where there is one.
+#[tactic(auto, unfolding(notices::specs::Numerals::in_front))]
+pub fn cons_change(change: Option<Change>, list: Numeral, loop_active: bool) -> Numeral
+    ensures { result ≡ in_front (change_reported change loop_active) list }
+{
+    match change {
+        Some(change) => change.cons(list, loop_active),
+        None => list,
     }
 }
 
@@ -166,12 +150,7 @@ impl Color {
         if (self.hue == new_eh) & !is_end {
             return ColorSet {
                 color: self,
-                change: Change {
-                    same: true,
-                    due: false,
-                    attribute: notices::CURRENT_HUE,
-                    enhanced: is_enhanced,
-                },
+                change: None,
             };
         }
         let stamps = self.stamps;
@@ -189,12 +168,11 @@ impl Color {
                 },
                 ..self
             },
-            change: Change {
-                same: false,
-                due: due,
-                attribute: notices::CURRENT_HUE,
+            change: Some(Change {
+                due,
+                attribute: Notice::CurrentHue,
                 enhanced: is_enhanced,
-            },
+            }),
         }
     }
 
@@ -206,12 +184,7 @@ impl Color {
         if (self.saturation == new_sat) & !is_end {
             return ColorSet {
                 color: self,
-                change: Change {
-                    same: true,
-                    due: false,
-                    attribute: notices::CURRENT_SATURATION,
-                    enhanced: false,
-                },
+                change: None,
             };
         }
         let stamps = self.stamps;
@@ -230,12 +203,11 @@ impl Color {
                 },
                 ..self
             },
-            change: Change {
-                same: false,
-                due: due,
-                attribute: notices::CURRENT_SATURATION,
+            change: Some(Change {
+                due,
+                attribute: Notice::CurrentSaturation,
                 enhanced: false,
-            },
+            }),
         }
     }
 
@@ -247,12 +219,7 @@ impl Color {
         if (self.mireds == new_mireds) & !is_end {
             return ColorSet {
                 color: self,
-                change: Change {
-                    same: true,
-                    due: false,
-                    attribute: notices::COLOR_TEMPERATURE_MIREDS,
-                    enhanced: false,
-                },
+                change: None,
             };
         }
         let stamps = self.stamps;
@@ -269,12 +236,11 @@ impl Color {
                 },
                 ..self
             },
-            change: Change {
-                same: false,
-                due: due,
-                attribute: notices::COLOR_TEMPERATURE_MIREDS,
+            change: Some(Change {
+                due,
+                attribute: Notice::ColorTemperatureMireds,
                 enhanced: false,
-            },
+            }),
         }
     }
 

@@ -5,7 +5,6 @@ use mathlib.Core.List.{List, [], ◌∷◌}
 use mathlib.Core.Path.{◌≡◌, refl}
 use native.Mathlib.Nat.{le_trans}
 use native.Mathlib.Omega.{arith}
-use lib.Dec.{eqb}
 use Rattle.matter.specs.declared.commands.Request.{Request}
 use Rattle.matter.specs.declared.enums.ColorLoopActionEnum.{ColorLoopActionEnum}
 use Rattle.matter.specs.declared.enums.ColorLoopDirectionEnum.{ColorLoopDirectionEnum}
@@ -16,11 +15,15 @@ use Rattle.notices.specs.Notices.{noted}
 use Rattle.notices.specs.Numerals.{empty, in_front, placed}
 use Rattle.notices.proofs.Numerals.{Below, Bytes, none, more, below-append, below-only, placed-noted}
 use Rattle.color.specs.declared.Color.{Color}
-use Rattle.color.specs.Setters.{hue_change, hue_reported}
-use Rattle.color.proofs.Laws.{change-below}
+use Rattle.color.specs.Setters.{same, change_of, hue_change, hue_reported}
+use Rattle.notices.specs.declared.Notice.{Notice}
+use Rattle.matter.specs.declared.refusals.Refusal.{Refusal}
+use Rattle.matter.specs.Causes.{Verdict, accepted}
+use Rattle.std.specs.Prelude.{Result, Ok, Err}
+use Rattle.color.proofs.Laws.{AttributeBelow, change-below}
 use Rattle.lamp.specs.declared.Answer.{Answer}
 use Rattle.lamp.specs.declared.Lamp.{Lamp}
-use Rattle.lamp.specs.Answers.{at_clock}
+use Rattle.lamp.specs.Answers.{at_clock, refusal}
 use Rattle.commands.specs.declared.outcomes.Outcome.{Outcome}
 use Rattle.commands.specs.Answers.{command_cause, command_done, command_answer}
 use Rattle.commands.specs.Commands.{CommandEffect, with_loop, updated_reported, acted, deactivated, activated, loop_set}
@@ -31,7 +34,11 @@ use Rattle.commands.proofs.Kept.{done-by, done-any, commands-few}
 
 module _ (bound : ℕ) (high : 17 < bound) where
   hue-below : (c : Color) (new : ℕ) (clock : ℕ) (active : Bool) → Below bound (hue_reported c new true true clock active)
-  hue-below c new clock active = change-below bound (omega arith) (hue_change c new true true clock) active (omega arith)
+  hue-below c new clock active = change-below bound (omega arith) (hue_change c new true true clock) active (attribute-below (same c.hue new true) _)
+    where
+      attribute-below : (same due : Bool) → AttributeBelow bound (change_of same due Notice.CurrentHue true)
+      attribute-below true due = tt
+      attribute-below false due = omega arith
 
   updated-below : (flags : ℕ) → Below bound (updated_reported flags)
   updated-below flags =
@@ -76,20 +83,17 @@ commands-bytes l r on_off =
 
 -- ---- the answer
 
--- the answer from the lamp before, the clock and the outcome
-abbrev pub answer_of : Lamp → ℕ → Outcome → Answer
-answer_of l clock o =
+-- the answer from the lamp before, the clock and the outcome, where there is one
+abbrev pub answer_of : Lamp → ℕ → Result Outcome Refusal → Answer
+answer_of l clock (Err cause) = refusal l (Err cause)
+answer_of l clock (Ok o) =
     record {
-      number = o.number;
-      lamp = with_loop (at_clock l (cond (eqb o.number 0) clock l.clock)) o.color o.looping;
+      verdict = accepted;
+      lamp = with_loop (at_clock l clock) o.color o.looping;
       notices = placed o.reported;
       task = o.task;
       wait = 0;
     }
-
-no-list : placed empty ≡ noted []
-unfolding in_front
-no-list = placed-noted [] none (omega arith)
 
 module _ (l : Lamp) (r : Request) (on_off : OnOff) (clock : ℕ) where
   abbrev at : Lamp
@@ -104,11 +108,11 @@ module _ (l : Lamp) (r : Request) (on_off : OnOff) (clock : ℕ) where
   lamp : with_loop at done.lamp.color done.lamp.looping ≡ done.lamp
   lamp = done-any at (λ m. with_loop at m.color m.looping ≡ m) (λ c s. refl) r on_off
 
-  built-by : (t : Bool) → eqb (command_cause l r clock) 0 ≡ t →
+  built-by : (v : Verdict) → command_cause l r clock ≡ v →
       answer_of l clock (outcome_of l r on_off clock) ≡ command_answer l r on_off clock
   unfolding command_answer outcome_of
-  built-by true z = simp (z, list, lamp)
-  built-by false z = simp (z, no-list)
+  built-by (Ok u) z = simp (z, list, lamp)
+  built-by (Err cause) z = simp z
 
   pub built : answer_of l clock (outcome_of l r on_off clock) ≡ command_answer l r on_off clock
-  built = built-by (eqb (command_cause l r clock) 0) refl
+  built = built-by (command_cause l r clock) refl

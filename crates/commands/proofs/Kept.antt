@@ -1,5 +1,7 @@
 -- Every call, refused ones too, keeps validity, widths, bounds and options; an accepted one sets the clock, and a command other than
 -- the colour loop's sets nothing else. The number of an answer is its cause. A command reports few notices.
+use Rattle.matter.specs.Causes.{accepted}
+use Rattle.std.specs.Prelude.{None}
 use Prim.Native.Nat.{ℕ, ◌≤◌}
 use mathlib.Core.Bool.{Bool, true, false, cond, true≢false}
 use mathlib.Core.List.{List, [], ◌∷◌}
@@ -16,13 +18,12 @@ use Rattle.matter.specs.Flags.{has_flag, update_action, update_direction, update
 use Rattle.matter.proofs.Laws.{cond_both}
 use Rattle.matter.specs.InRange.{Short, InRangeCommand}
 use Rattle.notices.proofs.Laws.{only_one}
-use Rattle.notices.specs.Names.{ColorLoopActive, ColorLoopDirection, ColorLoopTime, ColorLoopStartEnhancedHue, ColorLoopStoredEnhancedHue, hue_tie}
+use Rattle.notices.specs.Names.{ColorLoopActive, ColorLoopDirection, ColorLoopTime, ColorLoopStartEnhancedHue, ColorLoopStoredEnhancedHue, hue_tie, EnhancedCurrentHue}
 use Rattle.notices.specs.Notices.{only}
 use Rattle.color.specs.declared.Color.{Color}
-use Rattle.color.proofs.Kept.{hue-kept, hue-word, change-few}
+use Rattle.color.proofs.Kept.{hue-kept, hue-word, change-few, enhanced_change}
 use Rattle.color.specs.Setters.{hue_change}
 use Rattle.color.specs.Setters.{hue_set}
-use Rattle.tasks.specs.declared.GivenTask.{GivenTask}
 use Rattle.tasks.specs.declared.Running.{Running}
 use Rattle.tasks.specs.declared.Task.{Task}
 use Rattle.lamp.specs.declared.Lamp.{Lamp}
@@ -44,30 +45,30 @@ use Rattle.commands.specs.Commands.{CommandEffect, skip, giving_with, checks, wi
 
 module _ (l : Lamp) where
   -- what holds of both holds of the answer
-  pub answer-both : (P : Answer → Type 0) (x : Call) → (cause l x ≡ 0 → P (granted l x)) → ((cause l x ≡ 0 → ⊥) → P (refusal l (cause l x))) → P (answer l x)
+  pub answer-both : (P : Answer → Type 0) (x : Call) → (cause l x ≡ accepted → P (granted l x)) → ((cause l x ≡ accepted → ⊥) → P (refusal l (cause l x))) → P (answer l x)
   unfolding cause answer command_answer start_answer step_answer halt_answer
   answer-both P (Call.Command r on_off clock) h k = choose-both P (command_cause l r clock) l _ h k
   answer-both P (Call.Start task clock) h k = choose-both P (start_cause l task clock) l _ h k
   answer-both P (Call.Step clock) h k = choose-both P (step_cause l clock) l _ h k
   answer-both P (Call.Halt clock) h k = choose-both P (first_cause l clock) l _ h k
 
-  -- what is granted has number 0
-  granted-number : (x : Call) → (granted l x).number ≡ 0
+  -- what is granted is accepted
+  granted-number : (x : Call) → (granted l x).verdict ≡ accepted
   granted-number (Call.Command r on_off clock) = refl
   granted-number (Call.Start task clock) = refl
   granted-number (Call.Step clock) = refl
   granted-number (Call.Halt clock) = refl
 
-  -- the number of an answer is its cause
-  pub number-is-cause : (x : Call) → (answer l x).number ≡ cause l x
-  number-is-cause x = answer-both (λ a. a.number ≡ cause l x) x (λ e. granted-number x ∙ sym e) (λ e. refl)
+  -- the verdict of an answer is its cause
+  pub number-is-cause : (x : Call) → (answer l x).verdict ≡ cause l x
+  number-is-cause x = answer-both (λ a. a.verdict ≡ cause l x) x (λ e. granted-number x ∙ sym e) (λ e. refl)
 
   -- a call with a cause is refused
-  pub refused-same : (x : Call) → (cause l x ≡ 0 → ⊥) → answer l x ≡ refusal l (cause l x)
+  pub refused-same : (x : Call) → (cause l x ≡ accepted → ⊥) → answer l x ≡ refusal l (cause l x)
   refused-same x n = answer-both (λ a. a ≡ refusal l (cause l x)) x (λ e. absurd (n e)) (λ e. refl)
 
   -- where a call is accepted, the lamp at its clock is valid
-  pub granted-ready : (x : Call) → cause l x ≡ 0 → lamp_valid (at_clock l (clock_of x)) ≡ true
+  pub granted-ready : (x : Call) → cause l x ≡ accepted → lamp_valid (at_clock l (clock_of x)) ≡ true
   unfolding cause command_cause
   granted-ready (Call.Command r on_off clock) e = ready l clock (no-cause (first_cause l clock) (after_clock r) e).0
   granted-ready (Call.Start task clock) e = (start-ready l clock task e).0
@@ -108,7 +109,7 @@ quiet-done l r on_off h =
     done-by l (λ (e : CommandEffect). e.lamp ≡ l) (λ t tie. refl) r on_off refl (λ flags action direction time hue e. absurd (true≢false (sym (ap is_loop_set e) ∙ h)))
 
 -- accepted, it sets the clock alone
-pub quiet-command : (l : Lamp) (r : Request) (on_off : OnOff) (clock : ℕ) → is_loop_set r.command ≡ false → cause l (Call.Command r on_off clock) ≡ 0 → (answer l (Call.Command r on_off clock)).lamp ≡ at_clock l clock
+pub quiet-command : (l : Lamp) (r : Request) (on_off : OnOff) (clock : ℕ) → is_loop_set r.command ≡ false → cause l (Call.Command r on_off clock) ≡ accepted → (answer l (Call.Command r on_off clock)).lamp ≡ at_clock l clock
 quiet-command l r on_off clock h z =
     answer-both l (λ a. a.lamp ≡ at_clock l clock) (Call.Command r on_off clock) (λ e. quiet-done (at_clock l clock) r on_off h) (λ n. absurd (n z))
 
@@ -170,7 +171,7 @@ granted-any l (Call.Halt clock) P any = any (changed l l.color Running.Idle l.re
 
 module _ (l : Lamp) (x : Call) where
   -- an accepted call sets the clock
-  pub accepted-clock : cause l x ≡ 0 → (answer l x).lamp.clock ≡ clock_of x
+  pub accepted-clock : cause l x ≡ accepted → (answer l x).lamp.clock ≡ clock_of x
   accepted-clock z =
       answer-both l (λ a. a.lamp.clock ≡ clock_of x) x (λ e. granted-any l x (λ m. m.clock ≡ clock_of x) (λ m. refl)) (λ n. absurd (n z))
 
@@ -218,8 +219,8 @@ updated-few flags =
 deactivated-few : (l : Lamp) (reported : List ℕ) → length reported ≤ 4 → length (deactivated l reported).reported ≤ 14
 unfolding deactivated
 deactivated-few l reported h =
-    cond_both (λ (e : CommandEffect). length e.reported ≤ 14) l.looping.active _ (record { lamp = l; reported = reported; task = GivenTask.Nothing })
-    (λ e. simp length-append (omega (arith, change-few (hue_change l.color l.looping.stored true true l.clock) false)))
+    cond_both (λ (e : CommandEffect). length e.reported ≤ 14) l.looping.active _ (record { lamp = l; reported = reported; task = None })
+    (λ e. simp length-append (omega (arith, change-few (hue_change l.color l.looping.stored true true l.clock) false, only_one (enhanced_change (hue_change l.color l.looping.stored true true l.clock)) EnhancedCurrentHue)))
     (λ e. omega arith)
 
 -- and with those of going on from a hue
@@ -228,7 +229,7 @@ unfolding activated
 activated-few l reported seed h =
     let both : List ℕ = ColorLoopStoredEnhancedHue ∷ ColorLoopActive ∷ [] in
     let some : length (cond l.looping.active [] both) ≤ 2 = cond_both (λ xs. length xs ≤ 2) l.looping.active [] both (λ e. omega arith) (λ e. omega arith) in
-    simp length-append (omega (arith, change-few (hue_change l.color seed true true l.clock) true))
+    simp length-append (omega (arith, change-few (hue_change l.color seed true true l.clock) true, only_one (enhanced_change (hue_change l.color seed true true l.clock)) EnhancedCurrentHue))
 
 -- the colour loop's command reports at most 14
 loop-few : (l : Lamp) (flags : ℕ) (action : ColorLoopActionEnum) (direction : ColorLoopDirectionEnum) (time hue : ℕ) → length (loop_set l flags action direction time hue).reported ≤ 14

@@ -1,4 +1,5 @@
 -- Laws that the proofs of the loop's command cite: its notices, put in front of one another, are the definition's list.
+use Rattle.std.specs.Prelude.{None}
 use Prim.Native.Nat.{ℕ}
 use mathlib.Core.Bool.{Bool, true, false, not, cond}
 use mathlib.Core.List.{List, [], ◌∷◌, ◌++◌, append_assoc}
@@ -10,7 +11,6 @@ use Rattle.notices.specs.Numerals.{empty, consed, in_front}
 use Rattle.notices.proofs.Numerals.{in-front-append}
 use Rattle.color.specs.declared.Color.{Color}
 use Rattle.color.specs.Setters.{hue_change, hue_reported, change_reported}
-use Rattle.tasks.specs.declared.GivenTask.{GivenTask}
 use Rattle.lamp.specs.declared.Lamp.{Lamp}
 use Rattle.commands.specs.declared.outcomes.Outcome.{Outcome}
 use Rattle.commands.specs.Commands.{CommandEffect, skip, deactivated, activated, acted}
@@ -59,7 +59,6 @@ module _ (c : Color) (new clock : ℕ) where
 abbrev fronted : List ℕ → CommandEffect → Outcome
 fronted reported e =
     record {
-      number = 0;
       color = e.lamp.color;
       looping = e.lamp.looping;
       reported = in_front reported (in_front e.reported empty);
@@ -73,7 +72,7 @@ both R false p q = q
 
 module _ (l : Lamp) (reported : List ℕ) where
   -- no action
-  still : fronted reported (skip l) ≡ accepted_outcome (record { lamp = l; reported = reported; task = GivenTask.Nothing })
+  still : fronted reported (skip l) ≡ accepted_outcome (record { lamp = l; reported = reported; task = None })
   unfolding in_front
   still = refl
 
@@ -96,6 +95,6 @@ module _ (l : Lamp) (reported : List ℕ) where
   -- with or without an action
   pub done-fronted : (acts : Bool) (action : ColorLoopActionEnum) →
       fronted reported (cond acts (acted l [] action) (skip l))
-      ≡ accepted_outcome (cond acts (acted l reported action) (record { lamp = l; reported = reported; task = GivenTask.Nothing }))
+      ≡ accepted_outcome (cond acts (acted l reported action) (record { lamp = l; reported = reported; task = None }))
   done-fronted true action = acted-fronted action
   done-fronted false action = still

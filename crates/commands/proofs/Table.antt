@@ -1,8 +1,10 @@
 -- The table of causes holds. Each line computes from the tests it names.
+use Rattle.std.specs.Prelude.{is_ok}
+use Rattle.matter.specs.Causes.{Verdict, number_of, constraint_error, clock_refused, accepted, crossed_bounds, invalid_task, invalid_command, step_while_idle, invalid_lamp}
 use Prim.Native.Nat.{ℕ, ◌≤◌}
 use mathlib.Core.Bool.{Bool, true, false, not, ◌&&◌, ◌||◌}
 use mathlib.Core.List.{[]}
-use mathlib.Core.Path.{◌≡◌, refl, sym, ◌∙◌}
+use mathlib.Core.Path.{◌≡◌, refl, sym, ap, ◌∙◌}
 use native.Mathlib.Omega.{arith}
 use lib.Dec.{eqb, ltb}
 use Rattle.matter.specs.declared.commands.Command.{Command}
@@ -29,65 +31,65 @@ use Rattle.commands.proofs.Kept.{commands-few, number-is-cause}
 
 module _ (l : Lamp) (clock : ℕ) where
   -- ---- a step: 8, 7, 4
-  pub step-8 : lamp_valid l ≡ false → cause l (Call.Step clock) ≡ 8
+  pub step-8 : lamp_valid l ≡ false → number_of (cause l (Call.Step clock)) ≡ 8
   unfolding cause
   step-8 f = simp f
 
-  pub step-7 : lamp_valid l ≡ true → runs l.running ≡ false → cause l (Call.Step clock) ≡ 7
+  pub step-7 : lamp_valid l ≡ true → runs l.running ≡ false → number_of (cause l (Call.Step clock)) ≡ 7
   unfolding cause
   step-7 f r = simp (f, r)
 
-  pub step-4 : lamp_valid l ≡ true → runs l.running ≡ true → bad_clock l clock ≡ true → cause l (Call.Step clock) ≡ 4
+  pub step-4 : lamp_valid l ≡ true → runs l.running ≡ true → bad_clock l clock ≡ true → number_of (cause l (Call.Step clock)) ≡ 4
   unfolding cause
   step-4 f r b = simp (f, r, b)
 
   -- a step of a valid running lamp with a good clock is never refused
-  pub step-0 : lamp_valid l ≡ true → runs l.running ≡ true → bad_clock l clock ≡ false → cause l (Call.Step clock) ≡ 0
+  pub step-0 : lamp_valid l ≡ true → runs l.running ≡ true → bad_clock l clock ≡ false → number_of (cause l (Call.Step clock)) ≡ 0
   unfolding cause
   step-0 f r b = simp (f, r, b)
 
   -- ---- a halt: 8, 4
-  pub halt-8 : lamp_valid l ≡ false → cause l (Call.Halt clock) ≡ 8
+  pub halt-8 : lamp_valid l ≡ false → number_of (cause l (Call.Halt clock)) ≡ 8
   unfolding cause first_cause
   halt-8 f = simp f
 
-  pub halt-4 : lamp_valid l ≡ true → bad_clock l clock ≡ true → cause l (Call.Halt clock) ≡ 4
+  pub halt-4 : lamp_valid l ≡ true → bad_clock l clock ≡ true → number_of (cause l (Call.Halt clock)) ≡ 4
   unfolding cause first_cause
   halt-4 f b = simp (f, b)
 
-  pub halt-0 : lamp_valid l ≡ true → bad_clock l clock ≡ false → cause l (Call.Halt clock) ≡ 0
+  pub halt-0 : lamp_valid l ≡ true → bad_clock l clock ≡ false → number_of (cause l (Call.Halt clock)) ≡ 0
   unfolding cause first_cause
   halt-0 f b = simp (f, b)
 
   module _ (task : Task) where
     -- ---- a start: 8, 4, 6
-    pub start-8 : lamp_valid l ≡ false → cause l (Call.Start task clock) ≡ 8
+    pub start-8 : lamp_valid l ≡ false → number_of (cause l (Call.Start task clock)) ≡ 8
     unfolding cause first_cause
     start-8 f = simp f
 
-    pub start-4 : lamp_valid l ≡ true → bad_clock l clock ≡ true → cause l (Call.Start task clock) ≡ 4
+    pub start-4 : lamp_valid l ≡ true → bad_clock l clock ≡ true → number_of (cause l (Call.Start task clock)) ≡ 4
     unfolding cause first_cause
     start-4 f b = simp (f, b)
 
-    pub start-6 : lamp_valid l ≡ true → bad_clock l clock ≡ false → task_valid task ≡ false → cause l (Call.Start task clock) ≡ 6
+    pub start-6 : lamp_valid l ≡ true → bad_clock l clock ≡ false → task_valid task ≡ false → number_of (cause l (Call.Start task clock)) ≡ 6
     unfolding cause first_cause
     start-6 f b t = simp (f, b, t)
 
-    pub start-0 : lamp_valid l ≡ true → bad_clock l clock ≡ false → task_valid task ≡ true → cause l (Call.Start task clock) ≡ 0
+    pub start-0 : lamp_valid l ≡ true → bad_clock l clock ≡ false → task_valid task ≡ true → number_of (cause l (Call.Start task clock)) ≡ 0
     unfolding cause first_cause
     start-0 f b t = simp (f, b, t)
 
   module _ (r : Request) (on_off : OnOff) where
     -- ---- a command: 8, 4, Stop mode, its own numbers (1 or 2)
-    pub command-8 : lamp_valid l ≡ false → cause l (Call.Command r on_off clock) ≡ 8
+    pub command-8 : lamp_valid l ≡ false → number_of (cause l (Call.Command r on_off clock)) ≡ 8
     unfolding cause command_cause first_cause
     command-8 f = simp f
 
-    pub command-4 : lamp_valid l ≡ true → bad_clock l clock ≡ true → cause l (Call.Command r on_off clock) ≡ 4
+    pub command-4 : lamp_valid l ≡ true → bad_clock l clock ≡ true → number_of (cause l (Call.Command r on_off clock)) ≡ 4
     unfolding cause command_cause first_cause
     command-4 f b = simp (f, b)
 
-    pub command-stop : lamp_valid l ≡ true → bad_clock l clock ≡ false → (checks r.command).stop ≡ true → cause l (Call.Command r on_off clock) ≡ 0
+    pub command-stop : lamp_valid l ≡ true → bad_clock l clock ≡ false → (checks r.command).stop ≡ true → number_of (cause l (Call.Command r on_off clock)) ≡ 0
     unfolding cause command_cause first_cause
     command-stop f b s = simp (f, b, s)
 
@@ -97,68 +99,68 @@ module _ (l : Lamp) (clock : ℕ) where
 
 -- ---- which numbers there are
 
-small : {most : ℕ} (test : Bool) (number : ℕ) → number ≤ most → cause_if test number ≤ most
-small {most} test number h = cond_both (λ n. n ≤ most) test number 0 (λ e. h) (λ e. omega arith)
+small : {most : ℕ} (test : Bool) (cause : Verdict) → number_of cause ≤ most → number_of (cause_if test cause) ≤ most
+small {most} test cause h = cond_both (λ v. number_of v ≤ most) test cause accepted (λ e. h) (λ e. omega arith)
 
 -- a command's own numbers give 1, 2 or no cause
-pub own-small : (c : Command) → (checks c).cause ≤ 2
-own-small (Command.MoveToHue hue direction time) = small (ltb hue_limit hue) 1 (omega arith)
-own-small (Command.MoveHue mode rate enhanced) = small (eqb rate 0) 2 (omega arith)
-own-small (Command.StepHue mode size time) = small (eqb size 0) 2 (omega arith)
-own-small (Command.MoveToSaturation saturation time) = small (ltb saturation_limit saturation) 1 (omega arith)
-own-small (Command.MoveSaturation mode rate) = small (eqb rate 0) 2 (omega arith)
-own-small (Command.StepSaturation mode size time) = small (eqb size 0) 2 (omega arith)
+pub own-small : (c : Command) → number_of (checks c).cause ≤ 2
+own-small (Command.MoveToHue hue direction time) = small (ltb hue_limit hue) constraint_error (omega arith)
+own-small (Command.MoveHue mode rate enhanced) = small (eqb rate 0) invalid_command (omega arith)
+own-small (Command.StepHue mode size time) = small (eqb size 0) invalid_command (omega arith)
+own-small (Command.MoveToSaturation saturation time) = small (ltb saturation_limit saturation) constraint_error (omega arith)
+own-small (Command.MoveSaturation mode rate) = small (eqb rate 0) invalid_command (omega arith)
+own-small (Command.StepSaturation mode size time) = small (eqb size 0) invalid_command (omega arith)
 own-small (Command.MoveToHueAndSaturation hue saturation time enhanced enhanced_hue) =
-    small ((not enhanced && ltb hue_limit hue) || ltb saturation_limit saturation) 1 (omega arith)
+    small ((not enhanced && ltb hue_limit hue) || ltb saturation_limit saturation) constraint_error (omega arith)
 own-small (Command.EnhancedMoveToHue hue direction time) = omega arith
-own-small (Command.EnhancedMoveHue mode rate) = small (eqb rate 0) 2 (omega arith)
-own-small (Command.EnhancedStepHue mode size time) = small (eqb size 0) 2 (omega arith)
-own-small (Command.MoveToColorTemperature mireds time) = small (eqb mireds 0) 1 (omega arith)
-own-small (Command.MoveColorTemperature mode rate min max) = small (eqb rate 0) 2 (omega arith)
-own-small (Command.StepColorTemperature mode size time min max) = small (eqb size 0) 2 (omega arith)
+own-small (Command.EnhancedMoveHue mode rate) = small (eqb rate 0) invalid_command (omega arith)
+own-small (Command.EnhancedStepHue mode size time) = small (eqb size 0) invalid_command (omega arith)
+own-small (Command.MoveToColorTemperature mireds time) = small (eqb mireds 0) constraint_error (omega arith)
+own-small (Command.MoveColorTemperature mode rate min max) = small (eqb rate 0) invalid_command (omega arith)
+own-small (Command.StepColorTemperature mode size time min max) = small (eqb size 0) invalid_command (omega arith)
 own-small (Command.ColorLoopSet flags action direction time start_hue) = omega arith
 own-small Command.StopMoveStep = omega arith
 
--- what holds of 0, of the commands' own causes, and of 4, 6, 7 and 8 holds of every cause
-module _ (P : ℕ → Type 0) (p0 : P 0) (own : (c : Command) → P (checks c).cause) (p4 : P 4) (p6 : P 6) (p7 : P 7) (p8 : P 8) where
-  clock-in : (l : Lamp) (clock : ℕ) → P (cause_if (bad_clock l clock) 4)
-  clock-in l clock = cond_both P (bad_clock l clock) 4 0 (λ e. p4) (λ e. p0)
+-- what holds of an accepted call, of the commands' own causes, and of the four others holds of every verdict
+module _ (P : Verdict → Type 0) (p0 : P accepted) (own : (c : Command) → P (checks c).cause) (p4 : P clock_refused) (p6 : P invalid_task) (p7 : P step_while_idle) (p8 : P invalid_lamp) where
+  clock-in : (l : Lamp) (clock : ℕ) → P (cause_if (bad_clock l clock) clock_refused)
+  clock-in l clock = cond_both P (bad_clock l clock) clock_refused accepted (λ e. p4) (λ e. p0)
 
   first-in : (l : Lamp) (clock : ℕ) → P (first_cause l clock)
   unfolding first_cause
-  first-in l clock = cond_both P (not (lamp_valid l)) 8 _ (λ e. p8) (λ e. clock-in l clock)
+  first-in l clock = cond_both P (not (lamp_valid l)) invalid_lamp _ (λ e. p8) (λ e. clock-in l clock)
 
   cause-in : (l : Lamp) (x : Call) → P (cause l x)
   unfolding cause command_cause
   cause-in l (Call.Command r on_off clock) =
-      cond_both P (eqb (first_cause l clock) 0) (after_clock r) (first_cause l clock)
-      (λ e. cond_both P (checks r.command).stop 0 _ (λ e. p0) (λ e. own r.command))
+      cond_both P (is_ok (first_cause l clock)) (after_clock r) (first_cause l clock)
+      (λ e. cond_both P (checks r.command).stop accepted _ (λ e. p0) (λ e. own r.command))
       (λ e. first-in l clock)
   cause-in l (Call.Start task clock) =
-      cond_both P (eqb (first_cause l clock) 0) _ (first_cause l clock)
-      (λ e. cond_both P (task_valid task) 0 6 (λ e. p0) (λ e. p6))
+      cond_both P (is_ok (first_cause l clock)) _ (first_cause l clock)
+      (λ e. cond_both P (task_valid task) accepted invalid_task (λ e. p0) (λ e. p6))
       (λ e. first-in l clock)
   cause-in l (Call.Step clock) =
-      cond_both P (not (lamp_valid l)) 8 _ (λ e. p8)
-      (λ e. cond_both P (not (runs l.running)) 7 _ (λ e. p7) (λ e. clock-in l clock))
+      cond_both P (not (lamp_valid l)) invalid_lamp _ (λ e. p8)
+      (λ e. cond_both P (not (runs l.running)) step_while_idle _ (λ e. p7) (λ e. clock-in l clock))
   cause-in l (Call.Halt clock) = first-in l clock
 
-pub cause-small : (l : Lamp) (x : Call) → cause l x ≤ 8
-cause-small = cause-in (λ n. n ≤ 8) (omega arith) (λ c. omega (arith, own-small c)) (omega arith) (omega arith) (omega arith) (omega arith)
+pub cause-small : (l : Lamp) (x : Call) → number_of (cause l x) ≤ 8
+cause-small = cause-in (λ v. number_of v ≤ 8) (omega arith) (λ c. omega (arith, own-small c)) (omega arith) (omega arith) (omega arith) (omega arith)
 
-pub cause-not-3 : (l : Lamp) (x : Call) → cause l x ≡ 3 → ⊥
+pub cause-not-3 : (l : Lamp) (x : Call) → number_of (cause l x) ≡ 3 → ⊥
 cause-not-3 =
-    cause-in (λ n. n ≡ 3 → ⊥) (λ e. omega (arith, e)) (λ c e. omega (arith, own-small c, e)) (λ e. omega (arith, e)) (λ e. omega (arith, e)) (λ e. omega (arith, e)) (λ e. omega (arith, e))
+    cause-in (λ v. number_of v ≡ 3 → ⊥) (λ e. omega (arith, e)) (λ c e. omega (arith, own-small c, e)) (λ e. omega (arith, e)) (λ e. omega (arith, e)) (λ e. omega (arith, e)) (λ e. omega (arith, e))
 
-making-not-3 : (bounds : Bounds) (clock : ℕ) → making_cause bounds clock ≡ 3 → ⊥
+making-not-3 : (bounds : Bounds) (clock : ℕ) → number_of (making_cause bounds clock) ≡ 3 → ⊥
 making-not-3 bounds clock =
-    cond_both (λ n. n ≡ 3 → ⊥) (ltb clock_limit clock) 4 _ (λ t e. omega (arith, e))
-    (λ t. cond_both (λ n. n ≡ 3 → ⊥) (ltb bounds.max bounds.min) 5 0 (λ u e. omega (arith, e)) (λ u e. omega (arith, e)))
+    cond_both (λ v. number_of v ≡ 3 → ⊥) (ltb clock_limit clock) clock_refused _ (λ t e. omega (arith, e))
+    (λ t. cond_both (λ v. number_of v ≡ 3 → ⊥) (ltb bounds.max bounds.min) crossed_bounds accepted (λ u e. omega (arith, e)) (λ u e. omega (arith, e)))
 
 -- ---- at most 14 notices: an answer's list is some list of at most 14 in its places, with zeros behind
 
-chosen : (n : ℕ) (l : Lamp) (a : Answer) → Few a → Few (choose n l a)
-chosen n l a f = cond_both Few (eqb n 0) a (refusal l n) (λ e. f) (λ e. record { reported = []; listed = refl; few = omega arith })
+chosen : (n : Verdict) (l : Lamp) (a : Answer) → Few a → Few (choose n l a)
+chosen n l a f = cond_both Few (is_ok n) a (refusal l n) (λ e. f) (λ e. record { reported = []; listed = refl; few = omega arith })
 
 pub answer-few : (l : Lamp) (x : Call) → Few (answer l x)
 unfolding answer command_answer start_answer step_answer halt_answer
@@ -196,7 +198,7 @@ table =
           };
       own = own-small;
       most = cause-small;
-      no-3 = λ l x e. cause-not-3 l x (sym (number-is-cause l x) ∙ e);
+      no-3 = λ l x e. cause-not-3 l x (sym (ap number_of (number-is-cause l x)) ∙ e);
       making-no-3 = making-not-3;
       few = answer-few;
     }

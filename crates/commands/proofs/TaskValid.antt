@@ -1,6 +1,9 @@
 -- A task that a command gives, other than Stop, is valid: so a start of it on a valid lamp at a good clock is
 -- accepted.
-use Prim.Native.Nat.{ℕ, suc, ◌*◌, ◌%◌, ◌<◌, ◌≤◌}
+use Rattle.matter.specs.declared.refusals.Refusal.{Refusal}
+use Rattle.matter.specs.Causes.{invalid_command, accepted}
+use Rattle.std.specs.Prelude.{Option, Some, None, Err}
+use Prim.Native.Nat.{ℕ, ◌*◌, ◌%◌, ◌<◌, ◌≤◌}
 use mathlib.Core.Bool.{Bool, true, false, not, ◌&&◌, true≢false}
 use mathlib.Core.List.{List}
 use mathlib.Core.Path.{◌≡◌, refl}
@@ -16,13 +19,11 @@ use Rattle.matter.specs.declared.enums.MoveModeEnum.{MoveModeEnum}
 use Rattle.matter.specs.declared.enums.OnOff.{OnOff}
 use Rattle.matter.specs.declared.enums.StepModeEnum.{StepModeEnum}
 use Rattle.matter.specs.Flags.{has_flag, update_action}
-use Rattle.matter.proofs.Laws.{cond_both, or_right, all_of}
+use Rattle.matter.proofs.Laws.{cond_both, or_right, all_of, refused-of, number-0}
 use Rattle.matter.specs.Limits.{hue_limit}
 use Rattle.matter.specs.InRange.{Short, InRangeCommand, InRangeRequest}
 use Rattle.hue.proofs.Laws.{way-small}
 use Rattle.color.proofs.Kept.{valid-saturation}
-use Rattle.tasks.specs.declared.GivenTask.{GivenTask}
-use Rattle.tasks.specs.declared.TargetSaturation.{TargetSaturation}
 use Rattle.tasks.specs.declared.Task.{Task}
 use Rattle.tasks.specs.Valid.{time_valid, small, saturation_valid, moves, rate_valid, move_to_valid, hue_move_valid, saturation_move_valid, task_valid}
 use Rattle.lamp.specs.declared.Lamp.{Lamp}
@@ -52,16 +53,16 @@ step-size StepModeEnum.Up size = refl
 step-size StepModeEnum.Down size = abs_neg (pos size)
 
 -- a test that gives no cause fails
-no_test : (test : Bool) (number : ℕ) → cause_if test (suc number) ≡ 0 → test ≡ false
-no_test true number e = absurd (omega arith)
-no_test false number e = refl
+no_test : (test : Bool) (cause : Refusal) → cause_if test (Err cause) ≡ accepted → test ≡ false
+no_test true cause e = absurd (refused-of (Err cause) refl e)
+no_test false cause e = refl
 
-some-rate : (n : ℕ) → cause_if (eqb n 0) 2 ≡ 0 → 0 < n
-some-rate n e = omega (arith, eqb-false n 0 (no_test (eqb n 0) 1 e))
+some-rate : (n : ℕ) → cause_if (eqb n 0) invalid_command ≡ accepted → 0 < n
+some-rate n e = omega (arith, eqb-false n 0 (no_test (eqb n 0) Refusal.InvalidCommand e))
 
 -- ---- the tasks
 
-hue-valid : (way : ℤ) (to : TargetSaturation) (tenths : ℕ) (enhanced : Bool) → nat_abs way ≤ 65535
+hue-valid : (way : ℤ) (to : Option ℕ) (tenths : ℕ) (enhanced : Bool) → nat_abs way ≤ 65535
     → saturation_valid to ≡ true → Short tenths → task_valid (hue_task way to tenths enhanced) ≡ true
 unfolding task_valid move_to_valid
 hue-valid way to tenths enhanced w s t = all_of _ (time-valid tenths t, (small_of way w, (s, (refl, tt))))
@@ -91,9 +92,9 @@ rate-valid MoveModeEnum.Down rate m z r =
 -- ---- the commands
 
 -- a task that is given is Stop or valid
-abbrev Startable : GivenTask → Type 0
-Startable GivenTask.Nothing = Unit
-Startable (GivenTask.Given task) = (task ≡ Task.Stop → ⊥) → task_valid task ≡ true
+abbrev Startable : Option Task → Type 0
+Startable None = Unit
+Startable (Some task) = (task ≡ Task.Stop → ⊥) → task_valid task ≡ true
 
 acted-valid : (l : Lamp) (reported : List ℕ) (action : ColorLoopActionEnum) → Startable (acted l reported action).task
 unfolding deactivated activated task_valid
@@ -107,7 +108,7 @@ stepped-saturation StepModeEnum.Up now size h = omega arith
 stepped-saturation StepModeEnum.Down now size h = omega arith
 
 effect-valid : (l : Lamp) (c : Command) → l.color.saturation ≤ 254 → InRangeCommand c → (checks c).stop ≡ false
-    → (checks c).cause ≡ 0 → Startable (command_effect l c).task
+    → (checks c).cause ≡ accepted → Startable (command_effect l c).task
 unfolding command_effect loop_set task_valid saturation_move_valid
 effect-valid l (Command.MoveToHue hue direction time) s t m n =
     λ o. hue-valid _ _ time false (way-small l.color.hue (stored hue) direction) refl t.1
@@ -118,14 +119,14 @@ effect-valid l (Command.MoveHue mode rate enhanced) s t m n =
 effect-valid l (Command.StepHue mode size time) s t m n =
     λ o. hue-valid _ _ time false (rw step-size (omega arith)) refl t.1
 effect-valid l (Command.MoveToSaturation saturation time) s t m n =
-    λ o. saturation-valid saturation time (ltb-false 254 saturation (no_test _ 0 n)) t.1
+    λ o. saturation-valid saturation time (ltb-false 254 saturation (no_test _ Refusal.ConstraintError n)) t.1
 effect-valid l (Command.MoveSaturation mode rate) s t m n =
     λ o. all_of _ (lt-ltb 0 rate (some-rate rate n), (le-leb rate 255 (omega arith), (mode-moves mode m, tt)))
 effect-valid l (Command.StepSaturation mode size time) s t m n =
     λ o. saturation-valid _ time (stepped-saturation mode l.color.saturation size s) t.1
 effect-valid l (Command.MoveToHueAndSaturation hue saturation time enhanced enhanced_hue) s t m n =
-    λ o. hue-valid _ (TargetSaturation.To saturation) time enhanced (way-small l.color.hue _ _)
-    (le-leb saturation 254 (ltb-false 254 saturation (or_right (not enhanced && ltb hue_limit hue) _ (no_test _ 0 n))))
+    λ o. hue-valid _ (Some saturation) time enhanced (way-small l.color.hue _ _)
+    (le-leb saturation 254 (ltb-false 254 saturation (or_right (not enhanced && ltb hue_limit hue) _ (no_test _ Refusal.ConstraintError n))))
     t.2
 effect-valid l (Command.EnhancedMoveToHue hue direction time) s t m n =
     λ o. hue-valid _ _ time true (way-small l.color.hue hue direction) refl t.1
@@ -145,7 +146,7 @@ effect-valid l Command.StopMoveStep s t m n = λ o. absurd (o refl)
 
 module _ (l : Lamp) (r : Request) (on_off : OnOff) (clock : ℕ) (in_range : InRangeRequest r) where
   -- an accepted command that is in no Stop mode has no cause of its own
-  own-none : cause l (Call.Command r on_off clock) ≡ 0 → (checks r.command).stop ≡ false → (checks r.command).cause ≡ 0
+  own-none : cause l (Call.Command r on_off clock) ≡ accepted → (checks r.command).stop ≡ false → (checks r.command).cause ≡ accepted
   unfolding cause command_cause
   own-none e s =
       rw s at (no-cause (first_cause l clock) (after_clock r) e).1
@@ -163,12 +164,12 @@ module _ (l : Lamp) (r : Request) (on_off : OnOff) (clock : ℕ) (in_range : InR
       (λ n. tt)
 
   -- a task that a command gives, other than Stop, is valid
-  pub given-valid : (task : Task) → (answer l (Call.Command r on_off clock)).task ≡ GivenTask.Given task
+  pub given-valid : (task : Task) → (answer l (Call.Command r on_off clock)).task ≡ Some task
       → (task ≡ Task.Stop → ⊥) → task_valid task ≡ true
   given-valid task e = rw e at answer-valid
 
   -- so a start of it is accepted on any valid lamp at a good clock
-  pub given-starts : (task : Task) → (answer l (Call.Command r on_off clock)).task ≡ GivenTask.Given task
+  pub given-starts : (task : Task) → (answer l (Call.Command r on_off clock)).task ≡ Some task
       → (task ≡ Task.Stop → ⊥) → (m : Lamp) (at : ℕ) → lamp_valid m ≡ true → bad_clock m at ≡ false
-      → cause m (Call.Start task at) ≡ 0
-  given-starts task e n m at f b = start-0 m at task f b (given-valid task e n)
+      → cause m (Call.Start task at) ≡ accepted
+  given-starts task e n m at f b = number-0 (cause m (Call.Start task at)) (start-0 m at task f b (given-valid task e n))

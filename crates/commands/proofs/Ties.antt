@@ -5,13 +5,12 @@ use mathlib.Core.List.{List, [], ◌∷◌}
 use mathlib.Core.Path.{◌≡◌, refl, sym, ap, ◌∙◌}
 use native.Mathlib.Omega.{arith}
 use lib.ListN.{get_or}
-use borrow.Author.Tests.{eq-eqb, ne_eqb}
 use Rattle.matter.specs.declared.commands.Command.{Command}
 use Rattle.matter.specs.declared.commands.Request.{Request}
 use Rattle.matter.specs.declared.enums.DirectionEnum.{DirectionEnum}
 use Rattle.matter.specs.declared.enums.OnOff.{OnOff}
 use Rattle.hue.specs.Hue.{is_tie}
-use Rattle.matter.proofs.Laws.{cond_both}
+use Rattle.matter.proofs.Laws.{cond_both, not-ok}
 use Rattle.notices.specs.Names.{task_given, hue_tie}
 use Rattle.notices.specs.Notices.{only, filled, noted}
 use Rattle.notices.proofs.Numerals.{Below, none, more, below-later, below_at, below-filled}
@@ -94,8 +93,8 @@ call-noted : (l : Lamp) (x : Call) → Noted l.color.hue (answer l x) (aim l x)
 call-noted l (Call.Command r on_off clock) =
     let x : Call = Call.Command r on_off clock in
     answer-both l (λ a. Noted l.color.hue a (aim l x)) x
-    (λ e. record { reported = (command_done (at_clock l clock) r on_off).reported; places = refl; listed = rw (eq-eqb (cause l x) 0 e) (done-listed (at_clock l clock) r on_off) })
-    (λ n. record { reported = []; places = refl; listed = rw (ne_eqb (cause l x) 0 n) (without none) })
+    (λ e. record { reported = (command_done (at_clock l clock) r on_off).reported; places = refl; listed = rw e (done-listed (at_clock l clock) r on_off) })
+    (λ n. record { reported = []; places = refl; listed = rw (not-ok (cause l x) n) (without none) })
 call-noted l (Call.Start task clock) =
     answer-both l (λ a. Noted l.color.hue a nowhere) (Call.Start task clock)
     (λ e. record { reported = _; places = refl; listed = without (below-later (omega arith) (started_below (at_clock l clock) task)) })

@@ -1,11 +1,11 @@
 -- What a call leaves as it was.
+use Rattle.std.specs.Prelude.{None}
 use mathlib.Core.Bool.{false, true≢false}
 use mathlib.Core.Path.{◌≡◌, refl}
 use lib.Dec.{leb}
 use Rattle.matter.specs.Bounds.{lower, upper}
 use Rattle.matter.proofs.Laws.{cond_both}
 use Rattle.notices.specs.Notices.{filled}
-use Rattle.tasks.specs.declared.GivenTask.{GivenTask}
 use Rattle.tasks.specs.declared.Running.{Running}
 use Rattle.tasks.specs.declared.Task.{Task}
 use Rattle.lamp.specs.declared.Lamp.{Lamp}
@@ -53,8 +53,8 @@ module _ (l : Lamp) where
       record {
         refusal = refused-same l;
         halting = λ clock z. answer-both l (λ a. a ≡ granted l (Call.Halt clock)) (Call.Halt clock) (λ e. refl) (λ n. absurd (n z));
-        start-task = λ task clock. answer-both l (λ a. a.task ≡ GivenTask.Nothing) (Call.Start task clock) (λ e. refl) (λ n. refl);
-        step-task = λ clock. answer-both l (λ a. a.task ≡ GivenTask.Nothing) (Call.Step clock) (λ e. refl) (λ n. refl);
+        start-task = λ task clock. answer-both l (λ a. a.task ≡ None) (Call.Start task clock) (λ e. refl) (λ n. refl);
+        step-task = λ clock. answer-both l (λ a. a.task ≡ None) (Call.Step clock) (λ e. refl) (λ n. refl);
         bounds = bounds-kept l;
         options = options-kept l;
         command-running =

@@ -1,10 +1,10 @@
 -- The answer of every call of a lamp: the table of causes in its order, the effect of an accepted call, and the choice
 -- between the two. Document 01, "Commands in their order" and "Why a call is turned away".
-use Rattle.std.specs.Prelude.{ℕ, Bool, true, false, cond, eqb}
+use Rattle.std.specs.Prelude.{ℕ, Bool, true, false, cond, is_ok}
 use Rattle.matter.specs.declared.commands.Command.{Command}
 use Rattle.matter.specs.declared.commands.Request.{Request}
 use Rattle.matter.specs.declared.enums.OnOff.{OnOff}
-use Rattle.matter.specs.Causes.{accepted}
+use Rattle.matter.specs.Causes.{Verdict, accepted}
 use Rattle.matter.specs.Rules.{may_execute}
 use Rattle.notices.specs.Notices.{noted}
 use Rattle.tasks.specs.declared.Task.{Task}
@@ -21,14 +21,14 @@ abbrev pub allowed : Lamp → Request → OnOff → Bool
 allowed l r on_off = may_execute on_off l.options r.options.mask r.options.overrides
 
 -- "commands 8, 4, then the order above": Stop mode, then the cause of the command's own numbers
-abbrev pub in_order : Bool → ℕ → ℕ
+abbrev pub in_order : Bool → Verdict → Verdict
 in_order stop own = cond stop accepted own
 
-abbrev pub after_clock : Request → ℕ
+abbrev pub after_clock : Request → Verdict
 after_clock r = in_order (checks r.command).stop (checks r.command).cause
 
-unfoldable pub command_cause : Lamp → Request → ℕ → ℕ
-command_cause l r clock = cond (eqb (first_cause l clock) accepted) (after_clock r) (first_cause l clock)
+unfoldable pub command_cause : Lamp → Request → ℕ → Verdict
+command_cause l r clock = cond (is_ok (first_cause l clock)) (after_clock r) (first_cause l clock)
 
 -- the Stop task in Stop mode; where it may not execute, a pass-over; else what the command does
 abbrev pub ran_with : Lamp → Bool → Bool → CommandEffect → CommandEffect
@@ -40,7 +40,7 @@ command_done l r on_off = ran_with l (checks r.command).stop (allowed l r on_off
 -- an accepted command asks for no wait
 abbrev pub command_accepted : CommandEffect → Answer
 command_accepted e =
-    record { number = accepted; lamp = e.lamp; notices = noted e.reported; task = e.task; wait = 0 }
+    record { verdict = accepted; lamp = e.lamp; notices = noted e.reported; task = e.task; wait = 0 }
 
 unfoldable pub command_answer : Lamp → Request → OnOff → ℕ → Answer
 command_answer l r on_off clock =
@@ -48,7 +48,7 @@ command_answer l r on_off clock =
 
 -- ---- every call
 
-unfoldable pub cause : Lamp → Call → ℕ
+unfoldable pub cause : Lamp → Call → Verdict
 cause l (Call.Command r on_off clock) = command_cause l r clock
 cause l (Call.Start task clock) = start_cause l task clock
 cause l (Call.Step clock) = step_cause l clock

@@ -1,5 +1,6 @@
 -- What each command does: document 01, leaf 7 and "Commands in their order". A command is given the lamp at its clock.
 -- What is checked before it, and in which order: `command_cause`, `in_order` and `ran_with` in Answers.
+use Rattle.std.specs.Prelude.{Option, Some, None}
 use Rattle.std.specs.Prelude.{ℕ, ◌+◌, ◌-◌, ◌*◌, min, Bool, true, false, not, cond, ◌&&◌, ◌||◌, List, [], ◌∷◌, ◌++◌, ltb, eqb, ℤ, pos, neg_ℤ, ◌+ℤ◌}
 use Rattle.matter.specs.declared.limits.Bounds.{Bounds}
 use Rattle.matter.specs.declared.commands.Command.{Command}
@@ -8,7 +9,7 @@ use Rattle.matter.specs.declared.enums.MoveModeEnum.{MoveModeEnum}
 use Rattle.matter.specs.declared.enums.StepModeEnum.{StepModeEnum}
 use Rattle.matter.specs.declared.enums.ColorLoopActionEnum.{ColorLoopActionEnum}
 use Rattle.matter.specs.declared.enums.ColorLoopDirectionEnum.{ColorLoopDirectionEnum}
-use Rattle.matter.specs.Causes.{accepted, constraint_error, invalid_command}
+use Rattle.matter.specs.Causes.{Verdict, accepted, constraint_error, invalid_command}
 use Rattle.matter.specs.Flags.{has_flag, update_action, update_direction, update_time, update_start_hue}
 use Rattle.matter.specs.Limits.{hue_limit, saturation_limit}
 use Rattle.notices.specs.Notices.{only}
@@ -18,9 +19,6 @@ use Rattle.hue.specs.Hue.{path_delta, is_tie}
 use Rattle.progress.specs.Progress.{clamp}
 use Rattle.color.specs.declared.Color.{Color}
 use Rattle.color.specs.Setters.{hue_set, hue_reported}
-use Rattle.tasks.specs.declared.GivenTask.{GivenTask}
-use Rattle.tasks.specs.declared.HueDelta.{HueDelta}
-use Rattle.tasks.specs.declared.TargetSaturation.{TargetSaturation}
 use Rattle.tasks.specs.declared.Task.{Task}
 use Rattle.lamp.specs.declared.Lamp.{Lamp}
 use Rattle.lamp.specs.declared.LoopSettings.{LoopSettings}
@@ -32,15 +30,15 @@ use Rattle.commands.specs.declared.checks.Checks.{Checks}
 pub record CommandEffect : Type 0 where
   pub lamp : Lamp
   pub reported : List ℕ
-  pub task : GivenTask
+  pub task : Option Task
 
 -- a pass-over: nothing but the clock changes
 abbrev pub skip : Lamp → CommandEffect
-skip l = record { lamp = l; reported = []; task = GivenTask.Nothing }
+skip l = record { lamp = l; reported = []; task = None }
 
 -- a task given, and what is reported behind it
 abbrev pub giving_with : Lamp → Task → List ℕ → CommandEffect
-giving_with l task more = record { lamp = l; reported = task_given ∷ more; task = GivenTask.Given task }
+giving_with l task more = record { lamp = l; reported = task_given ∷ more; task = Some task }
 
 abbrev pub giving : Lamp → Task → CommandEffect
 giving l task = giving_with l task []
@@ -53,8 +51,8 @@ is_stop MoveModeEnum.Up = false
 is_stop MoveModeEnum.Down = false
 
 -- a cause where the test holds, else none
-abbrev pub cause_if : Bool → ℕ → ℕ
-cause_if test number = cond test number accepted
+abbrev pub cause_if : Bool → Verdict → Verdict
+cause_if test cause = cond test cause accepted
 
 -- "hue above 254 (plain only), saturation above 254, or mireds 0"
 abbrev pub constrained : Bool → Checks
@@ -68,7 +66,7 @@ nonzero n = record { stop = false; cause = cause_if (eqb n 0) invalid_command }
 abbrev pub moving : MoveModeEnum → ℕ → Checks
 moving mode rate = record { stop = is_stop mode; cause = (nonzero rate).cause }
 
--- Stop mode, and the cause that the command's own numbers give, or 0
+-- Stop mode, and the cause that the command's own numbers give
 abbrev pub checks : Command → Checks
 checks (Command.MoveToHue hue direction time) = constrained (ltb hue_limit hue)
 checks (Command.MoveHue mode rate enhanced) = moving mode rate
@@ -114,10 +112,10 @@ stored hue = hue * 256
 abbrev pub ms : ℕ → ℕ
 ms tenths = tenths * 100
 
-abbrev pub hue_task : ℤ → TargetSaturation → ℕ → Bool → Task
+abbrev pub hue_task : ℤ → Option ℕ → ℕ → Bool → Task
 hue_task way saturation tenths enhanced =
     Task.HueSaturationMoveTo (record {
-      delta = HueDelta.By way;
+      delta = Some way;
       saturation = saturation;
       ms = ms tenths;
       enhanced = enhanced;
@@ -125,7 +123,7 @@ hue_task way saturation tenths enhanced =
 
 -- a move to a hue. Document 02, A.6: "All move-to-hue commands, those with saturation too, pass a set mark on: notice
 -- 18 follows 17"
-abbrev pub giving_hue : Lamp → ℕ → DirectionEnum → TargetSaturation → ℕ → Bool → CommandEffect
+abbrev pub giving_hue : Lamp → ℕ → DirectionEnum → Option ℕ → ℕ → Bool → CommandEffect
 giving_hue l target direction saturation tenths enhanced =
     giving_with l (hue_task (path_delta l.color.hue target direction) saturation tenths enhanced)
     (only (is_tie l.color.hue target direction) hue_tie)
@@ -133,8 +131,8 @@ giving_hue l target direction saturation tenths enhanced =
 abbrev pub saturation_task : ℕ → ℕ → Task
 saturation_task saturation tenths =
     Task.HueSaturationMoveTo (record {
-      delta = HueDelta.Keep;
-      saturation = TargetSaturation.To saturation;
+      delta = None;
+      saturation = Some saturation;
       ms = ms tenths;
       enhanced = false;
     })
@@ -211,9 +209,9 @@ deactivated l reported =
           reported ++ (task_given ∷ ColorLoopActive ∷ [])
           ++ hue_reported l.color l.looping.stored true true l.clock false
           ++ (device_hue_saturation ∷ []);
-      task = GivenTask.Given Task.Stop;
+      task = Some Task.Stop;
     })
-    (record { lamp = l; reported = reported; task = GivenTask.Nothing })
+    (record { lamp = l; reported = reported; task = None })
 
 -- on: the hue is stored, unless the loop is active already, the first hue is set, and the loop's task is given
 unfoldable pub activated : Lamp → List ℕ → ℕ → CommandEffect
@@ -227,7 +225,7 @@ activated l reported seed =
           ++ hue_reported l.color seed true true l.clock true
           ++ (device_hue_saturation ∷ task_given ∷ []);
       task =
-          GivenTask.Given (Task.ColorLoop (record { direction = l.looping.direction; seconds = l.looping.time }));
+          Some (Task.ColorLoop (record { direction = l.looping.direction; seconds = l.looping.time }));
     }
 
 abbrev pub acted : Lamp → List ℕ → ColorLoopActionEnum → CommandEffect
@@ -239,30 +237,30 @@ unfoldable pub loop_set : Lamp → ℕ → ColorLoopActionEnum → ColorLoopDire
 loop_set l flags action direction time start_hue =
     let changed : Lamp = with_loop l l.color (updated l.looping flags direction time start_hue) in
     cond (has_flag flags update_action) (acted changed (updated_reported flags) action)
-    (record { lamp = changed; reported = updated_reported flags; task = GivenTask.Nothing })
+    (record { lamp = changed; reported = updated_reported flags; task = None })
 
 -- ---- a command that may execute, in no Stop mode
 
 unfoldable pub command_effect : Lamp → Command → CommandEffect
 command_effect l (Command.MoveToHue hue direction time) =
-    giving_hue l (stored hue) direction TargetSaturation.Keep time false
+    giving_hue l (stored hue) direction None time false
 command_effect l (Command.MoveHue mode rate enhanced) =
     giving l (hue_move_task mode (cond enhanced rate (stored rate)) enhanced)
 command_effect l (Command.StepHue mode size time) =
-    giving l (hue_task (step_delta mode (stored size)) TargetSaturation.Keep time false)
+    giving l (hue_task (step_delta mode (stored size)) None time false)
 command_effect l (Command.MoveToSaturation saturation time) = giving l (saturation_task saturation time)
 command_effect l (Command.MoveSaturation mode rate) =
     giving l (Task.SaturationMove (record { direction = mode; rate = rate }))
 command_effect l (Command.StepSaturation mode size time) =
     giving l (saturation_task (saturation_step mode l.color.saturation size) time)
 command_effect l (Command.MoveToHueAndSaturation hue saturation time enhanced enhanced_hue) =
-    giving_hue l (cond enhanced enhanced_hue (stored hue)) DirectionEnum.Shortest (TargetSaturation.To saturation) time
+    giving_hue l (cond enhanced enhanced_hue (stored hue)) DirectionEnum.Shortest (Some saturation) time
     enhanced
 command_effect l (Command.EnhancedMoveToHue hue direction time) =
-    giving_hue l hue direction TargetSaturation.Keep time true
+    giving_hue l hue direction None time true
 command_effect l (Command.EnhancedMoveHue mode rate) = giving l (hue_move_task mode rate true)
 command_effect l (Command.EnhancedStepHue mode size time) =
-    giving l (hue_task (step_delta mode size) TargetSaturation.Keep time true)
+    giving l (hue_task (step_delta mode size) None time true)
 command_effect l (Command.MoveToColorTemperature mireds time) =
     giving l (temperature_task (clamp l.bounds.min l.bounds.max (pos mireds)) time)
 command_effect l (Command.MoveColorTemperature mode rate min max) =

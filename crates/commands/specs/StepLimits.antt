@@ -1,5 +1,6 @@
 -- Document 02, A.12: the limits of a mired step, as statements about its whole answer. lo and hi are document 01's.
-use Rattle.std.specs.Prelude.{ℕ, ◌≤◌, ◌<◌, cond, ◌≡◌, eqb, pos, ◌+ℤ◌}
+use Rattle.matter.specs.Causes.{invalid_command}
+use Rattle.std.specs.Prelude.{ℕ, ◌≤◌, ◌<◌, cond, ◌≡◌, eqb, pos, ◌+ℤ◌, is_ok}
 use Rattle.matter.specs.declared.commands.Command.{Command}
 use Rattle.matter.specs.declared.commands.CommandOptions.{CommandOptions}
 use Rattle.matter.specs.declared.enums.OnOff.{OnOff}
@@ -26,7 +27,7 @@ module _ (l : Lamp) (mode : StepModeEnum) (size time : ℕ) (o : CommandOptions)
   stepped_within low high =
       let at : Lamp = at_clock l clock in
       let target : ℕ = clamp low high (pos l.color.mireds +ℤ step_delta mode size) in
-      choose (cond (eqb (first_cause l clock) 0) (cause_if (eqb size 0) 2) (first_cause l clock)) l
+      choose (cond (is_ok (first_cause l clock)) (cause_if (eqb size 0) invalid_command) (first_cause l clock)) l
       (command_accepted
       (cond (may_execute on_off l.options o.mask o.overrides) (giving at (temperature_task target time))
       (skip at)))

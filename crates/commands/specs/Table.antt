@@ -3,6 +3,7 @@
 -- that no two of them meet and none is left out. 1 and 2 are as `checks` has them (`fields-agree` and
 -- `invalid-agree` in `conformance`). And: no number is above 8; no answer uses more than 14 of its sixteen places, the
 -- rest being 0.
+use Rattle.matter.specs.Causes.{number_of}
 use Rattle.std.specs.Prelude.{ℕ, ◌≤◌, true, false, List, ◌≡◌, length}
 use Rattle.matter.specs.declared.commands.Command.{Command}
 use Rattle.matter.specs.declared.commands.Request.{Request}
@@ -23,32 +24,32 @@ use Rattle.commands.specs.Answers.{cause, answer}
 
 -- steps 8, 7, 4; a step of a valid running lamp with a good clock is never refused
 pub record StepCauses (l : Lamp) (clock : ℕ) : Type 0 where
-  pub step-8 : lamp_valid l ≡ false → cause l (Call.Step clock) ≡ 8
-  pub step-7 : lamp_valid l ≡ true → runs l.running ≡ false → cause l (Call.Step clock) ≡ 7
-  pub step-4 : lamp_valid l ≡ true → runs l.running ≡ true → bad_clock l clock ≡ true → cause l (Call.Step clock) ≡ 4
-  pub step-0 : lamp_valid l ≡ true → runs l.running ≡ true → bad_clock l clock ≡ false → cause l (Call.Step clock) ≡ 0
+  pub step-8 : lamp_valid l ≡ false → number_of (cause l (Call.Step clock)) ≡ 8
+  pub step-7 : lamp_valid l ≡ true → runs l.running ≡ false → number_of (cause l (Call.Step clock)) ≡ 7
+  pub step-4 : lamp_valid l ≡ true → runs l.running ≡ true → bad_clock l clock ≡ true → number_of (cause l (Call.Step clock)) ≡ 4
+  pub step-0 : lamp_valid l ≡ true → runs l.running ≡ true → bad_clock l clock ≡ false → number_of (cause l (Call.Step clock)) ≡ 0
 
 -- halts 8, 4
 pub record HaltCauses (l : Lamp) (clock : ℕ) : Type 0 where
-  pub halt-8 : lamp_valid l ≡ false → cause l (Call.Halt clock) ≡ 8
-  pub halt-4 : lamp_valid l ≡ true → bad_clock l clock ≡ true → cause l (Call.Halt clock) ≡ 4
-  pub halt-0 : lamp_valid l ≡ true → bad_clock l clock ≡ false → cause l (Call.Halt clock) ≡ 0
+  pub halt-8 : lamp_valid l ≡ false → number_of (cause l (Call.Halt clock)) ≡ 8
+  pub halt-4 : lamp_valid l ≡ true → bad_clock l clock ≡ true → number_of (cause l (Call.Halt clock)) ≡ 4
+  pub halt-0 : lamp_valid l ≡ true → bad_clock l clock ≡ false → number_of (cause l (Call.Halt clock)) ≡ 0
 
 -- starts 8, 4, 6
 pub record StartCauses (l : Lamp) (clock : ℕ) (task : Task) : Type 0 where
-  pub start-8 : lamp_valid l ≡ false → cause l (Call.Start task clock) ≡ 8
-  pub start-4 : lamp_valid l ≡ true → bad_clock l clock ≡ true → cause l (Call.Start task clock) ≡ 4
+  pub start-8 : lamp_valid l ≡ false → number_of (cause l (Call.Start task clock)) ≡ 8
+  pub start-4 : lamp_valid l ≡ true → bad_clock l clock ≡ true → number_of (cause l (Call.Start task clock)) ≡ 4
   pub start-6 : lamp_valid l ≡ true → bad_clock l clock ≡ false → task_valid task ≡ false →
-      cause l (Call.Start task clock) ≡ 6
+      number_of (cause l (Call.Start task clock)) ≡ 6
   pub start-0 : lamp_valid l ≡ true → bad_clock l clock ≡ false → task_valid task ≡ true →
-      cause l (Call.Start task clock) ≡ 0
+      number_of (cause l (Call.Start task clock)) ≡ 0
 
 -- commands 8, 4, Stop mode, the command's own numbers (1 or 2, or no cause), on or off
 pub record CommandCauses (l : Lamp) (clock : ℕ) (r : Request) (on_off : OnOff) : Type 0 where
-  pub command-8 : lamp_valid l ≡ false → cause l (Call.Command r on_off clock) ≡ 8
-  pub command-4 : lamp_valid l ≡ true → bad_clock l clock ≡ true → cause l (Call.Command r on_off clock) ≡ 4
+  pub command-8 : lamp_valid l ≡ false → number_of (cause l (Call.Command r on_off clock)) ≡ 8
+  pub command-4 : lamp_valid l ≡ true → bad_clock l clock ≡ true → number_of (cause l (Call.Command r on_off clock)) ≡ 4
   pub command-stop : lamp_valid l ≡ true → bad_clock l clock ≡ false → (checks r.command).stop ≡ true →
-      cause l (Call.Command r on_off clock) ≡ 0
+      number_of (cause l (Call.Command r on_off clock)) ≡ 0
   pub command-own : lamp_valid l ≡ true → bad_clock l clock ≡ false → (checks r.command).stop ≡ false →
       cause l (Call.Command r on_off clock) ≡ (checks r.command).cause
 
@@ -64,9 +65,9 @@ pub record TableOfCauses : Type 0 where
   pub starts : (l : Lamp) (clock : ℕ) (task : Task) → StartCauses l clock task
   pub commands : (l : Lamp) (clock : ℕ) (r : Request) (on_off : OnOff) → CommandCauses l clock r on_off
   -- a command's own numbers give 1, 2 or no cause
-  pub own : (c : Command) → (checks c).cause ≤ 2
-  pub most : (l : Lamp) (x : Call) → cause l x ≤ 8
+  pub own : (c : Command) → number_of (checks c).cause ≤ 2
+  pub most : (l : Lamp) (x : Call) → number_of (cause l x) ≤ 8
   -- document 02, A.12: "Number 3 no longer occurs"
-  pub no-3 : (l : Lamp) (x : Call) → (answer l x).number ≡ 3 → ⊥
-  pub making-no-3 : (bounds : Bounds) (clock : ℕ) → making_cause bounds clock ≡ 3 → ⊥
+  pub no-3 : (l : Lamp) (x : Call) → number_of (answer l x).verdict ≡ 3 → ⊥
+  pub making-no-3 : (bounds : Bounds) (clock : ℕ) → number_of (making_cause bounds clock) ≡ 3 → ⊥
   pub few : (l : Lamp) (x : Call) → Few (answer l x)

@@ -1,8 +1,8 @@
 -- Document 02, A.6: where notice 18 is reported, as statements about every call.
-use Rattle.std.specs.Prelude.{ℕ, Bool, true, false, cond, ◌&&◌, ◌∷◌, ◌≡◌, eqb, get_or}
+use Rattle.std.specs.Prelude.{ℕ, Bool, true, false, cond, ◌&&◌, ◌∷◌, ◌≡◌, get_or}
 use Rattle.matter.specs.declared.commands.Command.{Command}
 use Rattle.matter.specs.declared.enums.DirectionEnum.{DirectionEnum}
-use Rattle.matter.specs.Causes.{accepted}
+use Rattle.std.specs.Prelude.{is_ok}
 use Rattle.notices.specs.Names.{task_given, hue_tie}
 use Rattle.notices.specs.Notices.{only, noted}
 use Rattle.hue.specs.Hue.{is_tie}
@@ -38,7 +38,7 @@ aim_of Command.StopMoveStep = nowhere
 -- the aim of a command that is accepted and may execute; no other call has one
 abbrev pub aim : Lamp → Call → Aim
 aim l (Call.Command r on_off clock) =
-    cond (eqb (cause l (Call.Command r on_off clock)) accepted && allowed l r on_off) (aim_of r.command) nowhere
+    cond (is_ok (cause l (Call.Command r on_off clock)) && allowed l r on_off) (aim_of r.command) nowhere
 aim l (Call.Start task clock) = nowhere
 aim l (Call.Step clock) = nowhere
 aim l (Call.Halt clock) = nowhere

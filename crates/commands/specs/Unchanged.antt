@@ -1,8 +1,9 @@
 -- What a call leaves as it was, for every lamp; a refusal and an accepted halt, written out.
+use Rattle.matter.specs.Causes.{accepted, Verdict}
+use Rattle.std.specs.Prelude.{None}
 use Rattle.std.specs.Prelude.{ℕ, Bool, true, false, [], ◌∷◌, ◌≡◌}
 use Rattle.matter.specs.declared.commands.Request.{Request}
 use Rattle.matter.specs.declared.enums.OnOff.{OnOff}
-use Rattle.tasks.specs.declared.GivenTask.{GivenTask}
 use Rattle.tasks.specs.declared.Running.{Running}
 use Rattle.tasks.specs.declared.Task.{Task}
 use Rattle.lamp.specs.declared.Answer.{Answer}
@@ -11,13 +12,13 @@ use Rattle.lamp.specs.declared.Call.{Call}
 use Rattle.commands.specs.Answers.{cause, answer}
 
 -- an answer without notices, task and wait
-abbrev pub bare : ℕ → Lamp → Answer
-bare number l =
+abbrev pub bare : Verdict → Lamp → Answer
+bare verdict l =
     record {
-      number = number;
+      verdict = verdict;
       lamp = l;
       notices = record { places = 0 ∷ 0 ∷ 0 ∷ 0 ∷ 0 ∷ 0 ∷ 0 ∷ 0 ∷ 0 ∷ 0 ∷ 0 ∷ 0 ∷ 0 ∷ 0 ∷ 0 ∷ 0 ∷ []; len = 0 };
-      task = GivenTask.Nothing;
+      task = None;
       wait = 0;
     }
 
@@ -42,11 +43,11 @@ moves_to (Running.ColorLoop direction hue seconds start) = false
 
 pub record Unchanged (l : Lamp) : Type 0 where
   -- "the lamp is then what it was and the notice list is empty"; "A refusal has no task and wait 0"
-  pub refusal : (x : Call) → (cause l x ≡ 0 → ⊥) → answer l x ≡ bare (cause l x) l
+  pub refusal : (x : Call) → (cause l x ≡ accepted → ⊥) → answer l x ≡ bare (cause l x) l
   -- "halt, which only makes the lamp idle"
-  pub halting : (clock : ℕ) → cause l (Call.Halt clock) ≡ 0 →
+  pub halting : (clock : ℕ) → cause l (Call.Halt clock) ≡ accepted →
       answer l (Call.Halt clock)
-      ≡ bare 0
+      ≡ bare accepted
       (record {
         clock = clock;
         bounds = l.bounds;
@@ -57,8 +58,8 @@ pub record Unchanged (l : Lamp) : Type 0 where
         running = Running.Idle;
       })
   -- a task is a command's to give
-  pub start-task : (task : Task) (clock : ℕ) → (answer l (Call.Start task clock)).task ≡ GivenTask.Nothing
-  pub step-task : (clock : ℕ) → (answer l (Call.Step clock)).task ≡ GivenTask.Nothing
+  pub start-task : (task : Task) (clock : ℕ) → (answer l (Call.Start task clock)).task ≡ None
+  pub step-task : (clock : ℕ) → (answer l (Call.Step clock)).task ≡ None
   -- no call changes bounds or options
   pub bounds : (x : Call) → (answer l x).lamp.bounds ≡ l.bounds
   pub options : (x : Call) → (answer l x).lamp.options ≡ l.options

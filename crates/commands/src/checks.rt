@@ -1,24 +1,27 @@
 // What is checked of a command by itself, in one row each: Stop mode, and its own numbers.
 ghost use Rattle.std.specs.Prelude.{◌≡◌};
-ghost use Rattle.commands.specs.Commands.{is_stop, constrained, nonzero, moving, checks};
+ghost use Rattle.commands.specs.Commands.{is_stop, cause_if, constrained, nonzero, moving, checks};
 
-use matter::{ACCEPTED, CONSTRAINT_ERROR, Command, INVALID_COMMAND, MoveModeEnum};
+use matter::{Command, MoveModeEnum, Refusal};
 
-// Whether it is a move in Stop mode, and the cause that its numbers give, or 0.
-#[derive(Clone, Copy)]
+// Whether it is a move in Stop mode, and the cause that its numbers give.
+#[derive(Clone, Copy, Debug, PartialEq, Eq)]
 pub struct Checks {
     pub stop: bool,
-    pub cause: u8,
+    pub cause: Result<(), Refusal>,
 }
 
 fn is_stop(mode: MoveModeEnum) -> bool
     ensures { result ≡ is_stop mode }
 {
-    match mode {
-        MoveModeEnum::Stop => true,
-        MoveModeEnum::Up => false,
-        MoveModeEnum::Down => false,
-    }
+    matches!(mode, MoveModeEnum::Stop)
+}
+
+// A cause where the test holds.
+fn cause_if(test: bool, cause: Refusal) -> Result<(), Refusal>
+    ensures { result ≡ cause_if test (Err cause) }
+{
+    if test { Err(cause) } else { Ok(()) }
 }
 
 // A number out of its range.
@@ -27,7 +30,7 @@ fn constrained(bad: bool) -> Checks
 {
     Checks {
         stop: false,
-        cause: if bad { CONSTRAINT_ERROR } else { ACCEPTED },
+        cause: cause_if(bad, Refusal::ConstraintError),
     }
 }
 
@@ -37,17 +40,16 @@ fn nonzero(n: u16) -> Checks
 {
     Checks {
         stop: false,
-        cause: if n == 0 { INVALID_COMMAND } else { ACCEPTED },
+        cause: cause_if(n == 0, Refusal::InvalidCommand),
     }
 }
 
 fn moving(mode: MoveModeEnum, rate: u16) -> Checks
     ensures { result ≡ moving mode rate }
 {
-    let rated = nonzero(rate);
     Checks {
         stop: is_stop(mode),
-        cause: rated.cause,
+        cause: nonzero(rate).cause,
     }
 }
 

@@ -13,7 +13,7 @@ use crate::with_options;
 use hue::hue_path_delta;
 use lamp::{Answer, Lamp};
 use matter::{Command, DirectionEnum, MoveModeEnum, OnOff, StepModeEnum};
-use tasks::{HueDelta, HueMove, HueSaturationMoveTo, TargetSaturation, Task};
+use tasks::{HueMove, HueSaturationMoveTo, Task};
 
 // A plain hue, or a plain step of it, on the stored circle.
 pub(crate) fn stored_hue(hue: u8) -> u16
@@ -48,14 +48,14 @@ fn by_delta(
     lamp: Lamp,
     delta: i64,
     is_tie: bool,
-    saturation: TargetSaturation,
+    saturation: Option<u8>,
     tenths: u16,
     enhanced: bool,
 ) -> Outcome
     ensures { result ≡ accepted_outcome (giving_with lamp (hue_task delta saturation tenths enhanced) (only is_tie hue_tie)) }
 {
     let task = HueSaturationMoveTo {
-        delta: HueDelta::By(delta),
+        delta: Some(delta),
         saturation: saturation,
         ms: (tenths as u32) * 100,
         enhanced: enhanced,
@@ -68,7 +68,7 @@ pub(crate) fn to_hue(
     lamp: Lamp,
     hue: u16,
     direction: DirectionEnum,
-    saturation: TargetSaturation,
+    saturation: Option<u8>,
     tenths: u16,
     enhanced: bool,
 ) -> Outcome
@@ -87,16 +87,9 @@ pub(crate) fn to_hue(
 
 // A move to a plain hue.
 pub(crate) fn to_plain_hue(lamp: Lamp, hue: u8, direction: DirectionEnum, tenths: u16) -> Outcome
-    ensures { result ≡ accepted_outcome (giving_hue lamp (stored hue) direction TargetSaturation.Keep tenths false) }
+    ensures { result ≡ accepted_outcome (giving_hue lamp (stored hue) direction None tenths false) }
 {
-    to_hue(
-        lamp,
-        stored_hue(hue),
-        direction,
-        TargetSaturation::Keep,
-        tenths,
-        false,
-    )
+    to_hue(lamp, stored_hue(hue), direction, None, tenths, false)
 }
 
 // The hue that a command with both means: the enhanced one, or the plain one on the stored circle.
@@ -119,14 +112,14 @@ pub(crate) fn to_both(
     is_enhanced: bool,
     enhanced_hue: u16,
 ) -> Outcome
-    ensures { result ≡ accepted_outcome (giving_hue lamp (cond is_enhanced enhanced_hue (stored hue)) DirectionEnum.Shortest (TargetSaturation.To saturation) tenths is_enhanced) }
+    ensures { result ≡ accepted_outcome (giving_hue lamp (cond is_enhanced enhanced_hue (stored hue)) DirectionEnum.Shortest (Some saturation) tenths is_enhanced) }
 {
     let target = target_hue(hue, is_enhanced, enhanced_hue);
     to_hue(
         lamp,
         target,
         DirectionEnum::Shortest,
-        TargetSaturation::To(saturation),
+        Some(saturation),
         tenths,
         is_enhanced,
     )
@@ -140,16 +133,9 @@ pub(crate) fn step_hue(
     tenths: u16,
     enhanced: bool,
 ) -> Outcome
-    ensures { result ≡ accepted_outcome (giving lamp (hue_task (step_delta mode size) TargetSaturation.Keep tenths enhanced)) }
+    ensures { result ≡ accepted_outcome (giving lamp (hue_task (step_delta mode size) None tenths enhanced)) }
 {
-    by_delta(
-        lamp,
-        step_delta(mode, size),
-        false,
-        TargetSaturation::Keep,
-        tenths,
-        enhanced,
-    )
+    by_delta(lamp, step_delta(mode, size), false, None, tenths, enhanced)
 }
 
 // A move of the hue at a rate in enhanced units.

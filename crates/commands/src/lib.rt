@@ -10,7 +10,7 @@ mod outcomes;
 mod saturations;
 mod temperatures;
 
-ghost use Rattle.std.specs.Prelude.{◌≡◌, cond, eqb};
+ghost use Rattle.std.specs.Prelude.{◌≡◌};
 ghost use Rattle.matter.specs.Requests.{request, options};
 ghost use Rattle.lamp.specs.Answers.{at_clock};
 ghost use Rattle.commands.specs.Commands.{command_effect};
@@ -26,11 +26,11 @@ use hues::{enhanced_rate, move_hue, step_hue, stored_hue, to_both, to_hue, to_pl
 use lamp::{Answer, Call, Lamp};
 pub use loops::cmd_color_loop_set;
 use loops::set_loop;
-use matter::{ACCEPTED, Command, CommandOptions, OnOff, Request, should_continue};
-use outcomes::{Outcome, given, refused, skipped};
+use matter::{Command, CommandOptions, OnOff, Refusal, Request, should_continue};
+use outcomes::{Outcome, given, skipped};
 pub use saturations::{cmd_move_saturation, cmd_move_to_saturation, cmd_step_saturation};
 use saturations::{move_saturation, step_saturation, to_saturation};
-use tasks::{TargetSaturation, Task};
+use tasks::Task;
 pub use temperatures::{
     cmd_move_color_temperature, cmd_move_to_color_temperature, cmd_step_color_temperature,
 };
@@ -69,7 +69,7 @@ fn execute(lamp: Lamp, command: Command, clock: u64) -> Outcome
             hue,
             direction,
             time,
-        } => to_hue(lamp, hue, direction, TargetSaturation::Keep, time, true),
+        } => to_hue(lamp, hue, direction, None, time, true),
         Command::EnhancedMoveHue { mode, rate } => move_hue(lamp, mode, rate as u32, true),
         Command::EnhancedStepHue { mode, size, time } => step_hue(lamp, mode, size, time, true),
         Command::MoveToColorTemperature { mireds, time } => to_mireds(lamp, mireds, time),
@@ -99,55 +99,41 @@ fn execute(lamp: Lamp, command: Command, clock: u64) -> Outcome
 
 // A command's checks in their order: 8 and 4, Stop mode, its own numbers, off.
 #[tactic(auto, unfolding(crate::specs::Outcomes::outcome_of, crate::specs::Answers::command_cause))]
-fn outcome(lamp: Lamp, request: Request, on_off: OnOff, clock: u64) -> Outcome
+fn outcome(lamp: Lamp, request: Request, on_off: OnOff, clock: u64) -> Result<Outcome, Refusal>
     ensures { result ≡ outcome_of lamp request on_off clock }
 {
-    let cause = lamp.first_cause(clock);
-    if cause != ACCEPTED {
-        return refused(lamp, cause);
-    }
+    lamp.first_cause(clock)?;
     let command = request.command;
     let checks = checks_of(command);
     if checks.stop {
-        return given(lamp, Task::Stop);
+        return Ok(given(lamp, Task::Stop));
     }
-    if checks.cause != ACCEPTED {
-        return refused(lamp, checks.cause);
-    }
+    checks.cause?;
     let options = request.options;
     if !should_continue(on_off, lamp.options, options.mask, options.overrides) {
-        return skipped(lamp);
+        return Ok(skipped(lamp));
     }
-    execute(lamp, command, clock)
-}
-
-// The clock after a call: a refused one leaves it as it was.
-fn clock_after(number: u8, before: u64, clock: u64) -> u64
-    ensures { result ≡ cond (eqb number 0) clock before }
-{
-    if number == ACCEPTED { clock } else { before }
+    Ok(execute(lamp, command, clock))
 }
 
 // Any command, with its options, the on/off input and the clock.
 pub fn invoke(lamp: Lamp, request: Request, on_off: OnOff, clock: u64) -> Answer
     ensures { result ≡ command_answer lamp request on_off clock }
 {
-    let o = outcome(lamp, request, on_off, clock);
-    let color = o.color;
-    let looping = o.looping;
-    let reported = o.reported;
-    let task = o.task;
-    Answer {
-        number: o.number,
-        lamp: Lamp {
-            clock: clock_after(o.number, lamp.clock, clock),
-            color: color,
-            looping: looping,
-            ..lamp
+    match outcome(lamp, request, on_off, clock) {
+        Ok(done) => Answer {
+            verdict: Ok(()),
+            lamp: Lamp {
+                clock,
+                color: done.color,
+                looping: done.looping,
+                ..lamp
+            },
+            notices: done.reported.notices(),
+            task: done.task,
+            wait: 0,
         },
-        notices: reported.notices(),
-        task: task,
-        wait: 0,
+        Err(refusal) => lamp.refused(refusal),
     }
 }
 

@@ -10,25 +10,17 @@ ghost use Rattle.commands.specs.Outcomes.{accepted_outcome};
 
 use crate::outcomes::{Outcome, skipped};
 use crate::with_options;
+use color::cons_change;
 use lamp::{Answer, Lamp, LoopSettings};
 use matter::{
-    ACCEPTED, ColorLoopActionEnum, ColorLoopDirectionEnum, Command, OnOff, UPDATE_ACTION,
-    UPDATE_DIRECTION, UPDATE_START_HUE, UPDATE_TIME, contains,
+    ColorLoopActionEnum, ColorLoopDirectionEnum, Command, OnOff, UPDATE_ACTION, UPDATE_DIRECTION,
+    UPDATE_START_HUE, UPDATE_TIME, contains,
 };
-use notices::Numeral;
-use tasks::{ColorLoop, GivenTask, Task};
+use notices::{Notice, Numeral};
+use tasks::{ColorLoop, Task};
 
-fn word_if(test: bool, new: u16, old: u16) -> u16
-    ensures { result ≡ cond test new old }
-{
-    if test { new } else { old }
-}
-
-fn direction_if(
-    test: bool,
-    new: ColorLoopDirectionEnum,
-    old: ColorLoopDirectionEnum,
-) -> ColorLoopDirectionEnum
+// The one or the other.
+fn choice<T: Copy>(test: bool, new: T, old: T) -> T
     ensures { result ≡ cond test new old }
 {
     if test { new } else { old }
@@ -45,11 +37,10 @@ fn updated_settings(
     ensures { result ≡ updated s flags direction time start_hue }
 {
     let bits = flags as u32;
-    let old = s.direction;
     LoopSettings {
-        direction: direction_if(contains(bits, UPDATE_DIRECTION), direction, old),
-        time: word_if(contains(bits, UPDATE_TIME), time, s.time),
-        start: word_if(contains(bits, UPDATE_START_HUE), start_hue, s.start),
+        direction: choice(contains(bits, UPDATE_DIRECTION), direction, s.direction),
+        time: choice(contains(bits, UPDATE_TIME), time, s.time),
+        start: choice(contains(bits, UPDATE_START_HUE), start_hue, s.start),
         ..s
     }
 }
@@ -59,16 +50,13 @@ fn cons_updated(list: Numeral, flags: u8) -> Numeral
     ensures { result ≡ in_front (updated_reported flags) list }
 {
     let bits = flags as u32;
-    list.cons(notices::MARKED_DIRTY)
-        .cons_if(
+    list.note(Notice::MarkedDirty)
+        .note_if(
             contains(bits, UPDATE_START_HUE),
-            notices::COLOR_LOOP_START_ENHANCED_HUE,
+            Notice::ColorLoopStartEnhancedHue,
         )
-        .cons_if(contains(bits, UPDATE_TIME), notices::COLOR_LOOP_TIME)
-        .cons_if(
-            contains(bits, UPDATE_DIRECTION),
-            notices::COLOR_LOOP_DIRECTION,
-        )
+        .note_if(contains(bits, UPDATE_TIME), Notice::ColorLoopTime)
+        .note_if(contains(bits, UPDATE_DIRECTION), Notice::ColorLoopDirection)
 }
 
 // Off: where the loop is active, the stored hue comes back and the Stop task is given.
@@ -84,19 +72,17 @@ fn deactivate(lamp: Lamp) -> Outcome
     let set = color.set_hue(lamp.looping.stored, true, true, lamp.clock);
     let next = set.color;
     let change = set.change;
-    let device = Numeral::new().cons(notices::DEVICE_HUE_SATURATION);
+    let device = Numeral::new().note(Notice::DeviceHueSaturation);
     Outcome {
-        number: ACCEPTED,
         color: next,
         looping: LoopSettings {
             active: false,
             ..old
         },
-        reported: change
-            .cons(device, false)
-            .cons(notices::COLOR_LOOP_ACTIVE)
-            .cons(notices::TASK_GIVEN),
-        task: GivenTask::Given(Task::Stop),
+        reported: cons_change(change, device, false)
+            .note(Notice::ColorLoopActive)
+            .note(Notice::TaskGiven),
+        task: Some(Task::Stop),
     }
 }
 
@@ -112,23 +98,21 @@ fn activate(lamp: Lamp, seed: u16) -> Outcome
     let next = set.color;
     let change = set.change;
     let given = Numeral::new()
-        .cons(notices::TASK_GIVEN)
-        .cons(notices::DEVICE_HUE_SATURATION);
-    let stored = word_if(active, old.stored, lamp.color.hue);
+        .note(Notice::TaskGiven)
+        .note(Notice::DeviceHueSaturation);
+    let stored = choice(active, old.stored, lamp.color.hue);
     let direction = old.direction;
     Outcome {
-        number: ACCEPTED,
         color: next,
         looping: LoopSettings {
             active: true,
             stored: stored,
             ..old
         },
-        reported: change
-            .cons(given, true)
-            .cons_if(!active, notices::COLOR_LOOP_ACTIVE)
-            .cons_if(!active, notices::COLOR_LOOP_STORED_ENHANCED_HUE),
-        task: GivenTask::Given(Task::ColorLoop(ColorLoop {
+        reported: cons_change(change, given, true)
+            .note_if(!active, Notice::ColorLoopActive)
+            .note_if(!active, Notice::ColorLoopStoredEnhancedHue),
+        task: Some(Task::ColorLoop(ColorLoop {
             direction: direction,
             seconds: old.time,
         })),

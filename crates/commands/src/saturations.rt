@@ -11,7 +11,7 @@ use crate::outcomes::{Outcome, given};
 use crate::with_options;
 use lamp::{Answer, Lamp};
 use matter::{Command, MoveModeEnum, OnOff, StepModeEnum};
-use tasks::{HueDelta, HueSaturationMoveTo, SaturationMove, TargetSaturation, Task};
+use tasks::{HueSaturationMoveTo, SaturationMove, Task};
 
 fn saturation_step(mode: StepModeEnum, now: u8, size: u8) -> u8
     ensures { result ≡ saturation_step mode now size }
@@ -30,8 +30,8 @@ pub(crate) fn to_saturation(lamp: Lamp, saturation: u8, tenths: u16) -> Outcome
     ensures { result ≡ accepted_outcome (giving lamp (saturation_task saturation tenths)) }
 {
     let task = HueSaturationMoveTo {
-        delta: HueDelta::Keep,
-        saturation: TargetSaturation::To(saturation),
+        delta: None,
+        saturation: Some(saturation),
         ms: (tenths as u32) * 100,
         enhanced: false,
     };

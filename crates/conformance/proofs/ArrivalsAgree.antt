@@ -1,5 +1,6 @@
 -- A transition from an accepted start on: it begins with the numbers that the lamp had, goes its way, and from its time
 -- on is there, by what a lamp shows (ShownAgrees). Between its ends it is compared in TransitionAgrees.
+use Rattle.std.specs.Prelude.{Option, Some, None}
 use Prim.Native.Nat.{ℕ, suc, ◌+◌, ◌-◌, ◌<◌}
 use mathlib.Core.Path.{◌≡◌, ap, ◌∙◌}
 use native.Mathlib.Omega.{arith}
@@ -12,9 +13,7 @@ use Rattle.progress.proofs.Laws.{permille-most, part-within}
 use Rattle.progress.specs.Progress.{permille_of, part_of}
 use Rattle.color.specs.declared.Color.{Color}
 use Rattle.tasks.specs.declared.ColorTemperatureMoveTo.{ColorTemperatureMoveTo}
-use Rattle.tasks.specs.declared.HueDelta.{HueDelta}
 use Rattle.tasks.specs.declared.HueSaturationMoveTo.{HueSaturationMoveTo}
-use Rattle.tasks.specs.declared.TargetSaturation.{TargetSaturation}
 use Rattle.tasks.specs.declared.Task.{Task}
 use Rattle.lamp.specs.declared.Lamp.{Lamp}
 use Rattle.conformance.specs.Started.{Ran, Lasts}
@@ -25,13 +24,13 @@ use Rattle.conformance.specs.Transition.{on_line}
 use Rattle.conformance.proofs.TransitionAgrees.{gone, gone-first, transition-end, circle-agrees, way-ends, line-agrees, line-arrives}
 
 -- what becomes of the hue, of the saturation, and of all three
-abbrev pub HueGoes : HueDelta → ℕ → ℕ → ℕ → ℕ → Type 0
-HueGoes HueDelta.Keep time elapsed from now = now ≡ from
-HueGoes (HueDelta.By way) time elapsed from now = Goes-by (sense way) (nat_abs way) time elapsed from now
+abbrev pub HueGoes : Option ℤ → ℕ → ℕ → ℕ → ℕ → Type 0
+HueGoes None time elapsed from now = now ≡ from
+HueGoes (Some way) time elapsed from now = Goes-by (sense way) (nat_abs way) time elapsed from now
 
-abbrev pub SaturationGoes : TargetSaturation → ℕ → ℕ → ℕ → ℕ → Type 0
-SaturationGoes TargetSaturation.Keep time elapsed from now = now ≡ from
-SaturationGoes (TargetSaturation.To target) time elapsed from now = Reaches from target time elapsed now
+abbrev pub SaturationGoes : Option ℕ → ℕ → ℕ → ℕ → ℕ → Type 0
+SaturationGoes None time elapsed from now = now ≡ from
+SaturationGoes (Some target) time elapsed from now = Reaches from target time elapsed now
 
 abbrev pub GoesMoveTo : HueSaturationMoveTo → ℕ → Color → Color → Type 0
 GoesMoveTo task elapsed from now =
@@ -54,10 +53,10 @@ module _ (time elapsed from now : ℕ) where
             ∙ line-arrives from to elapsed time w;
       }
 
-  saturation-goes : (t : TargetSaturation) → SaturationShows t from elapsed time from now →
+  saturation-goes : (t : Option ℕ) → SaturationShows t from elapsed time from now →
       SaturationGoes t time elapsed from now
-  saturation-goes TargetSaturation.Keep e = e
-  saturation-goes (TargetSaturation.To target) e = line-reaches target e
+  saturation-goes None e = e
+  saturation-goes (Some target) e = line-reaches target e
 
   -- a hue on its circle
   on-way : (way : ℤ) → from < 65536 →
@@ -66,9 +65,9 @@ module _ (time elapsed from now : ℕ) where
   on-way (pos n) h = circle-agrees StepModeEnum.Up n elapsed time from h
   on-way (negsuc n) h = circle-agrees StepModeEnum.Down (suc n) elapsed time from h
 
-  hue-goes : (d : HueDelta) → from < 65536 → HueShows d from elapsed time from now → HueGoes d time elapsed from now
-  hue-goes HueDelta.Keep h e = e
-  hue-goes (HueDelta.By way) h e =
+  hue-goes : (d : Option ℤ) → from < 65536 → HueShows d from elapsed time from now → HueGoes d time elapsed from now
+  hue-goes None h e = e
+  hue-goes (Some way) h e =
       record {
         units = gone way elapsed time;
         on = e ∙ on-way way h;

@@ -1,5 +1,6 @@
 -- After ColorLoopSet the attributes are the text's, for every lamp and every field. A loop that turns is not changed
 -- by new attributes, where the text's is.
+use Rattle.std.specs.Prelude.{Option, Some, None}
 use Prim.Native.Nat.{ℕ, ◌/◌, ◌%◌}
 use mathlib.Core.Bool.{Bool, true, false, cond}
 use mathlib.Core.List.{List}
@@ -12,7 +13,6 @@ use Rattle.matter.specs.declared.commands.Command.{Command}
 use Rattle.matter.specs.declared.commands.CommandOptions.{CommandOptions}
 use Rattle.matter.specs.declared.enums.OnOff.{OnOff}
 use Rattle.matter.specs.Flags.{has_flag, update_action}
-use Rattle.tasks.specs.declared.GivenTask.{GivenTask}
 use Rattle.tasks.specs.declared.Task.{Task}
 use Rattle.tasks.specs.declared.ColorLoopRun.{ColorLoopRun}
 use Rattle.tasks.specs.Runs.{loop_running}
@@ -41,8 +41,8 @@ attributes l =
     }
 
 -- the task of a loop that turns so
-abbrev pub loop_task : Turning → GivenTask
-loop_task t = GivenTask.Given (Task.ColorLoop (record { direction = t.direction; seconds = t.seconds }))
+abbrev pub loop_task : Turning → Option Task
+loop_task t = Some (Task.ColorLoop (record { direction = t.direction; seconds = t.seconds }))
 
 module _ (l : Lamp) (reported : List ℕ) where
   deactivated-by : (t : Bool) → l.looping.active ≡ t →
@@ -78,7 +78,7 @@ module _ (l : Lamp) (flags : ℕ) (action : ColorLoopActionEnum) (direction : Co
   changed = with_loop l l.color (updated l.looping flags direction time start_hue)
 
   set-by-flag : (t : Bool) → eqb (flags / 1 % 2) 1 ≡ t →
-      attributes (cond t (acted changed (updated_reported flags) action) (record { lamp = changed; reported = updated_reported flags; task = GivenTask.Nothing })).lamp ≡ cond t (acted_by action (attributes changed)) (attributes changed)
+      attributes (cond t (acted changed (updated_reported flags) action) (record { lamp = changed; reported = updated_reported flags; task = None })).lamp ≡ cond t (acted_by action (attributes changed)) (attributes changed)
   set-by-flag true e = acted-agrees changed (updated_reported flags) action
   set-by-flag false e = refl
 
@@ -100,7 +100,7 @@ module _ (l : Lamp) (flags : ℕ) (action : ColorLoopActionEnum) (direction : Co
 
   module _ (accepted : cause l setting ≡ 0)
       (may_execute : allowed l (request (Command.ColorLoopSet flags action direction time start_hue) options) on_off ≡ true) where
-    set-by : (P : Lamp → GivenTask → Type 0) →
+    set-by : (P : Lamp → Option Task → Type 0) →
         P (loop_set (at_clock l clock) flags action direction time start_hue).lamp
         (loop_set (at_clock l clock) flags action direction time start_hue).task →
         P (answer l setting).lamp (answer l setting).task
@@ -129,9 +129,9 @@ module _ (l : Lamp) (flags : ℕ) (action : ColorLoopActionEnum) (direction : Co
     -- a deactivation of an active loop asks for a stop
     pub loop-task-off : has_flag flags update_action ≡ true → action ≡ ColorLoopActionEnum.Deactivate →
         l.looping.active ≡ true →
-        (answer l setting).task ≡ GivenTask.Given Task.Stop
+        (answer l setting).task ≡ Some Task.Stop
     unfolding loop_set deactivated
-    loop-task-off e a h = set-by (λ m t. t ≡ GivenTask.Given Task.Stop) (rw (a, e, h))
+    loop-task-off e a h = set-by (λ m t. t ≡ Some Task.Stop) (rw (a, e, h))
 
     -- an activation leaves the modes of the enhanced hue, of which the text says nothing here
     pub loop-modes : has_flag flags update_action ≡ true → (action ≡ ColorLoopActionEnum.Deactivate → ⊥) →
@@ -142,9 +142,9 @@ module _ (l : Lamp) (flags : ℕ) (action : ColorLoopActionEnum) (direction : Co
     -- without the action flag nothing is given and what turns turns on as it did, where the text's loop follows the
     -- attributes
     pub loop-not-followed : has_flag flags update_action ≡ false →
-        ((answer l setting).task ≡ GivenTask.Nothing) × ((answer l setting).lamp.running ≡ l.running)
+        ((answer l setting).task ≡ None) × ((answer l setting).lamp.running ≡ l.running)
     unfolding loop_set
-    loop-not-followed e = set-by (λ m t. (t ≡ GivenTask.Nothing) × (m.running ≡ l.running)) (rw e, rw e)
+    loop-not-followed e = set-by (λ m t. (t ≡ None) × (m.running ≡ l.running)) (rw e, rw e)
 
 -- the smallest: flag 2 alone, and another direction
 pub loop-follow-differs : (l : Lamp) (run : ColorLoopRun) (options : CommandOptions) (on_off : OnOff) (clock : ℕ) →

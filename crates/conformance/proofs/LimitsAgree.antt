@@ -1,5 +1,6 @@
 -- The port's bounds of a move or a step of mireds are the text's, a started move runs between them, and a target is brought to
 -- the closest mireds.
+use Rattle.std.specs.Prelude.{Option, Some, None}
 use Prim.Native.Nat.{ℕ, zero, suc, ◌≤◌, ◌<◌}
 use mathlib.Core.Bool.{Bool, true, false, cond, true≢false}
 use mathlib.Core.Path.{◌≡◌, refl, sym, ap, ◌∙◌}
@@ -18,7 +19,6 @@ use Rattle.matter.proofs.Laws.{cond_both}
 use Rattle.progress.specs.Progress.{clamp}
 use Rattle.tasks.specs.declared.ColorTemperatureMove.{ColorTemperatureMove}
 use Rattle.tasks.specs.declared.ColorTemperatureRun.{ColorTemperatureRun}
-use Rattle.tasks.specs.declared.GivenTask.{GivenTask}
 use Rattle.tasks.specs.declared.Task.{Task}
 use Rattle.tasks.specs.Valid.{task_valid}
 use Rattle.lamp.specs.declared.Answer.{Answer}
@@ -90,7 +90,7 @@ NoTwo bounds minimum maximum =
 
 -- the task that a call is answered with
 abbrev pub Answered : Lamp → Call → Task → Type 0
-Answered l x task = (answer l x).task ≡ GivenTask.Given task
+Answered l x task = (answer l x).task ≡ Some task
 
 module _ (l : Lamp) (mode : MoveModeEnum) (rate minimum maximum : ℕ) (options : CommandOptions) (on_off : OnOff)
     (first : ℕ) (task : Task)
@@ -105,7 +105,7 @@ module _ (l : Lamp) (mode : MoveModeEnum) (rate minimum maximum : ℕ) (options 
   stop-refused e = true≢false (sym (start-ready m clock task accepted).1 ∙ ap task_valid e)
 
   abbrev Gives : CommandEffect → Type 0
-  Gives e = e.task ≡ GivenTask.Given task → task ≡ Task.ColorTemperatureMove asks
+  Gives e = e.task ≡ Some task → task ≡ Task.ColorTemperatureMove asks
 
   gives-by : Gives (command_done (at_clock l first)
       (request (Command.MoveColorTemperature mode rate minimum maximum) options) on_off)
@@ -118,7 +118,7 @@ module _ (l : Lamp) (mode : MoveModeEnum) (rate minimum maximum : ℕ) (options 
 
   task-is : task ≡ Task.ColorTemperatureMove asks
   task-is =
-      answer-both l (λ (a : Answer). a.task ≡ GivenTask.Given task → task ≡ Task.ColorTemperatureMove asks)
+      answer-both l (λ (a : Answer). a.task ≡ Some task → task ≡ Task.ColorTemperatureMove asks)
       (Call.Command (request (Command.MoveColorTemperature mode rate minimum maximum) options) on_off first)
       (λ z. gives-by)
       (λ n g. let z : ◌≡◌ {A = ℕ} 0 1 = cc in absurd (omega arith))

@@ -1,5 +1,6 @@
 -- The modes that a command leads to are the text's; the port sets them when a number first moves or at the end, the text on
 -- receipt.
+use Rattle.std.specs.Prelude.{Option, Some, None}
 use Prim.Native.Nat.{ℕ}
 use mathlib.Core.Bool.{Bool, true, false, cond, true≢false, ◌||◌, and-false}
 use mathlib.Core.Path.{◌≡◌, refl, sym, ap, ◌∙◌}
@@ -17,11 +18,8 @@ use Rattle.matter.specs.Rules.{color_mode_of, default_color_mode}
 use Rattle.color.specs.declared.Color.{Color}
 use Rattle.color.specs.Valid.{modes_agree}
 use Rattle.color.specs.Setters.{same, kept_hue_mode, hue_set, saturation_set, mireds_set}
-use Rattle.tasks.specs.declared.GivenTask.{GivenTask}
-use Rattle.tasks.specs.declared.HueDelta.{HueDelta}
 use Rattle.tasks.specs.declared.ColorTemperatureToRun.{ColorTemperatureToRun}
 use Rattle.tasks.specs.declared.HueSaturationRun.{HueSaturationRun}
-use Rattle.tasks.specs.declared.TargetSaturation.{TargetSaturation}
 use Rattle.tasks.specs.declared.Task.{Task}
 use Rattle.tasks.specs.Valid.{delta_given, saturation_given}
 use Rattle.lamp.specs.declared.Lamp.{Lamp}
@@ -78,9 +76,9 @@ pub end-sets : (old new : ℕ) → same old new true ≡ false
 end-sets old new = and-false (eqb old new)
 
 -- what a move to a hue, to a saturation or to both sets
-abbrev pub move_to_modes : HueDelta → Bool → Modes → Modes
-move_to_modes HueDelta.Keep enhanced modes = saturation_modes modes
-move_to_modes (HueDelta.By way) enhanced modes = cond enhanced enhanced_hue_modes hue_modes
+abbrev pub move_to_modes : Option ℤ → Bool → Modes → Modes
+move_to_modes None enhanced modes = saturation_modes modes
+move_to_modes (Some way) enhanced modes = cond enhanced enhanced_hue_modes hue_modes
 
 -- ---- the task that a command gives sets, in the end, the modes that the text set on receipt
 
@@ -94,9 +92,9 @@ task_modes (Task.ColorTemperatureMove task) modes = temperature_modes
 task_modes (Task.ColorLoop task) modes = enhanced_hue_modes
 task_modes Task.Stop modes = modes
 
-abbrev pub given_modes : GivenTask → Modes → Modes
-given_modes GivenTask.Nothing modes = modes
-given_modes (GivenTask.Given task) modes = task_modes task modes
+abbrev pub given_modes : Option Task → Modes → Modes
+given_modes None modes = modes
+given_modes (Some task) modes = task_modes task modes
 
 pub modes-of-task : (l : Lamp) (c : Command) (modes : Modes) → is_loop_set c ≡ false → given_modes (command_effect l c).task modes ≡ received modes c
 unfolding command_effect received
@@ -130,13 +128,13 @@ hue-kept true = refl
 hue-kept false = refl
 
 module _ (c : Color) (start first p clock : ℕ) (enhanced : Bool) (over : at_end p ≡ true) (agree : modes_agree c.mode c.emode ≡ true) where
-  end_by : (delta : HueDelta) (saturation : TargetSaturation) → (delta_given delta || saturation_given saturation) ≡ true → modes_of (saturation_moved (hue_moved c delta start p enhanced clock).color saturation first p clock).color ≡ move_to_modes delta enhanced (modes_of c)
-  end_by HueDelta.Keep TargetSaturation.Keep g = absurd (true≢false (sym g))
-  end_by HueDelta.Keep (TargetSaturation.To target) g =
+  end_by : (delta : Option ℤ) (saturation : Option ℕ) → (delta_given delta || saturation_given saturation) ≡ true → modes_of (saturation_moved (hue_moved c delta start p enhanced clock).color saturation first p clock).color ≡ move_to_modes delta enhanced (modes_of c)
+  end_by None None g = absurd (true≢false (sym g))
+  end_by None (Some target) g =
       saturation-modes c (saturation_now first target p) (at_end p) clock agree (at-end c.saturation (saturation_now first target p) p over)
-  end_by (HueDelta.By way) TargetSaturation.Keep g =
+  end_by (Some way) None g =
       hue-modes c (hue_now start way p) (at_end p) clock enhanced (at-end c.hue (hue_now start way p) p over)
-  end_by (HueDelta.By way) (TargetSaturation.To target) g =
+  end_by (Some way) (Some target) g =
       let e : same c.hue (hue_now start way p) (at_end p) ≡ false = at-end c.hue (hue_now start way p) p over in
       let hued : Color = hue_set c (hue_now start way p) (at_end p) enhanced clock in
       saturation-modes hued (saturation_now first target p) (at_end p) clock (hued-agree c (hue_now start way p) (at_end p) enhanced clock e) (at-end hued.saturation (saturation_now first target p) p over)

@@ -1,5 +1,6 @@
 -- The task of a move to a hue does what the text asks, for all hues, directions and times. What a lamp shows in a
 -- move-to stands in ShownAgrees.
+use Rattle.std.specs.Prelude.{Option, Some, None}
 use Prim.Native.Nat.{ℕ, ◌*◌, ◌-◌, ◌≤◌, ◌<◌}
 use mathlib.Core.Bool.{Bool, true, false}
 use mathlib.Core.Path.{◌≡◌, refl}
@@ -10,9 +11,6 @@ use Rattle.matter.specs.declared.commands.Command.{Command}
 use Rattle.matter.specs.declared.enums.DirectionEnum.{DirectionEnum}
 use Rattle.hue.specs.Hue.{path_delta, moved_hue}
 use Rattle.hue.proofs.Laws.{arrives}
-use Rattle.tasks.specs.declared.GivenTask.{GivenTask}
-use Rattle.tasks.specs.declared.HueDelta.{HueDelta}
-use Rattle.tasks.specs.declared.TargetSaturation.{TargetSaturation}
 use Rattle.tasks.specs.declared.Task.{Task}
 use Rattle.lamp.specs.declared.Lamp.{Lamp}
 use Rattle.remaining_time.specs.RemainingTime.{new_tenths}
@@ -22,10 +20,10 @@ use Rattle.conformance.proofs.DirectionsAgree.{directions-agree}
 use Rattle.conformance.specs.MoveTo.{MovesToHue}
 
 -- what a task moves to: its way leads there, as asked, and it ends there
-pub record Does (circle from to : ℕ) (direction : DirectionEnum) (transition_time : ℕ) (enhanced : Bool) (task : GivenTask) : Type 0 where
+pub record Does (circle from to : ℕ) (direction : DirectionEnum) (transition_time : ℕ) (enhanced : Bool) (task : Option Task) : Type 0 where
   pub way : ℤ
   pub time : ℕ
-  pub given : task ≡ GivenTask.Given (Task.HueSaturationMoveTo (record { delta = HueDelta.By way; saturation = TargetSaturation.Keep; ms = time; enhanced = enhanced }))
+  pub given : task ≡ Some (Task.HueSaturationMoveTo (record { delta = Some way; saturation = None; ms = time; enhanced = enhanced }))
   pub asked : MovesToHue circle from to direction transition_time way time
   pub arrived : moved_hue from way ≡ to
 

@@ -1,6 +1,7 @@
 -- Every command that moves a number does what the text asks of it, from its fields to the numbers that a lamp shows:
 -- the call is accepted and gives a valid task, and every lamp on which that task is started, and stepped, shows
 -- what the text has then.
+use Rattle.std.specs.Prelude.{Option, Some, None}
 use Prim.Native.Nat.{ℕ, zero, suc, ◌-◌, ◌≤◌, ◌<◌, min, max}
 use mathlib.Core.Bool.{Bool, true, false, cond, true≢false}
 use mathlib.Core.Path.{◌≡◌, refl, sym, ap, subst, ◌∙◌}
@@ -22,7 +23,6 @@ use Rattle.progress.proofs.Laws.{clamp-keeps, clamp-within}
 use Rattle.progress.specs.Progress.{clamp}
 use Rattle.color.specs.declared.Color.{Color}
 use Rattle.color.proofs.Kept.{valid-saturation, valid-above, valid-below}
-use Rattle.tasks.specs.declared.GivenTask.{GivenTask}
 use Rattle.tasks.specs.declared.Task.{Task}
 use Rattle.tasks.specs.Valid.{task_valid}
 use Rattle.tasks.specs.Runs.{runs}
@@ -56,9 +56,9 @@ Follows bounds received c task =
     (clock : ℕ) → Lasts n clock → OnReceipt bounds received c (clock - begun) m.color n.color
 
 -- a valid task that does so
-pub record Gives (l : Lamp) (c : Command) (given : GivenTask) : Type 0 where
+pub record Gives (l : Lamp) (c : Command) (given : Option Task) : Type 0 where
   pub task : Task
-  pub is : given ≡ GivenTask.Given task
+  pub is : given ≡ Some task
   pub is_valid : task_valid task ≡ true
   pub follows : Follows l.bounds l.color c task
 
@@ -106,9 +106,9 @@ ends-are bounds minimum maximum n allow =
 -- ---- the commands
 
 -- a task whose start saves what runs, other than Stop, and that does what the command asks
-abbrev Does : Bounds → Color → Command → GivenTask → Type 0
-Does bounds received c GivenTask.Nothing = ⊥
-Does bounds received c (GivenTask.Given task) =
+abbrev Does : Bounds → Color → Command → Option Task → Type 0
+Does bounds received c None = ⊥
+Does bounds received c (Some task) =
     ((m : Lamp) (clock : ℕ) → runs (saved m task clock) ≡ true) × Follows bounds received c task
 
 not-0 : (n cause : ℕ) → cause_if (eqb n 0) (suc cause) ≡ 0 → 0 < n
@@ -349,10 +349,10 @@ receipt-agrees l q on_off clock h t v z a s =
     (command-fields l q on_off clock z s)))
     (λ k. absurd (k z)))
   where
-    gives : (given : GivenTask) → (answer l (Call.Command q on_off clock)).task ≡ given →
+    gives : (given : Option Task) → (answer l (Call.Command q on_off clock)).task ≡ given →
         Does l.bounds l.color q.command given → Gives l q.command given
-    gives GivenTask.Nothing e d = absurd d
-    gives (GivenTask.Given task) e d =
+    gives None e d = absurd d
+    gives (Some task) e d =
         record {
           task = task;
           is = refl;

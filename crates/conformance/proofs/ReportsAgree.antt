@@ -1,5 +1,6 @@
 -- The remaining time is reported exactly where the text has it reportable, for all numbers; a colour attribute is reported of a change
 -- exactly where the text allows it, by its setter and in every accepted step. Where the port reports more, or less.
+use Rattle.std.specs.Prelude.{Option, Some, None}
 use Prim.Native.Nat.{ℕ, zero, suc, ◌+◌, ◌-◌, ◌<◌}
 use mathlib.Core.Bool.{Bool, true, false, not, cond, ◌&&◌, true≢false, ◌||◌, or-true, or-false, or_assoc, and-true, and-false}
 use mathlib.Core.List.{List, [], ◌∷◌, ◌++◌}
@@ -22,12 +23,10 @@ use Rattle.remaining_time.specs.RemainingTime.{apart, reported}
 use Rattle.tasks.specs.declared.ColorLoopRun.{ColorLoopRun}
 use Rattle.tasks.specs.declared.ColorTemperatureRun.{ColorTemperatureRun}
 use Rattle.tasks.specs.declared.ColorTemperatureToRun.{ColorTemperatureToRun}
-use Rattle.tasks.specs.declared.HueDelta.{HueDelta}
 use Rattle.tasks.specs.declared.HueRun.{HueRun}
 use Rattle.tasks.specs.declared.HueSaturationRun.{HueSaturationRun}
 use Rattle.tasks.specs.declared.Running.{Running}
 use Rattle.tasks.specs.declared.SaturationRun.{SaturationRun}
-use Rattle.tasks.specs.declared.TargetSaturation.{TargetSaturation}
 use Rattle.tasks.specs.Runs.{runs, loop_running}
 use Rattle.lamp.specs.declared.Answer.{Answer}
 use Rattle.lamp.specs.declared.Lamp.{Lamp}
@@ -303,10 +302,10 @@ apart_from of_enhanced_current_hue = (refl, refl, refl, refl, refl)
 
 no-saturation : (n : ℕ) → reports n (CurrentSaturation ∷ ColorMode ∷ EnhancedColorMode ∷ []) ≡ false →
     reports n (marked_dirty ∷ scenes_notified ∷ []) ≡ false →
-    (c : Color) (t : TargetSaturation) (first p clock : ℕ) (active : Bool) →
+    (c : Color) (t : Option ℕ) (first p clock : ℕ) (active : Bool) →
     reports n (change_reported (saturation_moved c t first p clock).change active) ≡ false
-no-saturation n none other c TargetSaturation.Keep first p clock active = refl
-no-saturation n none other c (TargetSaturation.To target) first p clock active =
+no-saturation n none other c None first p clock active = refl
+no-saturation n none other c (Some target) first p clock active =
     no-change-by n CurrentSaturation false other none
     (same c.saturation (saturation_now first target p) (at_end p)) active (due (at_end p) c.stamps.saturation clock)
 
@@ -317,19 +316,19 @@ no-hue-by : (enhanced : Bool) →
 no-hue-by true = refl
 no-hue-by false = refl
 
-no-hue : (c : Color) (d : HueDelta) (first p : ℕ) (enhanced : Bool) (clock : ℕ) (active : Bool) →
+no-hue : (c : Color) (d : Option ℤ) (first p : ℕ) (enhanced : Bool) (clock : ℕ) (active : Bool) →
     reports CurrentSaturation (change_reported (hue_moved c d first p enhanced clock).change active) ≡ false
-no-hue c HueDelta.Keep first p enhanced clock active = refl
-no-hue c (HueDelta.By way) first p enhanced clock active =
+no-hue c None first p enhanced clock active = refl
+no-hue c (Some way) first p enhanced clock active =
     no-change-by CurrentSaturation CurrentHue enhanced refl (no-hue-by enhanced)
     (same c.hue (hue_now first way p) (at_end p)) active (due (at_end p) c.stamps.hue clock)
 
-hue-leaves-stamp : (c : Color) (d : HueDelta) (first p : ℕ) (enhanced : Bool) (clock : ℕ) →
+hue-leaves-stamp : (c : Color) (d : Option ℤ) (first p : ℕ) (enhanced : Bool) (clock : ℕ) →
     ((hue_moved c d first p enhanced clock).color.saturation ≡ c.saturation)
     × ((hue_moved c d first p enhanced clock).color.stamps.saturation ≡ c.stamps.saturation)
 unfolding hue_set
-hue-leaves-stamp c HueDelta.Keep first p enhanced clock = (refl, refl)
-hue-leaves-stamp c (HueDelta.By way) first p enhanced clock =
+hue-leaves-stamp c None first p enhanced clock = (refl, refl)
+hue-leaves-stamp c (Some way) first p enhanced clock =
     let t : Bool = same c.hue (hue_now first way p) (at_end p) in (
       cond_both (λ (x : Color). x.saturation ≡ c.saturation) t c _ (λ e. refl) (λ e. refl),
       cond_both
@@ -366,7 +365,7 @@ module _ (l : Lamp) (clock : ℕ) (accepted : cause l (Call.Step clock) ≡ 0) w
 
   -- CurrentHue, and in an enhanced move EnhancedCurrentHue: of a move to a hue, of a move at a rate and of the loop
   pub hue-to-reported : (run : HueSaturationRun) (way : ℤ) → l.running ≡ Running.HueSaturationMoveTo run →
-      run.task.delta ≡ HueDelta.By way →
+      run.task.delta ≡ Some way →
       (n : ℕ) → HueNotice n run.task.enhanced →
       Reported n (λ c. c.hue) (λ c. c.stamps.hue) l clock (answer l (Call.Step clock))
   unfolding stepped hue_saturation_moved timed
@@ -386,7 +385,7 @@ module _ (l : Lamp) (clock : ℕ) (accepted : cause l (Call.Step clock) ≡ 0) w
       (but-for n (saturations ++ (device_hue_saturation ∷ [])) (only passed.time RemainingTime) (no-time n time passed.time)
       ∙ but-for n saturations (device_hue_saturation ∷ []) device
       ∙ no-saturation n others dirty hued run.task.saturation run.saturation p clock active)
-      ∙ ap (λ (x : HueDelta). reports n (change_reported (hue_moved l.color x run.hue p run.task.enhanced clock).change active)) d
+      ∙ ap (λ (x : Option ℤ). reports n (change_reported (hue_moved l.color x run.hue p run.task.enhanced clock).change active)) d
       ∙ hue-change-reported l.color (hue_now run.hue way p) (at_end p) clock active h)
 
   pub hue-move-reported : (run : HueRun) → l.running ≡ Running.HueMove run →
@@ -408,7 +407,7 @@ module _ (l : Lamp) (clock : ℕ) (accepted : cause l (Call.Step clock) ≡ 0) w
 
   -- CurrentSaturation: of a move to a saturation, and of a move at a rate
   pub saturation-to-reported : (run : HueSaturationRun) (target : ℕ) → l.running ≡ Running.HueSaturationMoveTo run →
-      run.task.saturation ≡ TargetSaturation.To target →
+      run.task.saturation ≡ Some target →
       Reported CurrentSaturation (λ c. c.saturation) (λ c. c.stamps.saturation) l clock (answer l (Call.Step clock))
   unfolding stepped hue_saturation_moved timed
   saturation-to-reported run target e t =
@@ -422,7 +421,7 @@ module _ (l : Lamp) (clock : ℕ) (accepted : cause l (Call.Step clock) ≡ 0) w
       let (kept, stamp) = hue-leaves-stamp l.color run.task.delta run.hue p run.task.enhanced clock in
       reported-by n (λ c. c.saturation) (λ c. c.stamps.saturation) now (at_end p)
       (stepped on (Running.HueSaturationMoveTo run)) (answer-is (Running.HueSaturationMoveTo run) e)
-      (ap (λ (x : TargetSaturation). (saturation_moved hued x run.saturation p clock).color.saturation) t
+      (ap (λ (x : Option ℕ). (saturation_moved hued x run.saturation p clock).color.saturation) t
       ∙ saturation-is-set hued now (at_end p) clock)
       (ended_by (at_end p) (Running.HueSaturationMoveTo run) refl) refl
       (reports-both n (change_reported passed.first active) (reported_behind passed active)
@@ -430,7 +429,7 @@ module _ (l : Lamp) (clock : ℕ) (accepted : cause l (Call.Step clock) ≡ 0) w
       (no-hue l.color run.task.delta run.hue p run.task.enhanced clock active)
       ∙ but-for n (saturations ++ (device_hue_saturation ∷ [])) (only passed.time RemainingTime) (no-time n refl passed.time)
       ∙ but-for n saturations (device_hue_saturation ∷ []) refl
-      ∙ ap (λ (x : TargetSaturation). reports n (change_reported (saturation_moved hued x run.saturation p clock).change active)) t
+      ∙ ap (λ (x : Option ℕ). reports n (change_reported (saturation_moved hued x run.saturation p clock).change active)) t
       ∙ saturation-change-reported hued now (at_end p) clock active
       ∙ ap (λ (x : ℕ). not (same x now (at_end p)) && due (at_end p) hued.stamps.saturation clock) kept
       ∙ ap (λ (x : ℕ). not (same l.color.saturation now (at_end p)) && due (at_end p) x clock) stamp)

@@ -2,6 +2,7 @@
 -- runs and after. The hue is that of the start and the part of its way (`gone`, the part's size, is compared with the
 -- text's in TransitionAgrees); the saturation and the mireds are the numbers on their lines; the remaining time is the
 -- text's.
+use Rattle.std.specs.Prelude.{Option, Some, None}
 use Prim.Native.Nat.{ℕ, zero, suc, ◌-◌, ◌%◌, ◌≤◌, ◌<◌, min}
 use mathlib.Core.Bool.{Bool, true, false, cond, ◌&&◌, ◌||◌, or-true, true≢false}
 use mathlib.Core.Logic.{◌⊎◌, inl, inr, ⊎_elim}
@@ -21,11 +22,9 @@ use Rattle.color.specs.declared.Color.{Color}
 use Rattle.color.proofs.Kept.{valid-saturation, valid-above, valid-below}
 use Rattle.tasks.specs.declared.ColorTemperatureMoveTo.{ColorTemperatureMoveTo}
 use Rattle.tasks.specs.declared.ColorTemperatureToRun.{ColorTemperatureToRun}
-use Rattle.tasks.specs.declared.HueDelta.{HueDelta}
 use Rattle.tasks.specs.declared.HueSaturationMoveTo.{HueSaturationMoveTo}
 use Rattle.tasks.specs.declared.HueSaturationRun.{HueSaturationRun}
 use Rattle.tasks.specs.declared.Running.{Running}
-use Rattle.tasks.specs.declared.TargetSaturation.{TargetSaturation}
 use Rattle.tasks.specs.declared.Task.{Task}
 use Rattle.tasks.specs.Runs.{runs}
 use Rattle.tasks.specs.Valid.{move_to_valid, running_valid, saturation_valid, task_valid, time_valid, within_bounds}
@@ -49,14 +48,14 @@ use Rattle.conformance.specs.Transition.{on_line}
 use Rattle.conformance.proofs.TransitionAgrees.{gone, line-is, no-delta}
 
 -- the hue so long after the start of a move-to, from the hue of the start, and from the hue before the call
-abbrev pub HueShows : HueDelta → ℕ → ℕ → ℕ → ℕ → ℕ → Type 0
-HueShows HueDelta.Keep first elapsed time before now = now ≡ before
-HueShows (HueDelta.By way) first elapsed time before now = now ≡ moved_hue first (part_of way (permille_of elapsed time))
+abbrev pub HueShows : Option ℤ → ℕ → ℕ → ℕ → ℕ → ℕ → Type 0
+HueShows None first elapsed time before now = now ≡ before
+HueShows (Some way) first elapsed time before now = now ≡ moved_hue first (part_of way (permille_of elapsed time))
 
 -- and the saturation
-abbrev pub SaturationShows : TargetSaturation → ℕ → ℕ → ℕ → ℕ → ℕ → Type 0
-SaturationShows TargetSaturation.Keep first elapsed time before now = now ≡ before
-SaturationShows (TargetSaturation.To target) first elapsed time before now =
+abbrev pub SaturationShows : Option ℕ → ℕ → ℕ → ℕ → ℕ → ℕ → Type 0
+SaturationShows None first elapsed time before now = now ≡ before
+SaturationShows (Some target) first elapsed time before now =
     now ≡ on_line first target (gone (pos target -ℤ pos first) elapsed time)
 
 -- the colour so long after the start of a move to a hue, a saturation or both
@@ -72,13 +71,13 @@ ShowsMiredsTo mireds target elapsed time before after =
     MiredsAlone before after (λ a b. b ≡ on_line mireds target (gone (pos target -ℤ pos mireds) elapsed time))
 
 -- nowhere to go: neither the hue nor the saturation has a way
-abbrev pub NoHueDelta : HueDelta → Type 0
-NoHueDelta HueDelta.Keep = Unit
-NoHueDelta (HueDelta.By way) = way ≡ pos 0
+abbrev pub NoHueDelta : Option ℤ → Type 0
+NoHueDelta None = Unit
+NoHueDelta (Some way) = way ≡ pos 0
 
-abbrev pub NoSaturationDelta : TargetSaturation → ℕ → Type 0
-NoSaturationDelta TargetSaturation.Keep saturation = Unit
-NoSaturationDelta (TargetSaturation.To target) saturation = target ≡ saturation
+abbrev pub NoSaturationDelta : Option ℕ → ℕ → Type 0
+NoSaturationDelta None saturation = Unit
+NoSaturationDelta (Some target) saturation = target ≡ saturation
 
 abbrev pub Nowhere : HueSaturationMoveTo → ℕ → Type 0
 Nowhere task saturation = NoHueDelta task.delta × NoSaturationDelta task.saturation saturation
@@ -109,12 +108,12 @@ module _ (first p elapsed time : ℕ) where
 
   module _ (c : Color) (clock : ℕ) where
     -- the hue's part of a pass, which leaves saturation and mireds
-    hue-part : (d : HueDelta) (enhanced : Bool) → Or (NoHueDelta d) →
+    hue-part : (d : Option ℤ) (enhanced : Bool) → Or (NoHueDelta d) →
         HueShows d first elapsed time c.hue (hue_moved c d first p enhanced clock).color.hue
         × ((hue_moved c d first p enhanced clock).color.saturation ≡ c.saturation)
         × ((hue_moved c d first p enhanced clock).color.mireds ≡ c.mireds)
-    hue-part HueDelta.Keep enhanced at = (refl, refl, refl)
-    hue-part (HueDelta.By way) enhanced at =
+    hue-part None enhanced at = (refl, refl, refl)
+    hue-part (Some way) enhanced at =
         let left = hue-leaves c (hue_now first way p) (at_end p) enhanced clock in (
           hue-is-set c (hue_now first way p) (at_end p) enhanced clock ∙ ap (moved_hue first) (same-part way at),
           left.0,
@@ -122,13 +121,13 @@ module _ (first p elapsed time : ℕ) where
         )
 
     -- and the saturation's, which leaves hue and mireds
-    saturation-part : (t : TargetSaturation) → p ≤ 1000 → first ≤ 254 → saturation_valid t ≡ true →
+    saturation-part : (t : Option ℕ) → p ≤ 1000 → first ≤ 254 → saturation_valid t ≡ true →
         Or (NoSaturationDelta t first) →
         SaturationShows t first elapsed time c.saturation (saturation_moved c t first p clock).color.saturation
         × ((saturation_moved c t first p clock).color.hue ≡ c.hue)
         × ((saturation_moved c t first p clock).color.mireds ≡ c.mireds)
-    saturation-part TargetSaturation.Keep few high validity at = (refl, refl, refl)
-    saturation-part (TargetSaturation.To target) few high validity at =
+    saturation-part None few high validity at = (refl, refl, refl)
+    saturation-part (Some target) few high validity at =
         let left = saturation-leaves c (saturation_now first target p) (at_end p) clock in (
           saturation-is-set c (saturation_now first target p) (at_end p) clock
               ∙ line-shows 0 254 target few (omega arith, high) (omega arith, leb-true target 254 validity) at,
@@ -142,8 +141,8 @@ module _ (x : Lamp) (p elapsed : ℕ) (few : p ≤ 1000) where
       ShowsMoveTo run.task run.hue run.saturation elapsed x.color (hue_saturation_pass x run p).lamp.color
   unfolding hue_saturation_moved timed
   pass-shows run high validity at =
-      let d : HueDelta = run.task.delta in
-      let t : TargetSaturation = run.task.saturation in
+      let d : Option ℤ = run.task.delta in
+      let t : Option ℕ = run.task.saturation in
       let time : ℕ = run.task.ms in
       let hued : Color = (hue_moved x.color d run.hue p run.task.enhanced x.clock).color in
       let h =
@@ -330,22 +329,22 @@ begins-by ms clock r Done false m validity to from left runs =
     }
 
 -- whether there is a way
-no-hue : (d : HueDelta) → NoHueDelta d → no_hue_delta d ≡ true
-no-hue HueDelta.Keep h = refl
-no-hue (HueDelta.By way) h = eq-eqb (nat_abs way) 0 (ap nat_abs h)
+no-hue : (d : Option ℤ) → NoHueDelta d → no_hue_delta d ≡ true
+no-hue None h = refl
+no-hue (Some way) h = eq-eqb (nat_abs way) 0 (ap nat_abs h)
 
-no-hue-so : (d : HueDelta) → no_hue_delta d ≡ true → NoHueDelta d
-no-hue-so HueDelta.Keep h = tt
-no-hue-so (HueDelta.By (pos n)) h = ap pos (eqb-true n 0 h)
-no-hue-so (HueDelta.By (negsuc n)) h = absurd (omega (arith, eqb-true (suc n) 0 h))
+no-hue-so : (d : Option ℤ) → no_hue_delta d ≡ true → NoHueDelta d
+no-hue-so None h = tt
+no-hue-so (Some (pos n)) h = ap pos (eqb-true n 0 h)
+no-hue-so (Some (negsuc n)) h = absurd (omega (arith, eqb-true (suc n) 0 h))
 
-no-saturation : (t : TargetSaturation) (first : ℕ) → NoSaturationDelta t first → no_saturation_delta t first ≡ true
-no-saturation TargetSaturation.Keep first h = refl
-no-saturation (TargetSaturation.To target) first h = eq-eqb target first h
+no-saturation : (t : Option ℕ) (first : ℕ) → NoSaturationDelta t first → no_saturation_delta t first ≡ true
+no-saturation None first h = refl
+no-saturation (Some target) first h = eq-eqb target first h
 
-no-saturation-so : (t : TargetSaturation) (first : ℕ) → no_saturation_delta t first ≡ true → NoSaturationDelta t first
-no-saturation-so TargetSaturation.Keep first h = tt
-no-saturation-so (TargetSaturation.To target) first h = eqb-true target first h
+no-saturation-so : (t : Option ℕ) (first : ℕ) → no_saturation_delta t first ≡ true → NoSaturationDelta t first
+no-saturation-so None first h = tt
+no-saturation-so (Some target) first h = eqb-true target first h
 
 module _ (task : HueSaturationMoveTo) (first : ℕ) where
   abbrev still : Bool
@@ -429,16 +428,16 @@ start-thousandths ms begun clock no_delta None run after r u c so lasts =
     ⊎_elim (λ e. inl (same-thousandths _ begun ms clock run after r u (rw z e) lasts)) (λ e. inr (so e))
     (start-at ms no_delta)
 
-hue-later : (d : HueDelta) (first e f time before mid now : ℕ) → HueShows d first e time before mid →
+hue-later : (d : Option ℤ) (first e f time before mid now : ℕ) → HueShows d first e time before mid →
     HueShows d first f time mid now → HueShows d first f time before now
-hue-later HueDelta.Keep first e f time before mid now h k = k ∙ h
-hue-later (HueDelta.By way) first e f time before mid now h k = k
+hue-later None first e f time before mid now h k = k ∙ h
+hue-later (Some way) first e f time before mid now h k = k
 
-saturation-later : (t : TargetSaturation) (first e f time before mid now : ℕ) →
+saturation-later : (t : Option ℕ) (first e f time before mid now : ℕ) →
     SaturationShows t first e time before mid → SaturationShows t first f time mid now →
     SaturationShows t first f time before now
-saturation-later TargetSaturation.Keep first e f time before mid now h k = k ∙ h
-saturation-later (TargetSaturation.To target) first e f time before mid now h k = k
+saturation-later None first e f time before mid now h k = k ∙ h
+saturation-later (Some target) first e f time before mid now h k = k
 
 module _ (m : Lamp) (begun : ℕ) where
   -- of a move to a hue, a saturation or both

@@ -1,5 +1,6 @@
 -- A stop is the text's while no colour loop is active, but for the remaining time; an active loop is stopped too, and replaced
 -- by what is started.
+use Rattle.std.specs.Prelude.{Option, Some, None}
 use Prim.Native.Nat.{ℕ}
 use mathlib.Core.Bool.{Bool, true, false, ◌&&◌, true≢false}
 use mathlib.Core.Path.{◌≡◌, refl, sym, ap, ◌∙◌}
@@ -9,7 +10,6 @@ use Rattle.matter.specs.declared.commands.Command.{Command}
 use Rattle.matter.specs.declared.commands.CommandOptions.{CommandOptions}
 use Rattle.matter.specs.declared.enums.OnOff.{OnOff}
 use Rattle.tasks.specs.declared.ColorLoopRun.{ColorLoopRun}
-use Rattle.tasks.specs.declared.GivenTask.{GivenTask}
 use Rattle.tasks.specs.declared.HueSaturationMoveTo.{HueSaturationMoveTo}
 use Rattle.tasks.specs.declared.Running.{Running}
 use Rattle.tasks.specs.declared.Task.{Task}
@@ -29,10 +29,10 @@ use Rattle.conformance.specs.Stops.{Terminated, NoTimeLeft, turns_after_stop, lo
 pub stop-asked : (l : Lamp) (options : CommandOptions) (on_off : OnOff) (clock : ℕ) →
     allowed l (request Command.StopMoveStep options) on_off ≡ true →
     cause l (Call.Command (request Command.StopMoveStep options) on_off clock) ≡ 0 →
-    (answer l (Call.Command (request Command.StopMoveStep options) on_off clock)).task ≡ GivenTask.Given Task.Stop
+    (answer l (Call.Command (request Command.StopMoveStep options) on_off clock)).task ≡ Some Task.Stop
 unfolding command_effect
 stop-asked l options on_off clock may_execute accepted =
-    answer-both l (λ (a : Answer). a.task ≡ GivenTask.Given Task.Stop)
+    answer-both l (λ (a : Answer). a.task ≡ Some Task.Stop)
     (Call.Command (request Command.StopMoveStep options) on_off clock)
     (λ z. rw may_execute) (λ n. absurd (n accepted))
 
@@ -97,7 +97,7 @@ module _ (l : Lamp) (options : CommandOptions) (on_off : OnOff) (clock later : �
   -- loop is active and turns
   pub stop-on-loop-differs : l.looping.active ≡ true → loop_turns l.running ≡ true →
       (turns_after_stop l.looping.active (loop_turns l.running) ≡ true)
-      × ((answer l (Call.Command (request Command.StopMoveStep options) on_off clock)).task ≡ GivenTask.Given Task.Stop)
+      × ((answer l (Call.Command (request Command.StopMoveStep options) on_off clock)).task ≡ Some Task.Stop)
       × (loop_turns (after_stop l options on_off clock later).running ≡ false)
   stop-on-loop-differs e t = (
     ap (λ (active : Bool). turns_after_stop active (loop_turns l.running)) e ∙ t,

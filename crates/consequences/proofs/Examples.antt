@@ -1,5 +1,6 @@
 -- Fades by computation: from red to cyan through green, and, with the premises met, the other way round; two lamps that fade
 -- together, one of them among other calls; and one whose hue moved between command and start.
+use Rattle.std.specs.Prelude.{Option, Some, None}
 use Prim.Native.Nat.{ℕ}
 use mathlib.Core.Bool.{Bool, true, false}
 use mathlib.Core.List.{List, [], ◌∷◌, map}
@@ -21,8 +22,6 @@ use Rattle.arc.proofs.Examples.{green}
 use Rattle.progress.specs.Progress.{permille_of}
 use Rattle.color.specs.Valid.{color_valid}
 use Rattle.color.specs.Setters.{hue_set}
-use Rattle.tasks.specs.declared.HueDelta.{HueDelta}
-use Rattle.tasks.specs.declared.TargetSaturation.{TargetSaturation}
 use Rattle.tasks.specs.declared.Task.{Task}
 use Rattle.tasks.specs.Valid.{move_to_valid, task_valid, running_valid}
 use Rattle.lamp.specs.Answers.{first_cause}
@@ -108,7 +107,7 @@ moved_to50 =
       on_off = OnOff.On;
       clock = 5000;
       between =
-          Call.Start (Task.HueSaturationMoveTo (record { delta = HueDelta.By (pos 50); saturation = TargetSaturation.Keep; ms = 0; enhanced = true })) 5000
+          Call.Start (Task.HueSaturationMoveTo (record { delta = Some (pos 50); saturation = None; ms = 0; enhanced = true })) 5000
           ∷ [];
       start = 5000;
       calls = Call.Step 5100 ∷ Call.Step 5200 ∷ [];

@@ -1,6 +1,7 @@
 -- A lamp carried in words: from one that was made, through any list of calls, the words are those of the lamp that the
 -- lamp's own definitions leave, and no call finds them to be no lamp. Whatever the words of a call are, and whether its
 -- answer has room or not; a call's clock is a word of 64 bits.
+use Rattle.std.specs.Prelude.{Option, Some, None}
 use Prim.Native.Nat.{ℕ, zero, suc, ◌%◌, ◌^◌, ◌<◌, ◌≤◌}
 use mathlib.Core.Bool.{Bool, true, false, ◌&&◌}
 use mathlib.Core.List.{List, [], ◌∷◌}
@@ -15,8 +16,6 @@ use Rattle.matter.specs.declared.limits.Bounds.{Bounds}
 use Rattle.matter.proofs.Laws.{cond_both}
 use Rattle.matter.specs.Limits.{clock_limit}
 use Rattle.matter.specs.InRange.{Byte, Clock, InRangeBounds, InRangeCommand, InRangeRequest}
-use Rattle.tasks.specs.declared.HueDelta.{HueDelta}
-use Rattle.tasks.specs.declared.TargetSaturation.{TargetSaturation}
 use Rattle.tasks.specs.declared.Task.{Task}
 use Rattle.tasks.specs.InRange.{Signed64, InRangeDelta, InRangeTarget, InRangeTask}
 use Rattle.lamp.specs.declared.Lamp.{Lamp}
@@ -54,11 +53,11 @@ signed-in-range sign size =
 
 delta-in-range : (sign size : ℕ) → InRangeDelta (delta_of sign size)
 unfolding delta_of
-delta-in-range sign size = cond_both InRangeDelta (eqb sign 0) HueDelta.Keep (HueDelta.By (signed sign size)) (λ e. tt) (λ e. signed-in-range sign size)
+delta-in-range sign size = cond_both InRangeDelta (eqb sign 0) None (Some (signed sign size)) (λ e. tt) (λ e. signed-in-range sign size)
 
 target-in-range : (given saturation : ℕ) → InRangeTarget (target_of given saturation)
 unfolding target_of
-target-in-range given saturation = cond_both InRangeTarget (eqb given 0) TargetSaturation.Keep _ (λ e. tt) (λ e. omega arith)
+target-in-range given saturation = cond_both InRangeTarget (eqb given 0) None _ (λ e. tt) (λ e. omega arith)
 
 task-in-range : (n : TaskNumbers) → InRangeTask (task_of n)
 unfolding task_of move_to_of hue_move_of saturation_move_of mireds_to_of mireds_move_of color_loop_of

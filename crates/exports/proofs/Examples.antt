@@ -1,4 +1,5 @@
 -- The words for C, literally: what docs/WORDS.md and examples/yemkruos.h say of each kind, in numbers.
+use Rattle.std.specs.Prelude.{Option, Some, None}
 use Prim.Native.Nat.{ℕ}
 use mathlib.Core.Bool.{true, false}
 use mathlib.Core.List.{List, [], ◌∷◌, map}
@@ -16,10 +17,7 @@ use Rattle.matter.specs.declared.enums.ColorLoopDirectionEnum.{ColorLoopDirectio
 use Rattle.matter.specs.declared.enums.ColorModeEnum.{ColorModeEnum}
 use Rattle.matter.specs.declared.enums.EnhancedColorModeEnum.{EnhancedColorModeEnum}
 use Rattle.matter.specs.declared.enums.OnOff.{OnOff}
-use Rattle.tasks.specs.declared.GivenTask.{GivenTask}
-use Rattle.tasks.specs.declared.HueDelta.{HueDelta}
 use Rattle.tasks.specs.declared.HueSaturationMoveTo.{HueSaturationMoveTo}
-use Rattle.tasks.specs.declared.TargetSaturation.{TargetSaturation}
 use Rattle.tasks.specs.declared.Running.{Running}
 use Rattle.tasks.specs.declared.Task.{Task}
 use Rattle.lamp.specs.declared.Answer.{Answer}
@@ -125,7 +123,7 @@ pub record CommandWords : Type 0 where
 -- down 2000 and to saturation 250 in 7.7 s, enhanced
 abbrev pub down_and_to : HueSaturationMoveTo
 down_and_to =
-    record { delta = HueDelta.By (neg_ℤ (pos 2000)); saturation = TargetSaturation.To 250; ms = 7700; enhanced = true }
+    record { delta = Some (neg_ℤ (pos 2000)); saturation = Some 250; ms = 7700; enhanced = true }
 
 pub record StartWords : Type 0 where
   pub move-to : Reads (start_words 1 2 2000 1 250 7700 1) (Call.Start (Task.HueSaturationMoveTo down_and_to) 5000)
@@ -134,13 +132,13 @@ pub record StartWords : Type 0 where
       Reads (start_words 1 1 2000 0 0 7700 0)
       (Call.Start
       (Task.HueSaturationMoveTo
-      (record { delta = HueDelta.By (pos 2000); saturation = TargetSaturation.Keep; ms = 7700; enhanced = false }))
+      (record { delta = Some (pos 2000); saturation = None; ms = 7700; enhanced = false }))
       5000)
   pub saturation-alone :
       Reads (start_words 1 0 0 1 250 7700 0)
       (Call.Start
       (Task.HueSaturationMoveTo
-      (record { delta = HueDelta.Keep; saturation = TargetSaturation.To 250; ms = 7700; enhanced = false }))
+      (record { delta = None; saturation = Some 250; ms = 7700; enhanced = false }))
       5000)
   pub hue-move :
       Reads (start_words 2 1 700 1 0 0 0)
@@ -251,7 +249,7 @@ pub record LampWords : Type 0 where
 -- ---- answers
 
 -- an answer with three notices, a task or none, and a wait
-abbrev pub replying : GivenTask → Answer
+abbrev pub replying : Option Task → Answer
 replying task =
     record {
       number = 6;
@@ -263,14 +261,14 @@ replying task =
 
 pub record AnswerWords : Type 0 where
   pub given :
-      answer_words (replying (GivenTask.Given (Task.HueSaturationMoveTo down_and_to)))
+      answer_words (replying (Some (Task.HueSaturationMoveTo down_and_to)))
       ≡ 6 ∷ 13 ∷ 2 ∷ 17 ∷ 0 ∷ 0 ∷ 0 ∷ 0 ∷ 0 ∷ 0 ∷ 0 ∷ 0 ∷ 0 ∷ 0 ∷ 0 ∷ 0 ∷ 0 ∷ 1 ∷ 2 ∷ 2000 ∷ 1 ∷ 250 ∷ 7700 ∷ 1 ∷ 70
       ∷ []
   pub stopping :
-      answer_words (replying (GivenTask.Given Task.Stop))
+      answer_words (replying (Some Task.Stop))
       ≡ 6 ∷ 13 ∷ 2 ∷ 17 ∷ 0 ∷ 0 ∷ 0 ∷ 0 ∷ 0 ∷ 0 ∷ 0 ∷ 0 ∷ 0 ∷ 0 ∷ 0 ∷ 0 ∷ 0 ∷ 7 ∷ 0 ∷ 0 ∷ 0 ∷ 0 ∷ 0 ∷ 0 ∷ 70 ∷ []
   pub nothing :
-      answer_words (replying GivenTask.Nothing)
+      answer_words (replying None)
       ≡ 6 ∷ 13 ∷ 2 ∷ 17 ∷ 0 ∷ 0 ∷ 0 ∷ 0 ∷ 0 ∷ 0 ∷ 0 ∷ 0 ∷ 0 ∷ 0 ∷ 0 ∷ 0 ∷ 0 ∷ 0 ∷ 0 ∷ 0 ∷ 0 ∷ 0 ∷ 0 ∷ 0 ∷ 70 ∷ []
 
 -- "The first in this order wins": no lamp by its count of words, no room, no lamp, no call

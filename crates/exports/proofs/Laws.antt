@@ -1,6 +1,7 @@
 -- Reading inverts writing: what is written of an enum, a task, a running record or a lamp is known, and is read as what it
 -- was. Of a lamp this asks that its numbers are within their types and that it is valid, which bounds its ways: the
 -- smallest number of 64 bits with a sign has a size that no field takes.
+use Rattle.std.specs.Prelude.{Option, Some, None}
 use Prim.Native.Nat.{ℕ, suc, ◌%◌, ◌^◌, ◌<◌}
 use mathlib.Core.Bool.{Bool, true, false, not}
 use mathlib.Core.Path.{◌≡◌, refl, ap}
@@ -22,8 +23,6 @@ use Rattle.matter.specs.declared.limits.Bounds.{Bounds}
 use Rattle.matter.proofs.Laws.{and_left, and_right, each}
 use Rattle.matter.proofs.Laws as by_number
 use Rattle.matter.specs.Numbers.{direction_number, move_mode_number, step_mode_number, loop_action_number, loop_direction_number, color_mode_number, enhanced_color_mode_number, on_off_number}
-use Rattle.tasks.specs.declared.HueDelta.{HueDelta}
-use Rattle.tasks.specs.declared.TargetSaturation.{TargetSaturation}
 use Rattle.tasks.specs.declared.Task.{Task}
 use Rattle.tasks.specs.declared.Running.{Running}
 use Rattle.tasks.specs.Valid.{small, delta_valid, rate_valid, move_to_valid, running_valid}
@@ -99,9 +98,9 @@ size-known z h = le-leb (nat_abs z) 9223372036854775807 (omega arith)
 -- ---- tasks
 
 -- the signed number of a task, 0 where it has none
-abbrev pub delta_way : HueDelta → ℤ
-delta_way HueDelta.Keep = pos 0
-delta_way (HueDelta.By way) = way
+abbrev pub delta_way : Option ℤ → ℤ
+delta_way None = pos 0
+delta_way (Some way) = way
 
 abbrev pub way_of : Task → ℤ
 way_of (Task.HueSaturationMoveTo t) = delta_way t.delta
@@ -112,17 +111,17 @@ way_of (Task.ColorTemperatureMove t) = t.rate
 way_of (Task.ColorLoop t) = pos 0
 way_of Task.Stop = pos 0
 
-delta-back : (d : HueDelta) → Sized (delta_way d) → (delta_of (delta_sign d) (delta_size d) ≡ d) × (leb (delta_sign d) 2 ≡ true) × (leb (delta_size d) 9223372036854775807 ≡ true)
+delta-back : (d : Option ℤ) → Sized (delta_way d) → (delta_of (delta_sign d) (delta_size d) ≡ d) × (leb (delta_sign d) 2 ≡ true) × (leb (delta_size d) 9223372036854775807 ≡ true)
 unfolding delta_of
-delta-back HueDelta.Keep h = (refl, refl, refl)
-delta-back (HueDelta.By way) h =
+delta-back None h = (refl, refl, refl)
+delta-back (Some way) h =
     let s = signed_back way h in
     (simp (s.2, s.0), s.1, size-known way h)
 
-target-back : (s : TargetSaturation) → InRangeTarget s → (target_of (target_given s) (target_number s) ≡ s) × (leb (target_given s) 1 ≡ true) × (leb (target_number s) 255 ≡ true)
+target-back : (s : Option ℕ) → InRangeTarget s → (target_of (target_given s) (target_number s) ≡ s) × (leb (target_given s) 1 ≡ true) × (leb (target_number s) 255 ≡ true)
 unfolding target_of
-target-back TargetSaturation.Keep h = (refl, refl, refl)
-target-back (TargetSaturation.To saturation) h = (simp (within 255 h).same, refl, (within 255 h).taken)
+target-back None h = (refl, refl, refl)
+target-back (Some saturation) h = (simp (within 255 h).same, refl, (within 255 h).taken)
 
 -- a task, where its way is not the smallest number
 pub task-back : (t : Task) → InRangeTask t → Sized (way_of t) → Back task_of task_known (task_numbers t) t
@@ -170,9 +169,9 @@ bounded (negsuc n) e f = omega (arith, leb-true n 65534 e)
 small-sized : (z : ℤ) → small z ≡ true → Sized z
 small-sized z e = bounded z (and_left (le_z (neg_ℤ (pos 65535)) z) _ e) (and_right (le_z (neg_ℤ (pos 65535)) z) _ e)
 
-delta-sized : (d : HueDelta) → delta_valid d ≡ true → Sized (delta_way d)
-delta-sized HueDelta.Keep e = omega arith
-delta-sized (HueDelta.By way) e = small-sized way e
+delta-sized : (d : Option ℤ) → delta_valid d ≡ true → Sized (delta_way d)
+delta-sized None e = omega arith
+delta-sized (Some way) e = small-sized way e
 
 rate-sized : (z : ℤ) → rate_valid z ≡ true → Sized z
 rate-sized z e = small-sized z (and_right (not (eqb (nat_abs z) 0)) (small z) e)

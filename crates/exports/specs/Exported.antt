@@ -2,7 +2,8 @@
 use Rattle.std.specs.Prelude.{ℕ, cond, not, List, eqb, length}
 use Rattle.matter.specs.declared.limits.Bounds.{Bounds}
 use Rattle.lamp.specs.declared.Answer.{Answer}
-use Rattle.lamp.specs.declared.Made.{Made}
+use Rattle.std.specs.Prelude.{Result, Ok, Err}
+use Rattle.matter.specs.declared.refusals.Refusal.{Refusal}
 use Rattle.lamp.specs.Making.{making}
 use Rattle.exports.specs.Lamps.{lamp_of, lamp_known, lamp_words}
 use Rattle.exports.specs.Calls.{unreadable, call_known, sent}
@@ -28,9 +29,9 @@ pub record Answered : Type 0 where
 
 -- ---- a lamp is made
 
-abbrev pub laid : List ℕ → Made → Left
-laid w (Made.Lamp l) = record { number = 0; lamp = lamp_words l }
-laid w (Made.Refused number) = record { number = number; lamp = w }
+abbrev pub laid : List ℕ → Result Lamp Refusal → Left
+laid w (Ok l) = record { number = 0; lamp = lamp_words l }
+laid w (Err number) = record { number = number; lamp = w }
 
 unfoldable pub made : List ℕ → Bounds → ℕ → ℕ → ℕ → Left
 made w bounds features options clock =

@@ -1,10 +1,9 @@
 -- Tasks and running records as numbers: a kind and its numbers in the protocol's order, unused places 0.
 -- Kinds: 0 no task, or an idle lamp; 1 HueSaturationMoveTo; 2 HueMove; 3 SaturationMove; 4 ColorTemperatureMoveTo;
 -- 5 ColorTemperatureMove; 6 ColorLoop; 7 Stop.
+use Rattle.std.specs.Prelude.{Option, Some, None}
 use Rattle.std.specs.Prelude.{ℕ, Bool, cond, not, ◌&&◌, ◌||◌, eqb, leb}
 use Rattle.matter.specs.Numbers.{move_mode_number, loop_direction_number}
-use Rattle.tasks.specs.declared.HueDelta.{HueDelta}
-use Rattle.tasks.specs.declared.TargetSaturation.{TargetSaturation}
 use Rattle.tasks.specs.declared.HueSaturationMoveTo.{HueSaturationMoveTo}
 use Rattle.tasks.specs.declared.HueMove.{HueMove}
 use Rattle.tasks.specs.declared.SaturationMove.{SaturationMove}
@@ -12,7 +11,6 @@ use Rattle.tasks.specs.declared.ColorTemperatureMoveTo.{ColorTemperatureMoveTo}
 use Rattle.tasks.specs.declared.ColorTemperatureMove.{ColorTemperatureMove}
 use Rattle.tasks.specs.declared.ColorLoop.{ColorLoop}
 use Rattle.tasks.specs.declared.Task.{Task}
-use Rattle.tasks.specs.declared.GivenTask.{GivenTask}
 use Rattle.tasks.specs.declared.Running.{Running}
 use Rattle.exports.specs.declared.moves.TaskNumbers.{TaskNumbers}
 use Rattle.exports.specs.declared.moves.RecordNumbers.{RecordNumbers}
@@ -22,11 +20,11 @@ use Rattle.exports.specs.Enums.{move_mode_read, loop_direction_read, move_mode_k
 -- ---- reading
 
 -- the sign 0 is no way
-unfoldable pub delta_of : ℕ → ℕ → HueDelta
-delta_of sign size = cond (eqb sign 0) HueDelta.Keep (HueDelta.By (signed sign size))
+unfoldable pub delta_of : ℕ → ℕ → Option ℤ
+delta_of sign size = cond (eqb sign 0) None (Some (signed sign size))
 
-unfoldable pub target_of : ℕ → ℕ → TargetSaturation
-target_of given saturation = cond (eqb given 0) TargetSaturation.Keep (TargetSaturation.To (byte saturation))
+unfoldable pub target_of : ℕ → ℕ → Option ℕ
+target_of given saturation = cond (eqb given 0) None (Some (byte saturation))
 
 unfoldable pub move_to_of : TaskNumbers → HueSaturationMoveTo
 move_to_of n =
@@ -117,21 +115,21 @@ numbers kind a b c d e f = record { kind = kind; a = a; b = b; c = c; d = d; e =
 abbrev pub none : TaskNumbers
 none = numbers 0 0 0 0 0 0 0
 
-abbrev pub delta_sign : HueDelta → ℕ
-delta_sign HueDelta.Keep = 0
-delta_sign (HueDelta.By way) = sign_of way
+abbrev pub delta_sign : Option ℤ → ℕ
+delta_sign None = 0
+delta_sign (Some way) = sign_of way
 
-abbrev pub delta_size : HueDelta → ℕ
-delta_size HueDelta.Keep = 0
-delta_size (HueDelta.By way) = size_of way
+abbrev pub delta_size : Option ℤ → ℕ
+delta_size None = 0
+delta_size (Some way) = size_of way
 
-abbrev pub target_given : TargetSaturation → ℕ
-target_given TargetSaturation.Keep = 0
-target_given (TargetSaturation.To saturation) = 1
+abbrev pub target_given : Option ℕ → ℕ
+target_given None = 0
+target_given (Some saturation) = 1
 
-abbrev pub target_number : TargetSaturation → ℕ
-target_number TargetSaturation.Keep = 0
-target_number (TargetSaturation.To saturation) = saturation
+abbrev pub target_number : Option ℕ → ℕ
+target_number None = 0
+target_number (Some saturation) = saturation
 
 abbrev pub move_to_numbers : HueSaturationMoveTo → TaskNumbers
 move_to_numbers t =
@@ -163,9 +161,9 @@ task_numbers (Task.ColorTemperatureMove t) = mireds_move_numbers t
 task_numbers (Task.ColorLoop t) = color_loop_numbers t
 task_numbers Task.Stop = numbers 7 0 0 0 0 0 0
 
-unfoldable pub given_numbers : GivenTask → TaskNumbers
-given_numbers GivenTask.Nothing = none
-given_numbers (GivenTask.Given task) = task_numbers task
+unfoldable pub given_numbers : Option Task → TaskNumbers
+given_numbers None = none
+given_numbers (Some task) = task_numbers task
 
 abbrev pub found : ℕ → ℕ → ℕ → TaskNumbers → RecordNumbers
 found start x y task = record { start = start; x = x; y = y; task = task }

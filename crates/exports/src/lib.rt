@@ -14,7 +14,7 @@ ghost use Rattle.exports.specs.Exported.{made, answered};
 use answers::ANSWER_WORDS;
 pub use answers::place;
 pub use calls::{CALL_WORDS, sent};
-use lamp::{Lamp, Made};
+use lamp::{Lamp, };
 pub use lamps::{LAMP_WORDS, lamp_of};
 use matter::Bounds;
 pub use moves::{RecordNumbers, TaskNumbers, of_given, of_running};
@@ -53,12 +53,12 @@ pub fn yemkruos_new(
     let bounds = Bounds { min: min, max: max };
     let made = Lamp::new(bounds, features, options, clock);
     match made {
-        Made::Lamp(lamp) => {
+        Ok(lamp) => {
             let after = lamps::lamp_words(lamp);
             copy(&after, words);
             0
         }
-        Made::Refused(number) => number as u64,
+        Err(number) => number as u64,
     }
 }
 

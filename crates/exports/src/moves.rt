@@ -7,8 +7,8 @@ ghost use Rattle.exports.specs.Moves.{delta_of, target_of, move_to_of, hue_move_
 use crate::{enums, words};
 use tasks::{
     ColorLoop, ColorTemperatureMove, ColorTemperatureMoveTo, ColorTemperatureRun,
-    ColorTemperatureToRun, GivenTask, HueDelta, HueMove, HueRun, HueSaturationMoveTo,
-    HueSaturationRun, Running, SaturationMove, SaturationRun, TargetSaturation, Task,
+    ColorTemperatureToRun, HueMove, HueRun, HueSaturationMoveTo,
+    HueSaturationRun, Running, SaturationMove, SaturationRun, Task,
 };
 
 // The kinds of tasks and records. 0 is no task, and an idle lamp.
@@ -51,24 +51,24 @@ pub struct RecordNumbers {
 }
 
 #[tactic(auto, unfolding(crate::specs::Moves::delta_of))]
-fn delta(sign: u64, size: u64) -> HueDelta
+fn delta(sign: u64, size: u64) -> Option<i64>
     ensures { result ≡ delta_of sign size }
 {
     if sign == 0 {
-        HueDelta::Keep
+        None
     } else {
-        HueDelta::By(words::signed(sign, size))
+        Some(words::signed(sign, size))
     }
 }
 
 #[tactic(auto, unfolding(crate::specs::Moves::target_of))]
-fn target(given: u64, saturation: u64) -> TargetSaturation
+fn target(given: u64, saturation: u64) -> Option<u8>
     ensures { result ≡ target_of given saturation }
 {
     if given == 0 {
-        TargetSaturation::Keep
+        None
     } else {
-        TargetSaturation::To(words::byte(saturation))
+        Some(words::byte(saturation))
     }
 }
 
@@ -280,39 +280,39 @@ fn numbers(kind: u64, a: u64, b: u64, c: u64, d: u64, e: u64, f: u64) -> TaskNum
     }
 }
 
-fn delta_sign(delta: HueDelta) -> u64
+fn delta_sign(delta: Option<i64>) -> u64
     ensures { result ≡ delta_sign delta }
 {
     match delta {
-        HueDelta::Keep => 0,
-        HueDelta::By(way) => words::sign_of(way),
+        None => 0,
+        Some(way) => words::sign_of(way),
     }
 }
 
-fn delta_size(delta: HueDelta) -> u64
+fn delta_size(delta: Option<i64>) -> u64
     ensures { result ≡ delta_size delta }
 {
     match delta {
-        HueDelta::Keep => 0,
-        HueDelta::By(way) => words::size_of(way),
+        None => 0,
+        Some(way) => words::size_of(way),
     }
 }
 
-fn target_given(target: TargetSaturation) -> u64
+fn target_given(target: Option<u8>) -> u64
     ensures { result ≡ target_given target }
 {
     match target {
-        TargetSaturation::Keep => 0,
-        TargetSaturation::To(_) => 1,
+        None => 0,
+        Some(_) => 1,
     }
 }
 
-fn target_saturation(target: TargetSaturation) -> u64
+fn target_saturation(target: Option<u8>) -> u64
     ensures { result ≡ target_number target }
 {
     match target {
-        TargetSaturation::Keep => 0,
-        TargetSaturation::To(saturation) => saturation as u64,
+        None => 0,
+        Some(saturation) => saturation as u64,
     }
 }
 
@@ -413,12 +413,12 @@ pub(crate) fn of_task(task: Task) -> TaskNumbers
 }
 
 #[tactic(auto, unfolding(crate::specs::Moves::given_numbers))]
-pub fn of_given(task: GivenTask) -> TaskNumbers
+pub fn of_given(task: Option<Task>) -> TaskNumbers
     ensures { result ≡ given_numbers task }
 {
     match task {
-        GivenTask::Nothing => numbers(0, 0, 0, 0, 0, 0, 0),
-        GivenTask::Given(t) => of_task(t),
+        None => numbers(0, 0, 0, 0, 0, 0, 0),
+        Some(t) => of_task(t),
     }
 }
 

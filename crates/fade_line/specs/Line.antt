@@ -1,10 +1,10 @@
 -- The line that `fade` reads: document 01, "The program `fade`". Bytes are numbers; 10 is the newline, 32 the blank,
 -- 48 to 57 the digits.
-use Rattle.std.specs.Prelude.{ℕ, Bool, true, cond, ◌&&◌, List, [], ◌∷◌, eqb, leb, length, get_or, Option, Some, None, option_map}
+use Rattle.std.specs.Prelude.{ℕ, Bool, true, cond, ◌&&◌, List, [], ◌∷◌, eqb, leb, length, get_or, Option, Some, None, option_map, Result, Ok, Err}
 use Rattle.text.specs.Digits.{value, is_number}
 use Rattle.text.specs.Words.{up_to}
 use Rattle.matter.specs.Numbers.{direction_found}
-use Rattle.matter.specs.declared.enums.DirectionFound.{DirectionFound}
+use Rattle.matter.specs.declared.enums.Reserved.{Reserved}
 use Rattle.matter.specs.declared.enums.DirectionEnum.{DirectionEnum}
 use Rattle.fade_line.specs.declared.reader.Wanted.{Wanted}
 
@@ -31,9 +31,9 @@ abbrev pub all_numbers : List (List ℕ) → Bool
 all_numbers [] = true
 all_numbers (w ∷ ws) = is_number largest w && all_numbers ws
 
-abbrev pub known : DirectionFound → Option DirectionEnum
-known (DirectionFound.Known direction) = Some direction
-known DirectionFound.Reserved = None
+abbrev pub known : Result DirectionEnum Reserved → Option DirectionEnum
+known (Ok direction) = Some direction
+known (Err reserved) = None
 
 -- "hue, direction (0 Shortest, 1 Longest, 2 Up, 3 Down), tenths, clock"; "a direction above 3, or a number past its
 -- field (hue 255, tenths 65,535, clock 64 bits)" is a bad line, which asks for nothing

@@ -1,10 +1,10 @@
 // Reading the line of `fade`: four numbers, parted by single blanks. The line may be of any length and may come in parts,
 // so it is read a byte at a time, and what has been read is kept in a few numbers.
 ghost use Rattle.std.specs.Prelude.{◌≡◌};
-ghost use Rattle.fade_line.specs.Line.{known, wanted, asked_by};
+ghost use Rattle.fade_line.specs.Line.{wanted, asked_by};
 ghost use Rattle.fade_line.specs.Reading.{fresh, unless_spoilt, next_word, next_digit, settled, open_byte, read_byte, read_all, asked_of, line_read};
 
-use matter::{DirectionEnum, DirectionFound};
+use matter::DirectionEnum;
 use text::digits::with_digit;
 
 // The fade that a line asks for.
@@ -34,15 +34,6 @@ pub enum Reader {
     Bad,
 }
 
-fn known(found: DirectionFound) -> Option<DirectionEnum>
-    ensures { result ≡ known found }
-{
-    match found {
-        DirectionFound::Known(direction) => Some(direction),
-        DirectionFound::Reserved => None,
-    }
-}
-
 // The fade of four numbers, where each is within its field.
 #[tactic(auto, unfolding(crate::specs::Line::wanted))]
 fn wanted_of(hue: u64, direction: u64, tenths: u64, clock: u64) -> Option<Wanted>
@@ -53,7 +44,7 @@ fn wanted_of(hue: u64, direction: u64, tenths: u64, clock: u64) -> Option<Wanted
     }
     Some(Wanted {
         hue: u8::try_from(hue).ok()?,
-        direction: known(DirectionEnum::of_number(direction as u8))?,
+        direction: DirectionEnum::try_from(direction as u8).ok()?,
         tenths: u16::try_from(tenths).ok()?,
         clock,
     })

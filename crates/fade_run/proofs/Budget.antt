@@ -1,5 +1,6 @@
 -- As many steps as the fade has tenths are enough: with more, the run is the same. So it ends because it is done, or refused,
 -- and never for want of steps.
+use Rattle.std.specs.Prelude.{Option, Some, None}
 use Prim.Native.Nat.{ℕ, zero, suc, ◌+◌, ◌-◌, ◌*◌, ◌≤◌, ◌<◌, min}
 use mathlib.Core.Bool.{Bool, true, false, cond, ◌&&◌, ◌||◌, false≢true}
 use mathlib.Core.List.{List, [], ◌++◌}
@@ -18,15 +19,14 @@ use Rattle.matter.proofs.Laws.{cond_both, and_left, or_left}
 use Rattle.hue.specs.Hue.{path_delta}
 use Rattle.progress.specs.Progress.{permille_of, end_wait}
 use Rattle.progress.proofs.Laws.{permille-full}
-use Rattle.tasks.specs.declared.HueDelta.{HueDelta}
-use Rattle.tasks.specs.declared.TargetSaturation.{TargetSaturation}
 use Rattle.tasks.specs.declared.HueSaturationMoveTo.{HueSaturationMoveTo}
 use Rattle.tasks.specs.declared.HueSaturationRun.{HueSaturationRun}
 use Rattle.tasks.specs.declared.Task.{Task}
 use Rattle.tasks.specs.declared.Running.{Running}
 use Rattle.tasks.specs.Runs.{runs}
 use Rattle.lamp.specs.declared.Lamp.{Lamp}
-use Rattle.lamp.specs.declared.Made.{Made}
+use Rattle.std.specs.Prelude.{Result, Ok, Err}
+use Rattle.matter.specs.declared.refusals.Refusal.{Refusal}
 use Rattle.lamp.specs.declared.Answer.{Answer}
 use Rattle.lamp.specs.Answers.{at_clock, refusal}
 use Rattle.lamp.specs.Making.{fresh_lamp, making_cause, making}
@@ -147,7 +147,7 @@ module _ (w : Wanted) (j : ℕ) where
   asked = request (Command.MoveToHue w.hue w.direction w.tenths) no_options
 
   abbrev task : Lamp → HueSaturationMoveTo
-  task l = record { delta = HueDelta.By (path_delta l.color.hue (stored w.hue) w.direction); saturation = TargetSaturation.Keep; ms = ms w.tenths; enhanced = false }
+  task l = record { delta = Some (path_delta l.color.hue (stored w.hue) w.direction); saturation = None; ms = ms w.tenths; enhanced = false }
 
   abbrev bounds : Bounds
   bounds = record { min = 153; max = 500 }
@@ -166,6 +166,6 @@ module _ (w : Wanted) (j : ℕ) where
   pub budget-enough : text (fade_within (j + w.tenths) w) ≡ text (fade_within w.tenths w)
   unfolding making
   budget-enough =
-      cond_both (λ (m : Made). text (after_making (j + w.tenths) w m) ≡ text (after_making w.tenths w m)) (eqb (making_cause bounds w.clock) accepted) _ _
+      cond_both (λ (m : Result Lamp Refusal). text (after_making (j + w.tenths) w m) ≡ text (after_making w.tenths w m)) (eqb (making_cause bounds w.clock) accepted) _ _
       (λ t. commanded-enough (fresh_lamp bounds 31 0 w.clock))
       (λ t. refl)

@@ -1,14 +1,15 @@
 -- The program `fade`: document 01, "Checked by sums". "It makes this lamp at that clock, gives the plain command,
 -- starts it, and steps at each wait until done."
+use Rattle.std.specs.Prelude.{Option, Some, None}
 use Rattle.std.specs.Prelude.{ℕ, zero, suc, ◌+◌, ◌-◌, Bool, true, false, cond, ◌&&◌, ◌||◌, List, [], ◌++◌, eqb, ltb, Option, Some, None}
 use Rattle.matter.specs.declared.commands.Command.{Command}
 use Rattle.matter.specs.Requests.{request, no_options}
 use Rattle.matter.specs.declared.enums.OnOff.{OnOff}
 use Rattle.matter.specs.Causes.{accepted}
-use Rattle.tasks.specs.declared.GivenTask.{GivenTask}
 use Rattle.tasks.specs.Runs.{runs}
 use Rattle.lamp.specs.declared.Lamp.{Lamp}
-use Rattle.lamp.specs.declared.Made.{Made}
+use Rattle.std.specs.Prelude.{Result, Ok, Err}
+use Rattle.matter.specs.declared.refusals.Refusal.{Refusal}
 use Rattle.lamp.specs.declared.Answer.{Answer}
 use Rattle.lamp.specs.Making.{making}
 use Rattle.lamp.specs.Calls.{start_answer, step_answer}
@@ -67,9 +68,9 @@ text Fade.Over = []
 
 -- ---- a run as it begins, with so many steps at most
 
-abbrev pub start_of : ℕ → ℕ → Lamp → GivenTask → Fade
-start_of left clock l GivenTask.Nothing = Fade.Over
-start_of left clock l (GivenTask.Given task) = Fade.Start (record { lamp = l; task = task; clock = clock; left = left })
+abbrev pub start_of : ℕ → ℕ → Lamp → Option Task → Fade
+start_of left clock l None = Fade.Over
+start_of left clock l (Some task) = Fade.Start (record { lamp = l; task = task; clock = clock; left = left })
 
 abbrev pub after_command : ℕ → ℕ → Answer → Fade
 after_command left clock a =
@@ -81,9 +82,9 @@ commanded left w l =
     after_command left w.clock
     (command_answer l (request (Command.MoveToHue w.hue w.direction w.tenths) no_options) OnOff.On w.clock)
 
-abbrev pub after_making : ℕ → Wanted → Made → Fade
-after_making left w (Made.Refused number) = Fade.Refused number
-after_making left w (Made.Lamp l) = commanded left w l
+abbrev pub after_making : ℕ → Wanted → Result Lamp Refusal → Fade
+after_making left w (Err number) = Fade.Refused number
+after_making left w (Ok l) = commanded left w l
 
 -- "It makes this lamp": "bounds 153 and 500, [..] hue 0, mireds 250, on, XY mode"
 abbrev pub fade_within : ℕ → Wanted → Fade

@@ -10,9 +10,9 @@ use commands::invoke;
 use fade_line::reader::Wanted;
 use fade_line::writer;
 use fade_line::writer::{LONGEST, Line};
-use lamp::{Answer, Lamp, Made};
+use lamp::{Answer, Lamp, };
 use matter::{ACCEPTED, Bounds, Command, CommandOptions, OnOff, Request};
-use tasks::{GivenTask, Task};
+use tasks::{Task};
 
 // A start, and a step, that is to come, with how many more steps there may be.
 #[derive(Clone, Copy)]
@@ -40,12 +40,12 @@ pub enum Fade {
     Over,
 }
 
-fn start_of(lamp: Lamp, given: GivenTask, clock: u64, left: u16) -> Fade
+fn start_of(lamp: Lamp, given: Option<Task>, clock: u64, left: u16) -> Fade
     ensures { result ≡ start_of left clock lamp given }
 {
     match given {
-        GivenTask::Nothing => Fade::Over,
-        GivenTask::Given(task) => Fade::Start(Starting {
+        None => Fade::Over,
+        Some(task) => Fade::Start(Starting {
             lamp,
             task,
             clock,
@@ -86,8 +86,8 @@ fn begin(wanted: Wanted) -> Fade
     ensures { result ≡ fade_within wanted.tenths wanted }
 {
     match Lamp::new(Bounds { min: 153, max: 500 }, 31, 0, wanted.clock) {
-        Made::Refused(number) => Fade::Refused(number),
-        Made::Lamp(lamp) => command(lamp, wanted),
+        Err(number) => Fade::Refused(number),
+        Ok(lamp) => command(lamp, wanted),
     }
 }
 

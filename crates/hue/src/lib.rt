@@ -12,23 +12,11 @@ use matter::DirectionEnum;
 fn distance_up(from: u16, to: u16) -> u16
     ensures { result ≡ distance from to }
 {
-    std::num::wrapping_sub_u16(to, from)
-}
-
-fn plus(n: u16) -> i32
-    ensures { result ≡ pos n }
-{
-    n as i32
-}
-
-fn minus(n: u16) -> i32
-    ensures { result ≡ neg_ℤ (pos n) }
-{
-    -(n as i32)
+    to.wrapping_sub(from)
 }
 
 // The signed delta from one hue to another. A tie: Shortest or Longest was asked, and both distances are 32,768.
-#[derive(Clone, Copy)]
+#[derive(Clone, Copy, Debug, PartialEq, Eq)]
 pub struct HuePath {
     pub delta: i32,
     pub is_tie: bool,
@@ -42,10 +30,22 @@ fn chosen_delta(up: u16, down: u16, direction: DirectionEnum) -> i32
     ensures { result ≡ chosen direction up down }
 {
     match direction {
-        DirectionEnum::Up => plus(up),
-        DirectionEnum::Down => minus(down),
-        DirectionEnum::Shortest => { if up <= down { plus(up) } else { minus(down) } }
-        DirectionEnum::Longest => { if up > down { plus(up) } else { minus(down) } }
+        DirectionEnum::Up => i32::from(up),
+        DirectionEnum::Down => -i32::from(down),
+        DirectionEnum::Shortest => {
+            if up <= down {
+                i32::from(up)
+            } else {
+                -i32::from(down)
+            }
+        }
+        DirectionEnum::Longest => {
+            if up > down {
+                i32::from(up)
+            } else {
+                -i32::from(down)
+            }
+        }
     }
 }
 
@@ -77,9 +77,9 @@ pub fn moved_hue(start: u16, part: i64) -> u16
 {
     let turn = part % 65536;
     if turn >= 0 {
-        std::num::wrapping_add_u16(start, turn as u16)
+        start.wrapping_add(turn as u16)
     } else {
-        std::num::wrapping_sub_u16(start, (0 - turn) as u16)
+        start.wrapping_sub((0 - turn) as u16)
     }
 }
 
@@ -90,10 +90,5 @@ pub const LAST_CURRENT_HUE: u8 = 254;
 pub fn current_hue(hue: u16) -> u8
     ensures { result ≡ current_hue hue }
 {
-    let upper = hue / 256;
-    if upper < LAST_CURRENT_HUE as u16 {
-        upper as u8
-    } else {
-        LAST_CURRENT_HUE
-    }
+    ((hue / 256) as u8).min(LAST_CURRENT_HUE)
 }

@@ -1,4 +1,5 @@
 -- A start or step changes the colour, the remaining time and the running record alone, and keeps the widths of a lamp's numbers.
+use Rattle.std.specs.Prelude.{Option, Some, None, ℤ}
 use Prim.Native.Nat.{ℕ, ◌-◌, ◌≤◌}
 use mathlib.Core.Bool.{Bool, true, false}
 use mathlib.Core.Path.{◌≡◌, refl}
@@ -15,8 +16,6 @@ use Rattle.remaining_time.specs.declared.RemainingTime.{RemainingTime}
 use Rattle.color.specs.declared.Color.{Color}
 use Rattle.color.specs.Valid.{color_valid}
 use Rattle.color.proofs.Kept.{valid-saturation, valid-above, valid-below, valid-stamps, hue-word, saturation-hue, mireds-hue}
-use Rattle.tasks.specs.declared.HueDelta.{HueDelta}
-use Rattle.tasks.specs.declared.TargetSaturation.{TargetSaturation}
 use Rattle.tasks.specs.declared.HueSaturationRun.{HueSaturationRun}
 use Rattle.tasks.specs.declared.HueRun.{HueRun}
 use Rattle.tasks.specs.declared.SaturationRun.{SaturationRun}
@@ -104,14 +103,14 @@ module _ (l : Lamp) (in_range : InRangeLamp l) where
   unless-in-range end r h = cond_both InRangeRunning end _ r (λ e. tt) (λ e. h)
 
   -- the hue's part of a move-to leaves a hue
-  hue-part-word : (d : HueDelta) (start permille : ℕ) (enhanced : Bool) → Short (hue_moved l.color d start permille enhanced l.clock).color.hue
-  hue-part-word HueDelta.Keep start permille enhanced = in_range.hue
-  hue-part-word (HueDelta.By way) start permille enhanced = hue-word _ _ _ _ enhanced in_range.hue (moved-small _ _)
+  hue-part-word : (d : Option ℤ) (start permille : ℕ) (enhanced : Bool) → Short (hue_moved l.color d start permille enhanced l.clock).color.hue
+  hue-part-word None start permille enhanced = in_range.hue
+  hue-part-word (Some way) start permille enhanced = hue-word _ _ _ _ enhanced in_range.hue (moved-small _ _)
 
   -- the saturation's leaves the hue
-  saturation-part-hue : (c : Color) (t : TargetSaturation) (start permille : ℕ) → (saturation_moved c t start permille l.clock).color.hue ≡ c.hue
-  saturation-part-hue c TargetSaturation.Keep start permille = refl
-  saturation-part-hue c (TargetSaturation.To target) start permille = saturation-hue c _ _ _
+  saturation-part-hue : (c : Color) (t : Option ℕ) (start permille : ℕ) → (saturation_moved c t start permille l.clock).color.hue ≡ c.hue
+  saturation-part-hue c None start permille = refl
+  saturation-part-hue c (Some target) start permille = saturation-hue c _ _ _
 
   -- a pass of a move-to keeps widths, if it keeps validity
   hue-saturation-in-range : (t : RemainingTime) (run : HueSaturationRun) (permille : ℕ) → InRangeRunning (Running.HueSaturationMoveTo run) → lamp_valid (left_effect l (left_by false (hue_saturation_passed (found_with l t) run permille) (Running.HueSaturationMoveTo run))).lamp ≡ true → InRangeLamp (left_effect l (left_by false (hue_saturation_passed (found_with l t) run permille) (Running.HueSaturationMoveTo run))).lamp

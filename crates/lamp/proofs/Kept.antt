@@ -1,29 +1,33 @@
 -- Form is kept: by the clock that goes on, by every pass, start and step, and by the answers of starts, steps and halts.
 -- A start or step reports few notices, none of them a command's.
+use Rattle.color.specs.Setters.{change_of}
+use Rattle.notices.specs.declared.Notice.{Notice}
+use Rattle.color.proofs.Laws.{AttributeBelow}
+use Rattle.matter.specs.declared.refusals.Refusal.{Refusal}
+use Rattle.matter.specs.Causes.{accepted, Verdict}
+use Rattle.std.specs.Prelude.{Option, Some, None, ℤ, Err, is_ok, Ok}
 use Prim.Native.Nat.{ℕ, zero, suc, ◌-◌, ◌≤◌, ◌<◌}
 use mathlib.Core.Bool.{Bool, true, false, cond, not, ◌||◌, true≢false}
 use mathlib.Core.List.{List, [], ◌++◌}
 use mathlib.Core.Path.{◌≡◌, refl, sym, ap}
 use native.Mathlib.Omega.{arith}
-use lib.Dec.{leb, ltb, eqb}
+use lib.Dec.{leb, ltb}
 use lib.IntN.{pos}
 use lib.ListN.{length, length-append}
-use borrow.Author.Tests.{leb-true, leb-false, le-leb, lt-ltb, ltb-true, ltb-false, eqb-true, eqb-false, not-false}
+use borrow.Author.Tests.{leb-true, leb-false, le-leb, lt-ltb, ltb-true, ltb-false, not-false}
 use Rattle.matter.specs.declared.limits.Bounds.{Bounds}
-use Rattle.matter.proofs.Laws.{and_left, and_right, cond_both, leb-later, each, all_of}
+use Rattle.matter.proofs.Laws.{and_left, and_right, cond_both, leb-later, each, all_of, accepted-of, refused-of}
 use Rattle.matter.specs.Limits.{clock_limit, saturation_limit}
 use Rattle.notices.proofs.Laws.{only_one}
 use Rattle.notices.proofs.Numerals.{Below, none, below-append, below-only}
 use Rattle.notices.specs.Notices.{only}
-use Rattle.notices.specs.Names.{RemainingTime, EnhancedCurrentHue}
+use Rattle.notices.specs.Names.{RemainingTime, EnhancedCurrentHue, notice_number}
 use Rattle.remaining_time.specs.declared.RemainingTime.{RemainingTime as Remaining}
 use Rattle.progress.proofs.Laws.{clamp-within}
 use Rattle.progress.specs.Progress.{permille_of, delta_at_rate, clamp, clamped_sum}
 use Rattle.color.specs.declared.Color.{Color}
 use Rattle.color.specs.Valid.{color_valid}
-use Rattle.color.proofs.Kept.{color-later, valid-saturation, valid-above, valid-below, hue-kept, saturation-kept, mireds-kept}
-use Rattle.tasks.specs.declared.HueDelta.{HueDelta}
-use Rattle.tasks.specs.declared.TargetSaturation.{TargetSaturation}
+use Rattle.color.proofs.Kept.{color-later, valid-saturation, valid-above, valid-below, hue-kept, saturation-kept, mireds-kept, enhanced_change}
 use Rattle.tasks.specs.declared.HueSaturationMoveTo.{HueSaturationMoveTo}
 use Rattle.tasks.specs.declared.ColorTemperatureMoveTo.{ColorTemperatureMoveTo}
 use Rattle.tasks.specs.declared.ColorTemperatureMove.{ColorTemperatureMove}
@@ -46,7 +50,7 @@ use Rattle.lamp.specs.Valid.{lamp_valid}
 use Rattle.matter.specs.Rules.{signed}
 use Rattle.lamp.specs.declared.passes.Found.{Found}
 use Rattle.lamp.specs.declared.passes.Passed.{Passed}
-use Rattle.lamp.proofs.Passed.{pass-few, pass_below}
+use Rattle.lamp.proofs.Passed.{pass-few, pass_below, DeviceBelow}
 use Rattle.lamp.specs.Passes.{Effect, unless, found_with, found_in, left_by, left_effect, idled, pass_reported, hue_saturation_passed, temperature_to_passed, at_end, saturation_done, mireds_done, hue_moved, saturation_moved, mireds_now, hue_pass, saturation_pass, temperature_pass, loop_pass, hue_passed, hue_saturation_moved, loop_passed, saturation_passed, temperature_passed, temperature_to_moved, timed}
 
 -- ---- the parts of validity
@@ -116,14 +120,14 @@ module _ (l : Lamp) (timely : l.clock ≤ clock_limit) (validity : color_valid l
   unless-valid end r h = cond_both (λ s. running_valid s l.bounds l.clock ≡ true) end _ r (λ e. refl) h
 
   -- the hue's part of a move-to
-  hue-part : (d : HueDelta) (start permille : ℕ) (enhanced : Bool) → color_valid (hue_moved l.color d start permille enhanced l.clock).color l.bounds l.clock ≡ true
-  hue-part HueDelta.Keep start permille enhanced = validity
-  hue-part (HueDelta.By way) start permille enhanced = hue-kept l.color l.bounds l.clock validity _ (at_end permille) enhanced
+  hue-part : (d : Option ℤ) (start permille : ℕ) (enhanced : Bool) → color_valid (hue_moved l.color d start permille enhanced l.clock).color l.bounds l.clock ≡ true
+  hue-part None start permille enhanced = validity
+  hue-part (Some way) start permille enhanced = hue-kept l.color l.bounds l.clock validity _ (at_end permille) enhanced
 
   -- the saturation's, on a valid colour
-  saturation-part : (c : Color) (t : TargetSaturation) (start permille : ℕ) → color_valid c l.bounds l.clock ≡ true → saturation_valid t ≡ true → color_valid (saturation_moved c t start permille l.clock).color l.bounds l.clock ≡ true
-  saturation-part c TargetSaturation.Keep start permille e h = e
-  saturation-part c (TargetSaturation.To target) start permille e h =
+  saturation-part : (c : Color) (t : Option ℕ) (start permille : ℕ) → color_valid c l.bounds l.clock ≡ true → saturation_valid t ≡ true → color_valid (saturation_moved c t start permille l.clock).color l.bounds l.clock ≡ true
+  saturation-part c None start permille e h = e
+  saturation-part c (Some target) start permille e h =
       saturation-kept c l.bounds l.clock e _ (at_end permille)
       (cond_both (λ n. n ≤ saturation_limit) (at_end permille) target _ (λ t. leb-true _ _ h) (λ t. (clamp-within 0 saturation_limit _ (omega arith)).1))
 
@@ -254,20 +258,20 @@ stepped-valid l h = step_of l l.running h (valid-running l h)
 
 -- ---- what an accepted call says
 
--- a choice of which the first side is a cause, and which gives none: the second side is taken, and is none
-no-first : (t : Bool) (n m : ℕ) → cond t (suc n) m ≡ 0 → (t ≡ false) × (m ≡ 0)
-no-first true n m e = absurd (omega arith)
-no-first false n m e = (refl, e)
+-- a choice of which the first side is a refusal, and which accepts: the second side is taken, and accepts
+no-first : (t : Bool) (refusal : Refusal) (v : Verdict) → cond t (Err refusal) v ≡ accepted → (t ≡ false) × (v ≡ accepted)
+no-first true refusal v e = absurd (refused-of (Err refusal) refl e)
+no-first false refusal v e = (refl, e)
 
--- a choice of which only the second side is a cause
-no_second : (t : Bool) (n : ℕ) → cond t 0 (suc n) ≡ 0 → t ≡ true
-no_second true n e = refl
-no_second false n e = absurd (omega arith)
+-- a choice of which only the second side is a refusal
+no_second : (t : Bool) (refusal : Refusal) → cond t accepted (Err refusal) ≡ accepted → t ≡ true
+no_second true refusal e = refl
+no_second false refusal e = absurd (refused-of (Err refusal) refl e)
 
--- two causes, of which the second counts where the first is none
-pub no-cause : (first second : ℕ) → cond (eqb first 0) second first ≡ 0 → (first ≡ 0) × (second ≡ 0)
-no-cause first second e =
-    cond_both (λ n. n ≡ 0 → (first ≡ 0) × (second ≡ 0)) (eqb first 0) second first (λ t z. (eqb-true first 0 t, z)) (λ t z. absurd (eqb-false first 0 t z)) e
+-- two verdicts, of which the second counts where the first accepts
+pub no-cause : (first second : Verdict) → cond (is_ok first) second first ≡ accepted → (first ≡ accepted) × (second ≡ accepted)
+no-cause (Ok u) second e = (refl, e)
+no-cause (Err refusal) second e = absurd (refused-of (Err refusal) refl e)
 
 module _ (l : Lamp) (clock : ℕ) where
   -- a clock that is not refused is no earlier than the lamp's, and at most the limit
@@ -280,31 +284,31 @@ module _ (l : Lamp) (clock : ℕ) where
       both false true p q h = absurd (true≢false h)
 
   -- neither 8 nor 4: the lamp at the call's clock is valid
-  pub ready : first_cause l clock ≡ 0 → lamp_valid (at_clock l clock) ≡ true
+  pub ready : first_cause l clock ≡ accepted → lamp_valid (at_clock l clock) ≡ true
   unfolding first_cause
   ready e =
-      let (f, c) = no-first (not (lamp_valid l)) 7 _ e in
-      let (h, k) = good-clock (no-first (bad_clock l clock) 3 0 c).0 in
+      let (f, c) = no-first (not (lamp_valid l)) Refusal.InvalidLamp _ e in
+      let (h, k) = good-clock (no-first (bad_clock l clock) Refusal.Clock accepted c).0 in
       later-valid l clock (not-false _ f) h k
 
   -- an accepted start: ready, and its task is valid
-  pub start-ready : (task : Task) → start_cause l task clock ≡ 0 → (lamp_valid (at_clock l clock) ≡ true) × (task_valid task ≡ true)
+  pub start-ready : (task : Task) → start_cause l task clock ≡ accepted → (lamp_valid (at_clock l clock) ≡ true) × (task_valid task ≡ true)
   start-ready task e =
       let (f, t) = no-cause (first_cause l clock) _ e in
-      (ready f, no_second (task_valid task) 5 t)
+      (ready f, no_second (task_valid task) Refusal.InvalidTask t)
 
   -- an accepted step: ready
-  pub step-ready : step_cause l clock ≡ 0 → lamp_valid (at_clock l clock) ≡ true
+  pub step-ready : step_cause l clock ≡ accepted → lamp_valid (at_clock l clock) ≡ true
   step-ready e =
-      let (f, r) = no-first (not (lamp_valid l)) 7 _ e in
-      let (h, k) = good-clock (no-first (bad_clock l clock) 3 0 (no-first (not (runs l.running)) 6 _ r).1).0 in
+      let (f, r) = no-first (not (lamp_valid l)) Refusal.InvalidLamp _ e in
+      let (h, k) = good-clock (no-first (bad_clock l clock) Refusal.Clock accepted (no-first (not (runs l.running)) Refusal.StepWhileIdle _ r).1).0 in
       later-valid l clock (not-false _ f) h k
 
 -- ---- answers keep validity
 
 -- what holds of a refusal, and of the answer where there is no cause, holds of the one chosen
-pub choose-both : (P : Answer → Type 0) (cause : ℕ) (l : Lamp) (a : Answer) → (cause ≡ 0 → P a) → ((cause ≡ 0 → ⊥) → P (refusal l cause)) → P (choose cause l a)
-choose-both P cause l a h k = cond_both P (eqb cause 0) a (refusal l cause) (λ e. h (eqb-true cause 0 e)) (λ e. k (eqb-false cause 0 e))
+pub choose-both : (P : Answer → Type 0) (v : Verdict) (l : Lamp) (a : Answer) → (v ≡ accepted → P a) → ((v ≡ accepted → ⊥) → P (refusal l v)) → P (choose v l a)
+choose-both P v l a h k = cond_both P (is_ok v) a (refusal l v) (λ e. h (accepted-of v e)) (λ e. k (refused-of v e))
 
 module _ (l : Lamp) (clock : ℕ) (validity : lamp_valid l ≡ true) where
   -- a start's answer
@@ -333,23 +337,32 @@ module _ (l : Lamp) (clock : ℕ) (validity : lamp_valid l ≡ true) where
 
 -- a pass whose second change is of no enhanced hue, and whose attributes and device have numbers below 17
 record Plain (p : Passed) : Type 0 where
-  unenhanced : p.second.enhanced ≡ false
-  first : p.first.attribute < 17
-  second : p.second.attribute < 17
-  device : p.device < 17
+  unenhanced : enhanced_change p.second ≡ false
+  first : AttributeBelow 17 p.first
+  second : AttributeBelow 17 p.second
+  device : DeviceBelow 17 p.device
+
+-- a change with this attribute, where it is one
+low-attribute : (same due enhanced : Bool) (attribute : Notice) → notice_number attribute < 17 → AttributeBelow 17 (change_of same due attribute enhanced)
+low-attribute true due enhanced attribute h = tt
+low-attribute false due enhanced attribute h = h
+
+plain-change : (same due : Bool) (attribute : Notice) → enhanced_change (change_of same due attribute false) ≡ false
+plain-change true due attribute = refl
+plain-change false due attribute = refl
 
 -- the hue's part of a move-to, and the saturation's
-hue-low : (c : Color) (d : HueDelta) (start permille : ℕ) (enhanced : Bool) (clock : ℕ) → (hue_moved c d start permille enhanced clock).change.attribute < 17
-hue-low c HueDelta.Keep start permille enhanced clock = omega arith
-hue-low c (HueDelta.By way) start permille enhanced clock = omega arith
+hue-low : (c : Color) (d : Option ℤ) (start permille : ℕ) (enhanced : Bool) (clock : ℕ) → AttributeBelow 17 (hue_moved c d start permille enhanced clock).change
+hue-low c None start permille enhanced clock = tt
+hue-low c (Some way) start permille enhanced clock = low-attribute _ _ enhanced Notice.CurrentHue (omega arith)
 
-saturation-low : (c : Color) (t : TargetSaturation) (start permille clock : ℕ) → (saturation_moved c t start permille clock).change.attribute < 17
-saturation-low c TargetSaturation.Keep start permille clock = omega arith
-saturation-low c (TargetSaturation.To target) start permille clock = omega arith
+saturation-low : (c : Color) (t : Option ℕ) (start permille clock : ℕ) → AttributeBelow 17 (saturation_moved c t start permille clock).change
+saturation-low c None start permille clock = tt
+saturation-low c (Some target) start permille clock = low-attribute _ _ false Notice.CurrentSaturation (omega arith)
 
-saturation-plain : (c : Color) (t : TargetSaturation) (start permille clock : ℕ) → (saturation_moved c t start permille clock).change.enhanced ≡ false
-saturation-plain c TargetSaturation.Keep start permille clock = refl
-saturation-plain c (TargetSaturation.To target) start permille clock = refl
+saturation-plain : (c : Color) (t : Option ℕ) (start permille clock : ℕ) → enhanced_change (saturation_moved c t start permille clock).change ≡ false
+saturation-plain c None start permille clock = refl
+saturation-plain c (Some target) start permille clock = plain-change _ _ Notice.CurrentSaturation
 
 both-plain : (f : Found) (run : HueSaturationRun) (permille : ℕ) → Plain (hue_saturation_passed f run permille)
 unfolding hue_saturation_moved timed
@@ -364,7 +377,7 @@ both-plain f run permille =
 -- what holds of no notices and of every such pass's, the full time in front or not, holds of what a start or step reports
 module _ (l : Lamp) (P : List ℕ → Type 0) (nothing : P []) (some : (full : Bool) (p : Passed) → Plain p → P (only full RemainingTime ++ pass_reported p l.looping.active)) where
   -- a pass of one change
-  one : (full : Bool) (p : Passed) → p.second.enhanced ≡ false → p.first.attribute < 17 → p.second.attribute < 17 → p.device < 17
+  one : (full : Bool) (p : Passed) → enhanced_change p.second ≡ false → AttributeBelow 17 p.first → AttributeBelow 17 p.second → DeviceBelow 17 p.device
       → P (only full RemainingTime ++ pass_reported p l.looping.active)
   one full p e f s d = some full p (record { unenhanced = e; first = f; second = s; device = d })
 
@@ -372,31 +385,31 @@ module _ (l : Lamp) (P : List ℕ → Type 0) (nothing : P []) (some : (full : B
   unfolding started hue_saturation_start timed temperature_to_start temperature_to_moved temperature_start temperature_passed hue_passed saturation_passed loop_passed
   started-by (Task.HueSaturationMoveTo task) = some (full_written l task.ms).reported (hue_saturation_start l task).passed (both-plain _ _ _)
   started-by (Task.HueMove task) =
-      one false (hue_passed (found_in l) (record { start = l.clock; hue = l.color.hue; task = task })) refl (omega arith) (omega arith) (omega arith)
+      one false (hue_passed (found_in l) (record { start = l.clock; hue = l.color.hue; task = task })) refl (low-attribute _ _ _ _ (omega arith)) tt (omega arith)
   started-by (Task.SaturationMove task) =
-      one false (saturation_passed (found_in l) (record { start = l.clock; saturation = l.color.saturation; task = task })) refl (omega arith) (omega arith) (omega arith)
+      one false (saturation_passed (found_in l) (record { start = l.clock; saturation = l.color.saturation; task = task })) refl (low-attribute _ _ _ _ (omega arith)) tt (omega arith)
   started-by (Task.ColorTemperatureMoveTo task) =
-      one (full_written l task.ms).reported (temperature_to_start l task).passed refl (omega arith) (omega arith) (omega arith)
+      one (full_written l task.ms).reported (temperature_to_start l task).passed refl (low-attribute _ _ _ _ (omega arith)) tt (omega arith)
   started-by (Task.ColorTemperatureMove task) =
       let lo : ℕ = lower l.bounds task.min in
       let hi : ℕ = upper l.bounds task.max in
       cond_both (λ (e : Effect). P e.reported) (leb hi lo) _ _ (λ t. nothing)
-      (λ t. one false (temperature_passed (found_in l) (record { start = l.clock; mireds = l.color.mireds; rate = task.rate; lo = lo; hi = hi })) refl (omega arith) (omega arith) (omega arith))
+      (λ t. one false (temperature_passed (found_in l) (record { start = l.clock; mireds = l.color.mireds; rate = task.rate; lo = lo; hi = hi })) refl (low-attribute _ _ _ _ (omega arith)) tt (omega arith))
   started-by (Task.ColorLoop task) =
-      one false (loop_passed (found_in l) (record { start = l.clock; hue = l.color.hue; task = task })) refl (omega arith) (omega arith) (omega arith)
+      one false (loop_passed (found_in l) (record { start = l.clock; hue = l.color.hue; task = task })) refl (low-attribute _ _ _ _ (omega arith)) tt (omega arith)
   started-by Task.Stop = nothing
 
   stepped_by : (r : Running) → P (stepped l r).reported
   unfolding stepped timed temperature_to_moved temperature_passed hue_passed saturation_passed loop_passed
   stepped_by Running.Idle = nothing
   stepped_by (Running.HueSaturationMoveTo run) = some false (hue_saturation_passed (found_in l) run _) (both-plain _ _ _)
-  stepped_by (Running.HueMove run) = one false (hue_passed (found_in l) run) refl (omega arith) (omega arith) (omega arith)
-  stepped_by (Running.SaturationMove run) = one false (saturation_passed (found_in l) run) refl (omega arith) (omega arith) (omega arith)
+  stepped_by (Running.HueMove run) = one false (hue_passed (found_in l) run) refl (low-attribute _ _ _ _ (omega arith)) tt (omega arith)
+  stepped_by (Running.SaturationMove run) = one false (saturation_passed (found_in l) run) refl (low-attribute _ _ _ _ (omega arith)) tt (omega arith)
   stepped_by (Running.ColorTemperatureMoveTo run) =
-      one false (temperature_to_passed (found_in l) run (permille_of (l.clock - run.start) run.task.ms)) refl (omega arith) (omega arith) (omega arith)
-  stepped_by (Running.ColorTemperatureMove run) = one false (temperature_passed (found_in l) run) refl (omega arith) (omega arith) (omega arith)
+      one false (temperature_to_passed (found_in l) run (permille_of (l.clock - run.start) run.task.ms)) refl (low-attribute _ _ _ _ (omega arith)) tt (omega arith)
+  stepped_by (Running.ColorTemperatureMove run) = one false (temperature_passed (found_in l) run) refl (low-attribute _ _ _ _ (omega arith)) tt (omega arith)
   stepped_by (Running.ColorLoop direction hue seconds start) =
-      one false (loop_passed (found_in l) (loop_run direction hue seconds start)) refl (omega arith) (omega arith) (omega arith)
+      one false (loop_passed (found_in l) (loop_run direction hue seconds start)) refl (low-attribute _ _ _ _ (omega arith)) tt (omega arith)
 
 module _ (l : Lamp) where
   -- with the full time in front, 14

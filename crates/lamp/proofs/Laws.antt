@@ -1,12 +1,13 @@
 -- Making and refusals: each number in its cause and in no other, and a lamp that is made is valid.
 use Prim.Native.Nat.{ℕ, ◌≤◌, ◌<◌}
-use mathlib.Core.Option.{some, none}
+use Rattle.std.specs.Prelude.{Some, None}
+use lib.Dec.{ltb}
+use Rattle.matter.specs.Causes.{unless_refused, accepted, clock_refused, crossed_bounds, invalid_lamp}
 use mathlib.Core.Bool.{Bool, true, false, cond}
-use mathlib.Core.Path.{◌≡◌, refl, sym, ap}
+use mathlib.Core.Path.{◌≡◌, refl}
 use native.Mathlib.Omega.{arith}
-use lib.Dec.{eqb}
 use lib.IntN.{pos}
-use borrow.Author.Tests.{eqb-true, lt-ltb, le-ltb, le-leb}
+use borrow.Author.Tests.{lt-ltb, le-ltb, le-leb}
 use Rattle.matter.specs.declared.limits.Bounds.{Bounds}
 use Rattle.matter.specs.declared.enums.EnhancedColorModeEnum.{EnhancedColorModeEnum}
 use Rattle.matter.proofs.Laws.{all_of}
@@ -18,7 +19,6 @@ use Rattle.color.specs.Valid.{modes_agree, color_valid}
 use Rattle.color.specs.Making.{new_color}
 use Rattle.tasks.specs.Valid.{running_valid}
 use Rattle.lamp.specs.declared.Lamp.{Lamp}
-use Rattle.lamp.specs.declared.Made.{Made}
 use Rattle.lamp.specs.Answers.{bad_clock, first_cause}
 use Rattle.lamp.specs.Valid.{lamp_valid}
 use Rattle.lamp.specs.Making.{fresh_lamp, making_cause, making, made_values, making_values}
@@ -26,26 +26,27 @@ use Rattle.lamp.specs.Making.{fresh_lamp, making_cause, making, made_values, mak
 -- ---- making: 4 exactly above the limit, whatever the bounds; 5 exactly at a good clock with crossed bounds
 
 module _ (bounds : Bounds) (clock : ℕ) where
-  pub making-clock : clock_limit < clock → making_cause bounds clock ≡ 4
+  pub making-clock : clock_limit < clock → making_cause bounds clock ≡ clock_refused
   making-clock h = simp (lt-ltb _ _ h)
 
-  pub making-crossed : clock ≤ clock_limit → bounds.max < bounds.min → making_cause bounds clock ≡ 5
+  pub making-crossed : clock ≤ clock_limit → bounds.max < bounds.min → making_cause bounds clock ≡ crossed_bounds
   making-crossed h k = simp (le-ltb _ _ h, lt-ltb _ _ k)
 
-  pub making-accepted : clock ≤ clock_limit → bounds.min ≤ bounds.max → making_cause bounds clock ≡ 0
+  pub making-accepted : clock ≤ clock_limit → bounds.min ≤ bounds.max → making_cause bounds clock ≡ accepted
   making-accepted h k = simp (le-ltb _ _ h, le-ltb _ _ k)
 
--- the answer's number is the cause, and its lamp the fresh one exactly where there is none
-values-by : (n : ℕ) (l : Lamp) (t : Bool) → eqb n 0 ≡ t →
-    made_values (cond t (Made.Lamp l) (Made.Refused n)) ≡ record { number = n; lamp = cond t (some l) none }
-values-by n l true e = ap (λ m. record { number = m; lamp = some l }) (sym (eqb-true n 0 e))
-values-by n l false e = refl
+-- the answer's number is the cause's, and its lamp the fresh one exactly where there is none
+values-by : (l : Lamp) (late crossed : Bool) →
+    made_values (unless_refused (cond late clock_refused (cond crossed crossed_bounds accepted)) l)
+    ≡ cond late (record { number = 4; lamp = None }) (cond crossed (record { number = 5; lamp = None }) (record { number = 0; lamp = Some l }))
+values-by l true crossed = refl
+values-by l false true = refl
+values-by l false false = refl
 
 pub made-values : (bounds : Bounds) (features options clock : ℕ) →
     made_values (making bounds features options clock) ≡ making_values bounds features options clock
 unfolding making making_values
-made-values bounds features options clock =
-    values-by (making_cause bounds clock) (fresh_lamp bounds features options clock) (eqb (making_cause bounds clock) 0) refl
+made-values bounds features options clock = values-by (fresh_lamp bounds features options clock) (ltb clock_limit clock) (ltb bounds.max bounds.min)
 
 -- ---- a lamp that is made is valid
 
@@ -81,14 +82,14 @@ clock-own l before h k =
 -- ---- 8 exactly invalid, whatever the clock; 4 exactly valid at a bad clock
 
 module _ (l : Lamp) (clock : ℕ) where
-  pub valid-first : lamp_valid l ≡ false → first_cause l clock ≡ 8
+  pub valid-first : lamp_valid l ≡ false → first_cause l clock ≡ invalid_lamp
   unfolding first_cause
   valid-first h = simp h
 
-  pub clock-second : lamp_valid l ≡ true → bad_clock l clock ≡ true → first_cause l clock ≡ 4
+  pub clock-second : lamp_valid l ≡ true → bad_clock l clock ≡ true → first_cause l clock ≡ clock_refused
   unfolding first_cause
   clock-second h k = simp (h, k)
 
-  pub neither : lamp_valid l ≡ true → bad_clock l clock ≡ false → first_cause l clock ≡ 0
+  pub neither : lamp_valid l ≡ true → bad_clock l clock ≡ false → first_cause l clock ≡ accepted
   unfolding first_cause
   neither h k = simp (h, k)

@@ -1,9 +1,9 @@
 -- What the answers of all calls share: document 01, "Why a call is turned away".
+use Rattle.std.specs.Prelude.{None}
 use Rattle.std.specs.Prelude.{ℕ, Bool, not, cond, ◌||◌, [], ltb}
-use Rattle.matter.specs.Causes.{accepted, clock_refused, invalid_lamp}
+use Rattle.matter.specs.Causes.{Verdict, accepted, clock_refused, invalid_lamp}
 use Rattle.matter.specs.Limits.{clock_limit}
 use Rattle.notices.specs.Notices.{noted}
-use Rattle.tasks.specs.declared.GivenTask.{GivenTask}
 use Rattle.lamp.specs.declared.Lamp.{Lamp}
 use Rattle.lamp.specs.declared.Answer.{Answer}
 use Rattle.lamp.specs.Valid.{lamp_valid}
@@ -26,9 +26,9 @@ abbrev pub bad_clock : Lamp → ℕ → Bool
 bad_clock l clock = ltb clock l.clock || ltb clock_limit clock
 
 -- 8, then 4: what a halt checks, and a command and a start before all else
-unfoldable pub first_cause : Lamp → ℕ → ℕ
+unfoldable pub first_cause : Lamp → ℕ → Verdict
 first_cause l clock = cond (not (lamp_valid l)) invalid_lamp (cond (bad_clock l clock) clock_refused accepted)
 
 -- "the number", the lamp as it was, "list empty"; "A refusal has no task and wait 0"
-abbrev pub refusal : Lamp → ℕ → Answer
-refusal l number = record { number = number; lamp = l; notices = noted []; task = GivenTask.Nothing; wait = 0 }
+abbrev pub refusal : Lamp → Verdict → Answer
+refusal l verdict = record { verdict = verdict; lamp = l; notices = noted []; task = None; wait = 0 }

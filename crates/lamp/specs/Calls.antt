@@ -1,14 +1,12 @@
 -- Starts, steps and halts: document 01, leaf 6, halt of "Added by design", and their rows of the table of causes.
-use Rattle.std.specs.Prelude.{ℕ, ◌-◌, Bool, true, not, cond, ◌&&◌, ◌||◌, leb, eqb, pos, nat_abs}
-use Rattle.matter.specs.Causes.{accepted, clock_refused, invalid_task, step_while_idle, invalid_lamp}
+use Rattle.std.specs.Prelude.{Option, Some, None, ℤ}
+use Rattle.std.specs.Prelude.{ℕ, ◌-◌, Bool, true, not, cond, ◌&&◌, ◌||◌, leb, eqb, is_ok, pos, nat_abs}
+use Rattle.matter.specs.Causes.{Verdict, accepted, clock_refused, invalid_task, step_while_idle, invalid_lamp}
 use Rattle.matter.specs.Bounds.{lower, upper}
 use Rattle.notices.specs.Notices.{noted}
 use Rattle.progress.specs.Progress.{permille_of, clamp}
 use Rattle.remaining_time.specs.declared.Written.{Written}
 use Rattle.remaining_time.specs.RemainingTime.{written_quietly}
-use Rattle.tasks.specs.declared.GivenTask.{GivenTask}
-use Rattle.tasks.specs.declared.HueDelta.{HueDelta}
-use Rattle.tasks.specs.declared.TargetSaturation.{TargetSaturation}
 use Rattle.tasks.specs.declared.HueSaturationMoveTo.{HueSaturationMoveTo}
 use Rattle.tasks.specs.declared.ColorTemperatureMoveTo.{ColorTemperatureMoveTo}
 use Rattle.tasks.specs.declared.ColorTemperatureMove.{ColorTemperatureMove}
@@ -34,13 +32,13 @@ abbrev pub full_written : Lamp → ℕ → Written
 full_written l ms = written_quietly l.remaining ms true
 
 -- no way at all: that of the hue is 0 or none is moved, and the saturation is there or none is moved
-abbrev pub no_hue_delta : HueDelta → Bool
-no_hue_delta HueDelta.Keep = true
-no_hue_delta (HueDelta.By way) = eqb (nat_abs way) 0
+abbrev pub no_hue_delta : Option ℤ → Bool
+no_hue_delta None = true
+no_hue_delta (Some way) = eqb (nat_abs way) 0
 
-abbrev pub no_saturation_delta : TargetSaturation → ℕ → Bool
-no_saturation_delta TargetSaturation.Keep start = true
-no_saturation_delta (TargetSaturation.To target) start = eqb target start
+abbrev pub no_saturation_delta : Option ℕ → ℕ → Bool
+no_saturation_delta None start = true
+no_saturation_delta (Some target) start = eqb target start
 
 -- "Time 0, no way in hue and saturation together, or no way in mireds: the end at once", which is permille 1000
 abbrev pub start_permille : ℕ → Bool → ℕ
@@ -107,27 +105,27 @@ stepped l (Running.ColorLoop direction hue seconds start) = loop_pass l (loop_ru
 abbrev pub done : Effect → Answer
 done e =
     record {
-      number = accepted;
+      verdict = accepted;
       lamp = e.lamp;
       notices = noted e.reported;
-      task = GivenTask.Nothing;
+      task = None;
       wait = e.wait;
     }
 
 -- the choice between a refusal and an effect
-abbrev pub choose : ℕ → Lamp → Answer → Answer
-choose cause l answer = cond (eqb cause accepted) answer (refusal l cause)
+abbrev pub choose : Verdict → Lamp → Answer → Answer
+choose verdict l answer = cond (is_ok verdict) answer (refusal l verdict)
 
 -- "starts 8, 4, 6"
-abbrev pub start_cause : Lamp → Task → ℕ → ℕ
+abbrev pub start_cause : Lamp → Task → ℕ → Verdict
 start_cause l task clock =
-    cond (eqb (first_cause l clock) accepted) (cond (task_valid task) accepted invalid_task) (first_cause l clock)
+    cond (is_ok (first_cause l clock)) (cond (task_valid task) accepted invalid_task) (first_cause l clock)
 
 unfoldable pub start_answer : Lamp → Task → ℕ → Answer
 start_answer l task clock = choose (start_cause l task clock) l (done (started (at_clock l clock) task))
 
 -- "steps 8, 7, 4"
-abbrev pub step_cause : Lamp → ℕ → ℕ
+abbrev pub step_cause : Lamp → ℕ → Verdict
 step_cause l clock =
     cond (not (lamp_valid l)) invalid_lamp
     (cond (not (runs l.running)) step_while_idle

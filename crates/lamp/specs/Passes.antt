@@ -1,14 +1,16 @@
 -- One pass of each transition: document 01, leaf 6 and "The arithmetic of a step". A pass is given what it needs of the
 -- lamp at the call's clock, and the running record; it leaves what it changes, and the wait (`Found`, `Moved`,
 -- `Passed`, `Left`: the records of src/passes.rt). From that come the lamp after it and what it reports, in its order.
-use Rattle.std.specs.Prelude.{ℕ, ◌-◌, Bool, true, false, cond, ◌&&◌, ◌||◌, List, [], ◌++◌, leb, ltb, eqb, ℤ, pos, ◌-ℤ◌}
+use Rattle.std.specs.Prelude.{Option, Some, None}
+use Rattle.std.specs.Prelude.{ℕ, ◌-◌, Bool, true, false, cond, ◌&&◌, ◌||◌, List, [], ◌∷◌, ◌++◌, leb, eqb, ℤ, pos, ◌-ℤ◌}
 use Rattle.std.specs.Int.Signed.{lt_z}
 use Rattle.matter.specs.declared.limits.Bounds.{Bounds}
 use Rattle.matter.specs.declared.enums.MoveModeEnum.{MoveModeEnum}
 use Rattle.matter.specs.Rules.{signed}
 use Rattle.matter.specs.Limits.{saturation_limit}
+use Rattle.notices.specs.declared.Notice.{Notice}
 use Rattle.notices.specs.Notices.{only}
-use Rattle.notices.specs.Names.{RemainingTime, device_hue_saturation, device_mireds}
+use Rattle.notices.specs.Names.{RemainingTime, notice_number}
 use Rattle.hue.specs.Hue.{moved_hue}
 use Rattle.progress.specs.Progress.{part_of, delta_at_rate, loop_delta, clamped_sum, tick, end_wait, turn_wait}
 use Rattle.remaining_time.specs.declared.RemainingTime.{RemainingTime as Remaining}
@@ -17,8 +19,6 @@ use Rattle.remaining_time.specs.RemainingTime.{written_quietly}
 use Rattle.color.specs.declared.Color.{Color}
 use Rattle.color.specs.declared.ColorSet.{ColorSet}
 use Rattle.color.specs.Setters.{change_reported, no_change, set_hue, set_saturation, set_mireds}
-use Rattle.tasks.specs.declared.HueDelta.{HueDelta}
-use Rattle.tasks.specs.declared.TargetSaturation.{TargetSaturation}
 use Rattle.tasks.specs.declared.HueSaturationRun.{HueSaturationRun}
 use Rattle.tasks.specs.declared.HueRun.{HueRun}
 use Rattle.tasks.specs.declared.SaturationRun.{SaturationRun}
@@ -62,10 +62,13 @@ left_by full passed running = record { full = full; passed = passed; running = u
 
 -- "Each pass writes the device after the setters, then, in a move-to, the remaining time": what it reports, which is
 -- its first change and what comes behind it
+abbrev pub device_reported : Option Notice → List ℕ
+device_reported None = []
+device_reported (Some device) = notice_number device ∷ []
+
 abbrev pub reported_behind : Passed → Bool → List ℕ
 reported_behind passed active =
-    change_reported passed.second active ++ only (ltb 0 passed.device) passed.device
-    ++ only passed.time RemainingTime
+    change_reported passed.second active ++ device_reported passed.device ++ only passed.time RemainingTime
 
 abbrev pub pass_reported : Passed → Bool → List ℕ
 pass_reported passed active = change_reported passed.first active ++ reported_behind passed active
@@ -106,9 +109,9 @@ at_end permille = leb 1000 permille
 abbrev pub hue_now : ℕ → ℤ → ℕ → ℕ
 hue_now start way permille = moved_hue start (part_of way permille)
 
-abbrev pub hue_moved : Color → HueDelta → ℕ → ℕ → Bool → ℕ → ColorSet
-hue_moved c HueDelta.Keep start permille enhanced clock = record { color = c; change = no_change }
-hue_moved c (HueDelta.By way) start permille enhanced clock =
+abbrev pub hue_moved : Color → Option ℤ → ℕ → ℕ → Bool → ℕ → ColorSet
+hue_moved c None start permille enhanced clock = record { color = c; change = no_change }
+hue_moved c (Some way) start permille enhanced clock =
     set_hue c (hue_now start way permille) (at_end permille) enhanced clock
 
 -- the saturation's part, where the task moves it: its way is from the start to the target
@@ -116,9 +119,9 @@ abbrev pub saturation_now : ℕ → ℕ → ℕ → ℕ
 saturation_now start target permille =
     cond (at_end permille) target (clamped_sum 0 saturation_limit start (part_of (pos target -ℤ pos start) permille))
 
-abbrev pub saturation_moved : Color → TargetSaturation → ℕ → ℕ → ℕ → ColorSet
-saturation_moved c TargetSaturation.Keep start permille clock = record { color = c; change = no_change }
-saturation_moved c (TargetSaturation.To target) start permille clock =
+abbrev pub saturation_moved : Color → Option ℕ → ℕ → ℕ → ℕ → ColorSet
+saturation_moved c None start permille clock = record { color = c; change = no_change }
+saturation_moved c (Some target) start permille clock =
     set_saturation c (saturation_now start target permille) (at_end permille) clock
 
 -- what move_to_hue_saturation_transition moves at so many thousandths: first the hue, then the saturation
@@ -128,7 +131,7 @@ hue_saturation_moved f run permille =
     let set : ColorSet =
     saturation_moved hued.color run.task.saturation run.saturation permille f.clock
     in
-    record { color = set.color; first = hued.change; second = set.change; device = device_hue_saturation }
+    record { color = set.color; first = hued.change; second = set.change; device = Some Notice.DeviceHueSaturation }
 
 -- what move_to_color_temperature_transition moves
 abbrev pub mireds_now : Bounds → ℕ → ℕ → ℕ → ℕ
@@ -140,7 +143,7 @@ unfoldable pub temperature_to_moved : Found → ColorTemperatureToRun → ℕ �
 temperature_to_moved f run permille =
     let now : ℕ = mireds_now f.bounds run.mireds run.task.target permille in
     let set : ColorSet = set_mireds f.color now (at_end permille) f.clock in
-    record { color = set.color; first = set.change; second = no_change; device = device_mireds }
+    record { color = set.color; first = set.change; second = no_change; device = Some Notice.DeviceMireds }
 
 -- then either writes the remaining time: what is left of the time, and 0 at the end
 unfoldable pub timed : Found → Moved → ℕ → ℕ → ℕ → Passed
@@ -177,7 +180,7 @@ temperature_to_pass l run permille =
 -- ---- moves at a rate: "rate × elapsed / 1000"; the wait of "moves at a rate always 100"
 
 -- a pass with one change, which leaves the remaining time
-abbrev pub passed : Found → ColorSet → ℕ → ℕ → Bool → Passed
+abbrev pub passed : Found → ColorSet → Option Notice → ℕ → Bool → Passed
 passed f set device wait end =
     record {
       color = set.color;
@@ -192,14 +195,14 @@ passed f set device wait end =
 
 -- where nothing runs, nothing changes, and no device is written
 abbrev pub nothing_passed : Found → Passed
-nothing_passed f = passed f (record { color = f.color; change = no_change }) 0 0 true
+nothing_passed f = passed f (record { color = f.color; change = no_change }) None 0 true
 
 -- one pass of hue_move_transition: "A hue move never ends"
 unfoldable pub hue_passed : Found → HueRun → Passed
 hue_passed f run =
     let rate : ℤ = signed run.task.direction run.task.rate in
     let now : ℕ = moved_hue run.hue (delta_at_rate rate (f.clock - run.start)) in
-    passed f (set_hue f.color now false run.task.enhanced f.clock) device_hue_saturation tick false
+    passed f (set_hue f.color now false run.task.enhanced f.clock) (Some Notice.DeviceHueSaturation) tick false
 
 abbrev pub hue_pass : Lamp → HueRun → Effect
 hue_pass l run = left_effect l (left_by false (hue_passed (found_in l) run) (Running.HueMove run))
@@ -216,7 +219,7 @@ saturation_passed f run =
     let rate : ℤ = signed run.task.direction run.task.rate in
     let now : ℕ = clamped_sum 0 saturation_limit run.saturation (delta_at_rate rate (f.clock - run.start)) in
     let end : Bool = saturation_done run.task.direction now in
-    passed f (set_saturation f.color now end f.clock) device_hue_saturation tick end
+    passed f (set_saturation f.color now end f.clock) (Some Notice.DeviceHueSaturation) tick end
 
 abbrev pub saturation_pass : Lamp → SaturationRun → Effect
 saturation_pass l run = left_effect l (left_by false (saturation_passed (found_in l) run) (Running.SaturationMove run))
@@ -230,7 +233,7 @@ unfoldable pub temperature_passed : Found → ColorTemperatureRun → Passed
 temperature_passed f run =
     let now : ℕ = clamped_sum run.lo run.hi run.mireds (delta_at_rate run.rate (f.clock - run.start)) in
     let end : Bool = mireds_done run.rate run.lo run.hi now in
-    passed f (set_mireds f.color now end f.clock) device_mireds tick end
+    passed f (set_mireds f.color now end f.clock) (Some Notice.DeviceMireds) tick end
 
 abbrev pub temperature_pass : Lamp → ColorTemperatureRun → Effect
 temperature_pass l run =
@@ -243,7 +246,7 @@ loop_passed f run =
     let elapsed : ℕ = f.clock - run.start in
     let now : ℕ = moved_hue run.hue (loop_delta run.task.direction elapsed run.task.seconds) in
     let set : ColorSet = set_hue f.color now false true f.clock in
-    passed f set device_hue_saturation (turn_wait elapsed run.task.seconds) false
+    passed f set (Some Notice.DeviceHueSaturation) (turn_wait elapsed run.task.seconds) false
 
 abbrev pub loop_pass : Lamp → ColorLoopRun → Effect
 loop_pass l run = left_effect l (left_by false (loop_passed (found_in l) run) (loop_running run))

@@ -13,33 +13,32 @@ ghost use Rattle.lamp.specs.Passes.{found_with, reported_behind, pass_reported, 
 
 use crate::passes::{Found, Left, Passed, left_by};
 use crate::{Answer, Lamp};
-use matter::{
-    ACCEPTED, Bounds, CLOCK_LIMIT, CLOCK_REFUSED, INVALID_LAMP, INVALID_TASK, STEP_WHILE_IDLE,
-};
-use notices::{Notices, Numeral, REMAINING_TIME};
+use color::cons_change;
+use matter::{Bounds, CLOCK_LIMIT, Refusal};
+use notices::{Notice, Notices, Numeral};
 use progress::{clamped_sum, elapsed, permille};
 use remaining_time::RemainingTime;
 use tasks::{
     ColorLoop, ColorLoopRun, ColorTemperatureMove, ColorTemperatureMoveTo, ColorTemperatureRun,
-    ColorTemperatureToRun, GivenTask, HueDelta, HueRun, HueSaturationMoveTo, HueSaturationRun,
-    Running, SaturationRun, TargetSaturation, Task,
+    ColorTemperatureToRun, HueRun, HueSaturationMoveTo, HueSaturationRun, Running, SaturationRun,
+    Task,
 };
 
-fn no_hue_delta(delta: HueDelta) -> bool
+fn no_hue_delta(delta: Option<i64>) -> bool
     ensures { result ≡ no_hue_delta delta }
 {
     match delta {
-        HueDelta::Keep => true,
-        HueDelta::By(way) => (way <= 0) & (0 <= way),
+        None => true,
+        Some(way) => (way <= 0) & (0 <= way),
     }
 }
 
-fn no_saturation_delta(target: TargetSaturation, start: u8) -> bool
+fn no_saturation_delta(target: Option<u8>, start: u8) -> bool
     ensures { result ≡ no_saturation_delta target start }
 {
     match target {
-        TargetSaturation::Keep => true,
-        TargetSaturation::To(saturation) => saturation == start,
+        None => true,
+        Some(saturation) => saturation == start,
     }
 }
 
@@ -257,7 +256,7 @@ impl Lamp {
         let color = passed.color;
         let remaining = passed.remaining;
         Answer {
-            number: ACCEPTED,
+            verdict: Ok(()),
             lamp: Lamp {
                 clock: clock,
                 remaining: remaining,
@@ -265,8 +264,8 @@ impl Lamp {
                 running: running,
                 ..self
             },
-            notices: list.cons_if(left.full, REMAINING_TIME).notices(),
-            task: GivenTask::Nothing,
+            notices: list.note_if(left.full, Notice::RemainingTime).notices(),
+            task: None,
             wait: passed.wait,
         }
     }
@@ -276,18 +275,17 @@ impl Lamp {
     pub fn start(self, task: Task, clock: u64) -> Answer
         ensures { result ≡ start_answer self task clock }
     {
-        let cause = self.first_cause(clock);
-        if cause != ACCEPTED {
-            return self.refused(cause);
+        if let Err(refusal) = self.first_cause(clock) {
+            return self.refused(refusal);
         }
         if !task.is_valid() {
-            return self.refused(INVALID_TASK);
+            return self.refused(Refusal::InvalidTask);
         }
         let left = self.begin(task, clock);
         let passed = left.passed;
         let first = passed.first;
         let active = self.looping.active;
-        let list = first.cons(passed.behind(active), active);
+        let list = cons_change(first, passed.behind(active), active);
         self.accepted(left, list, clock)
     }
 
@@ -297,20 +295,20 @@ impl Lamp {
         ensures { result ≡ step_answer self clock }
     {
         if !self.is_valid() {
-            return self.refused(INVALID_LAMP);
+            return self.refused(Refusal::InvalidLamp);
         }
         let running = self.running;
         if !running.is_running() {
-            return self.refused(STEP_WHILE_IDLE);
+            return self.refused(Refusal::StepWhileIdle);
         }
         if (clock < self.clock) | (CLOCK_LIMIT < clock) {
-            return self.refused(CLOCK_REFUSED);
+            return self.refused(Refusal::Clock);
         }
         let left = self.pass(running, clock);
         let passed = left.passed;
         let first = passed.first;
         let active = self.looping.active;
-        let list = first.cons(passed.behind(active), active);
+        let list = cons_change(first, passed.behind(active), active);
         self.accepted(left, list, clock)
     }
 
@@ -319,19 +317,18 @@ impl Lamp {
     pub fn halt(self, clock: u64) -> Answer
         ensures { result ≡ halt_answer self clock }
     {
-        let number = self.first_cause(clock);
-        if number != ACCEPTED {
-            return self.refused(number);
+        if let Err(cause) = self.first_cause(clock) {
+            return self.refused(cause);
         }
         Answer {
-            number: ACCEPTED,
+            verdict: Ok(()),
             lamp: Lamp {
                 clock: clock,
                 running: Running::Idle,
                 ..self
             },
             notices: Notices::new(),
-            task: GivenTask::Nothing,
+            task: None,
             wait: 0,
         }
     }

@@ -12,16 +12,13 @@ ghost use Rattle.lamp.specs.Making.{fresh_lamp, making, made_values, making_valu
 ghost use Rattle.lamp.specs.Answers.{at_clock, first_cause, refusal};
 
 use color::Color;
-use matter::{
-    ACCEPTED, Bounds, CLOCK_LIMIT, CLOCK_REFUSED, CROSSED_BOUNDS, ColorLoopDirectionEnum,
-    INVALID_LAMP, OnOff, Request,
-};
+use matter::{Bounds, CLOCK_LIMIT, ColorLoopDirectionEnum, OnOff, Refusal, Request};
 use notices::Notices;
 use remaining_time::RemainingTime;
-use tasks::{GivenTask, Running, Task};
+use tasks::{Running, Task};
 
 // ColorLoopActive, ColorLoopDirection, ColorLoopTime, ColorLoopStartEnhancedHue, ColorLoopStoredEnhancedHue.
-#[derive(Clone, Copy)]
+#[derive(Clone, Copy, Debug, PartialEq, Eq)]
 pub struct LoopSettings {
     pub active: bool,
     pub direction: ColorLoopDirectionEnum,
@@ -31,7 +28,7 @@ pub struct LoopSettings {
 }
 
 // The clock is the last accepted call's; `options` is the lamp's own option byte. The order of the fields leaves no gap.
-#[derive(Clone, Copy)]
+#[derive(Clone, Copy, Debug, PartialEq, Eq)]
 pub struct Lamp {
     pub clock: u64,
     pub bounds: Bounds,
@@ -42,19 +39,19 @@ pub struct Lamp {
     pub running: Running,
 }
 
-// What a call gives: 0 or the number of its refusal, the lamp after it, what it reports, the task it gives, and how long to
-// wait for the next step, in milliseconds.
-#[derive(Clone, Copy)]
+// What a call gives: that it is accepted or why it is refused, the lamp after it, what it reports, the task it gives where it
+// gives one, and how long to wait for the next step, in milliseconds.
+#[derive(Clone, Copy, Debug, PartialEq, Eq)]
 pub struct Answer {
-    pub number: u8,
+    pub verdict: Result<(), Refusal>,
     pub lamp: Lamp,
     pub notices: Notices,
-    pub task: GivenTask,
+    pub task: Option<Task>,
     pub wait: u64,
 }
 
 // A call of a lamp, with its clock. A command comes with what the on/off cluster says.
-#[derive(Clone, Copy)]
+#[derive(Clone, Copy, Debug, PartialEq, Eq)]
 pub enum Call {
     Command {
         request: Request,
@@ -71,13 +68,6 @@ pub enum Call {
     Halt {
         clock: u64,
     },
-}
-
-// A lamp, or the number of the refusal and no lamp.
-#[derive(Clone, Copy)]
-pub enum Made {
-    Lamp(Lamp),
-    Refused(u8),
 }
 
 // A lamp as it is made, with these bounds, features, options and clock.
@@ -104,29 +94,26 @@ fn fresh(bounds: Bounds, feature_map: u32, options: u8, clock: u64) -> Lamp
 impl Lamp {
     // A fresh lamp, unless the clock is above the limit or the bounds are crossed.
     #[tactic(auto, unfolding(crate::specs::Making::making, crate::specs::Making::making_values))]
-    pub fn new(bounds: Bounds, feature_map: u32, options: u8, clock: u64) -> Made
+    pub fn new(bounds: Bounds, feature_map: u32, options: u8, clock: u64) -> Result<Lamp, Refusal>
         ensures value { result ≡ making bounds feature_map options clock }
         ensures result_value { made_values result ≡ making_values bounds feature_map options clock }
     {
         if CLOCK_LIMIT < clock {
-            return Made::Refused(CLOCK_REFUSED);
+            return Err(Refusal::Clock);
         }
         if bounds.max < bounds.min {
-            return Made::Refused(CROSSED_BOUNDS);
+            return Err(Refusal::CrossedBounds);
         }
-        Made::Lamp(fresh(bounds, feature_map, options, clock))
+        Ok(fresh(bounds, feature_map, options, clock))
     }
 
     #[tactic(auto, unfolding(crate::specs::Valid::lamp_valid, matter::specs::All::all_true))]
     pub fn is_valid(self) -> bool
         ensures { result ≡ lamp_valid self }
     {
-        let color = self.color;
-        let running = self.running;
-        let bounds = self.bounds;
         (self.clock <= CLOCK_LIMIT)
-            & color.is_valid(bounds, self.clock)
-            & running.is_valid(bounds, self.clock)
+            & self.color.is_valid(self.bounds, self.clock)
+            & self.running.is_valid(self.bounds, self.clock)
     }
 
     // The same lamp at another clock.
@@ -136,31 +123,37 @@ impl Lamp {
         Lamp { clock: now, ..self }
     }
 
-    // The two causes that every call but a step checks first: an invalid lamp, and the clock. 0 where there is
-    // neither.
+    // The two causes that every call but a step checks first: an invalid lamp, and the clock.
     #[tactic(auto, unfolding(crate::specs::Answers::first_cause))]
-    pub fn first_cause(self, clock: u64) -> u8
+    pub fn first_cause(self, clock: u64) -> Result<(), Refusal>
         ensures { result ≡ first_cause self clock }
     {
         if !self.is_valid() {
-            return INVALID_LAMP;
+            return Err(Refusal::InvalidLamp);
         }
         if (clock < self.clock) | (CLOCK_LIMIT < clock) {
-            return CLOCK_REFUSED;
+            return Err(Refusal::Clock);
         }
-        ACCEPTED
+        Ok(())
     }
 
-    // A refusal: the number, the lamp as it was, an empty list, no task, wait 0.
-    pub fn refused(self, number: u8) -> Answer
-        ensures { result ≡ refusal self number }
+    // The lamp as it was, with this verdict: an empty list, no task, wait 0.
+    pub fn unchanged(self, verdict: Result<(), Refusal>) -> Answer
+        ensures { result ≡ refusal self verdict }
     {
         Answer {
-            number: number,
+            verdict,
             lamp: self,
             notices: Notices::new(),
-            task: GivenTask::Nothing,
+            task: None,
             wait: 0,
         }
+    }
+
+    // A refusal.
+    pub fn refused(self, cause: Refusal) -> Answer
+        ensures { result ≡ refusal self (Err cause) }
+    {
+        self.unchanged(Err(cause))
     }
 }

@@ -5,24 +5,24 @@ ghost use Rattle.std.specs.Prelude.{◌≡◌, true, cond, ◌-◌, pos, ◌-ℤ
 ghost use Rattle.notices.specs.Numerals.{empty, in_front};
 ghost use Rattle.notices.proofs.Numerals.{Bytes};
 ghost use Rattle.tasks.specs.Valid.{delta_valid, move_to_valid, hue_move_valid, saturation_move_valid, rate_valid};
-ghost use Rattle.lamp.specs.Passes.{hue_moved, saturation_now, saturation_moved, mireds_now, saturation_done, mireds_done, unless, waiting, hue_saturation_moved, temperature_to_moved, timed, hue_passed, saturation_passed, temperature_passed, loop_passed, passed, nothing_passed, left_by, reported_behind, pass_reported};
+ghost use Rattle.lamp.specs.Passes.{hue_moved, saturation_now, saturation_moved, mireds_now, saturation_done, mireds_done, unless, waiting, hue_saturation_moved, temperature_to_moved, timed, hue_passed, saturation_passed, temperature_passed, loop_passed, passed, nothing_passed, left_by, device_reported, reported_behind, pass_reported};
 
-use color::{Change, Color, ColorSet};
+use color::{Change, Color, ColorSet, cons_change};
 use hue::moved_hue;
 use matter::{Bounds, MoveModeEnum};
-use notices::{DEVICE_HUE_SATURATION, DEVICE_MIREDS, Numeral, REMAINING_TIME};
+use notices::{Notice, Numeral};
 use progress::{
     TICK, clamped_sum, delta_at_rate, elapsed, loop_delta, moved_saturation, part, time_left,
     wait_for_end, wait_for_turn,
 };
 use remaining_time::RemainingTime;
 use tasks::{
-    ColorLoopRun, ColorTemperatureRun, ColorTemperatureToRun, HueDelta, HueRun, HueSaturationRun,
-    Running, SaturationRun, TargetSaturation,
+    ColorLoopRun, ColorTemperatureRun, ColorTemperatureToRun, HueRun, HueSaturationRun, Running,
+    SaturationRun,
 };
 
 // What a pass is given of the lamp.
-#[derive(Clone, Copy)]
+#[derive(Clone, Copy, Debug, PartialEq, Eq)]
 pub struct Found {
     pub clock: u64,
     pub bounds: Bounds,
@@ -30,23 +30,23 @@ pub struct Found {
     pub color: Color,
 }
 
-// What a move-to moves: the colour, its changes in their order, and the notice of the device that is written.
-#[derive(Clone, Copy)]
+// What a move-to moves: the colour, its changes in their order, and the notice of the device that is written, where one is.
+#[derive(Clone, Copy, Debug, PartialEq, Eq)]
 pub struct Moved {
     pub color: Color,
-    pub first: Change,
-    pub second: Change,
-    pub device: u8,
+    pub first: Option<Change>,
+    pub second: Option<Change>,
+    pub device: Option<Notice>,
 }
 
 // What a pass leaves: what moves, whether the remaining time is reported, the wait, the remaining time, and whether the
 // transition ends.
-#[derive(Clone, Copy)]
+#[derive(Clone, Copy, Debug, PartialEq, Eq)]
 pub struct Passed {
     pub color: Color,
-    pub first: Change,
-    pub second: Change,
-    pub device: u8,
+    pub first: Option<Change>,
+    pub second: Option<Change>,
+    pub device: Option<Notice>,
     pub time: bool,
     pub wait: u64,
     pub remaining: RemainingTime,
@@ -54,7 +54,7 @@ pub struct Passed {
 }
 
 // A start or a step: whether the full time is reported first, the pass, and the record that stays.
-#[derive(Clone, Copy)]
+#[derive(Clone, Copy, Debug, PartialEq, Eq)]
 pub struct Left {
     pub full: bool,
     pub passed: Passed,
@@ -102,7 +102,7 @@ pub(crate) fn left_by(full: bool, passed: Passed, running: Running) -> Left
 // The hue's part of a move-to, where it moves the hue.
 fn move_hue(
     color: Color,
-    delta: HueDelta,
+    delta: Option<i64>,
     start: u16,
     permille: u16,
     is_enhanced: bool,
@@ -112,11 +112,11 @@ fn move_hue(
     ensures { result ≡ hue_moved color delta start permille is_enhanced clock }
 {
     match delta {
-        HueDelta::Keep => ColorSet {
+        None => ColorSet {
             color: color,
-            change: Change::none(),
+            change: None,
         },
-        HueDelta::By(way) => {
+        Some(way) => {
             let now = moved_hue(start, part(way, permille));
             color.set_hue(now, 1000 <= permille, is_enhanced, clock)
         }
@@ -138,7 +138,7 @@ fn saturation_now(start: u8, target: u8, permille: u16) -> u8
 // The saturation's part of a move-to, where it moves the saturation.
 fn move_saturation(
     color: Color,
-    target: TargetSaturation,
+    target: Option<u8>,
     start: u8,
     permille: u16,
     clock: u64,
@@ -146,11 +146,11 @@ fn move_saturation(
     ensures { result ≡ saturation_moved color target start permille clock }
 {
     match target {
-        TargetSaturation::Keep => ColorSet {
+        None => ColorSet {
             color: color,
-            change: Change::none(),
+            change: None,
         },
-        TargetSaturation::To(saturation) => {
+        Some(saturation) => {
             let now = saturation_now(start, saturation, permille);
             color.set_saturation(now, 1000 <= permille, clock)
         }
@@ -187,16 +187,24 @@ fn mireds_done(rate: i64, lo: u16, hi: u16, now: u16) -> bool
     ((0 < rate) & (now == hi)) | ((rate < 0) & (now == lo))
 }
 
+// The notice of the device that is written, where one is, in front of a list.
+#[tactic(auto, unfolding(notices::specs::Numerals::in_front))]
+fn cons_device(list: Numeral, device: Option<Notice>) -> Numeral
+    ensures { result ≡ in_front (device_reported device) list }
+{
+    match device {
+        Some(device) => list.note(device),
+        None => list,
+    }
+}
+
 impl Passed {
     // What the pass reports behind its first change. Apart from that, so that both are inlined (docs/SPEED.md).
     pub(crate) fn behind(self, loop_active: bool) -> Numeral
         ensures { (result ≡ in_front (reported_behind self loop_active) empty) × Bytes (pass_reported self loop_active) }
     {
-        let second = self.second;
-        let list = Numeral::new()
-            .cons_if(self.time, REMAINING_TIME)
-            .cons_if(0 < self.device, self.device);
-        second.cons(list, loop_active)
+        let time = Numeral::new().note_if(self.time, Notice::RemainingTime);
+        cons_change(self.second, cons_device(time, self.device), loop_active)
     }
 }
 
@@ -224,7 +232,7 @@ impl Found {
             color: color,
             first: first,
             second: second,
-            device: DEVICE_HUE_SATURATION,
+            device: Some(Notice::DeviceHueSaturation),
         }
     }
 
@@ -246,8 +254,8 @@ impl Found {
         Moved {
             color: color,
             first: first,
-            second: Change::none(),
-            device: DEVICE_MIREDS,
+            second: None,
+            device: Some(Notice::DeviceMireds),
         }
     }
 
@@ -277,7 +285,7 @@ impl Found {
     }
 
     // A pass that moves one attribute and leaves the remaining time.
-    fn passed(self, set: ColorSet, device: u8, wait: u64, ends: bool) -> Passed
+    fn passed(self, set: ColorSet, device: Option<Notice>, wait: u64, ends: bool) -> Passed
         ensures { result ≡ passed self set device wait ends }
     {
         let color = set.color;
@@ -286,7 +294,7 @@ impl Found {
         Passed {
             color: color,
             first: first,
-            second: Change::none(),
+            second: None,
             device: device,
             time: false,
             wait: wait_unless(ends, wait),
@@ -306,7 +314,7 @@ impl Found {
         let now = moved_hue(run.hue, delta_at_rate(rate, elapsed(run.start, self.clock)));
         let old = self.color;
         let set = old.set_hue(now, false, task.enhanced, self.clock);
-        self.passed(set, DEVICE_HUE_SATURATION, TICK, false)
+        self.passed(set, Some(Notice::DeviceHueSaturation), TICK, false)
     }
 
     #[tactic(auto, unfolding(tasks::specs::Valid::saturation_move_valid, crate::specs::Passes::saturation_passed))]
@@ -324,7 +332,7 @@ impl Found {
         let ends = saturation_done(direction, now);
         let old = self.color;
         let set = old.set_saturation(now, ends, self.clock);
-        self.passed(set, DEVICE_HUE_SATURATION, TICK, ends)
+        self.passed(set, Some(Notice::DeviceHueSaturation), TICK, ends)
     }
 
     #[tactic(auto, unfolding(crate::specs::Passes::temperature_passed))]
@@ -337,7 +345,7 @@ impl Found {
         let ends = mireds_done(run.rate, run.lo, run.hi, now);
         let old = self.color;
         let set = old.set_color_temperature(now, ends, self.clock);
-        self.passed(set, DEVICE_MIREDS, TICK, ends)
+        self.passed(set, Some(Notice::DeviceMireds), TICK, ends)
     }
 
     #[tactic(auto, unfolding(crate::specs::Passes::loop_passed))]
@@ -351,7 +359,7 @@ impl Found {
         let old = self.color;
         let set = old.set_hue(now, false, true, self.clock);
         let wait = wait_for_turn(passed, task.seconds);
-        self.passed(set, DEVICE_HUE_SATURATION, wait, false)
+        self.passed(set, Some(Notice::DeviceHueSaturation), wait, false)
     }
 
     // Where nothing runs, nothing changes, and no device is written.
@@ -361,8 +369,8 @@ impl Found {
         let color = self.color;
         let set = ColorSet {
             color: color,
-            change: Change::none(),
+            change: None,
         };
-        self.passed(set, 0, 0, true)
+        self.passed(set, None, 0, true)
     }
 }

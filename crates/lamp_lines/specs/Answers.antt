@@ -1,12 +1,10 @@
 -- The texts of answers.
+use Rattle.std.specs.Prelude.{Option, Some, None}
 use Rattle.std.specs.Prelude.{ℕ, Bool, cond, List, [], ◌∷◌, ◌++◌, eqb, ℤ, take}
 use Rattle.matter.specs.Causes.{accepted}
 use Rattle.matter.specs.Numbers.{move_mode_number, loop_direction_number, color_mode_number, enhanced_color_mode_number}
 use Rattle.notices.specs.declared.Notices.{Notices}
-use Rattle.tasks.specs.declared.GivenTask.{GivenTask}
-use Rattle.tasks.specs.declared.HueDelta.{HueDelta}
 use Rattle.tasks.specs.declared.Running.{Running}
-use Rattle.tasks.specs.declared.TargetSaturation.{TargetSaturation}
 use Rattle.tasks.specs.declared.Task.{Task}
 use Rattle.tasks.specs.Runs.{runs}
 use Rattle.lamp.specs.declared.Answer.{Answer}
@@ -44,13 +42,13 @@ lamp_numbers l =
 unfoldable pub notices_text : Notices → List ℕ
 notices_text n = cond (eqb n.len 0) (ascii " -") (numbers_text (take n.len n.places))
 
-abbrev pub delta_text : HueDelta → List ℕ
-delta_text HueDelta.Keep = ascii " -"
-delta_text (HueDelta.By delta) = signed_text delta
+abbrev pub delta_text : Option ℤ → List ℕ
+delta_text None = ascii " -"
+delta_text (Some delta) = signed_text delta
 
-abbrev pub target_text : TargetSaturation → List ℕ
-target_text TargetSaturation.Keep = ascii " -"
-target_text (TargetSaturation.To saturation) = number_text saturation
+abbrev pub target_text : Option ℕ → List ℕ
+target_text None = ascii " -"
+target_text (Some saturation) = number_text saturation
 
 abbrev pub task_text : Task → List ℕ
 task_text (Task.HueSaturationMoveTo t) =
@@ -65,9 +63,9 @@ task_text (Task.ColorTemperatureMove t) =
 task_text (Task.ColorLoop t) = ascii " loop" ++ numbers_text (loop_direction_number t.direction ∷ t.seconds ∷ [])
 task_text Task.Stop = ascii " stop"
 
-abbrev pub given_text : GivenTask → List ℕ
-given_text GivenTask.Nothing = ascii " -"
-given_text (GivenTask.Given task) = task_text task
+abbrev pub given_text : Option Task → List ℕ
+given_text None = ascii " -"
+given_text (Some task) = task_text task
 
 -- ---- answers
 
@@ -78,7 +76,7 @@ abbrev pub running_text : Running → List ℕ
 running_text r = cond (runs r) (ascii " running") (ascii " idle")
 
 -- <notices or -> | <task given or -> | <wait>
-abbrev pub reported_text : Notices → GivenTask → ℕ → List ℕ
+abbrev pub reported_text : Notices → Option Task → ℕ → List ℕ
 reported_text notices task wait =
     ascii " |" ++ notices_text notices ++ ascii " |" ++ given_text task ++ ascii " |" ++ number_text wait
 

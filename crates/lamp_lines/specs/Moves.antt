@@ -1,7 +1,6 @@
 -- Tasks by their names, each with what it asks for.
+use Rattle.std.specs.Prelude.{Option, Some, None}
 use Rattle.std.specs.Prelude.{ℕ, List, [], ◌∷◌, Option, Some, None, option_map}
-use Rattle.tasks.specs.declared.HueDelta.{HueDelta}
-use Rattle.tasks.specs.declared.TargetSaturation.{TargetSaturation}
 use Rattle.tasks.specs.declared.Task.{Task}
 use Rattle.text.specs.Numbers.{number_of, signed_of}
 use Rattle.text.specs.Readers.{Reader, give, ◌then◌, by_word, number16, number32, flag, signed, or_dash, Row}
@@ -12,11 +11,11 @@ use Rattle.lamp_lines.specs.Enums.{move_mode_at, loop_direction_at}
 abbrev pub dashed : {A : Type 0} → (List ℕ → Option A) → Reader (Option A)
 dashed of = by_word (or_dash None (λ w. option_map (λ x. Some x) (of w)))
 
-unfoldable pub delta_at : Reader HueDelta
-delta_at = by_word (or_dash HueDelta.Keep (λ w. option_map (λ delta. HueDelta.By delta) (signed_of w)))
+unfoldable pub delta_at : Reader (Option ℤ)
+delta_at = by_word (or_dash None (λ w. option_map (λ delta. Some delta) (signed_of w)))
 
-unfoldable pub target_at : Reader TargetSaturation
-target_at = by_word (or_dash TargetSaturation.Keep (λ w. option_map (λ n. TargetSaturation.To n) (number_of 255 w)))
+unfoldable pub target_at : Reader (Option ℕ)
+target_at = by_word (or_dash None (λ w. option_map (λ n. Some n) (number_of 255 w)))
 
 -- <way|-> <sat|-> <ms> <enhanced>
 unfoldable pub move_to_at : Reader Task

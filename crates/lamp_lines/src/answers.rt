@@ -6,7 +6,7 @@ ghost use Rattle.lamp_lines.specs.Answers.{number_text, signed_text, numbers_tex
 
 use lamp::{Answer, Lamp};
 use notices::Notices;
-use tasks::{GivenTask, HueDelta, Running, TargetSaturation, Task};
+use tasks::{Running, Task};
 use text::writer::{Sink, decimal, signed, text};
 
 pub fn bar<S: Sink>(out: &mut S)
@@ -99,21 +99,21 @@ fn notices<S: Sink>(out: &mut S, list: Notices)
     }
 }
 
-fn delta<S: Sink>(out: &mut S, delta: HueDelta)
+fn delta<S: Sink>(out: &mut S, delta: Option<i64>)
     ensures { out.new ≡ fold S.push out.old (delta_text delta) }
 {
     match delta {
-        HueDelta::Keep => text(out, b" -"),
-        HueDelta::By(delta) => signed_number(out, delta),
+        None => text(out, b" -"),
+        Some(delta) => signed_number(out, delta),
     }
 }
 
-fn target<S: Sink>(out: &mut S, target: TargetSaturation)
+fn target<S: Sink>(out: &mut S, target: Option<u8>)
     ensures { out.new ≡ fold S.push out.old (target_text target) }
 {
     match target {
-        TargetSaturation::Keep => text(out, b" -"),
-        TargetSaturation::To(saturation) => number(out, saturation as u64),
+        None => text(out, b" -"),
+        Some(saturation) => number(out, saturation as u64),
     }
 }
 
@@ -156,12 +156,12 @@ fn task<S: Sink>(out: &mut S, task: Task)
     }
 }
 
-fn given<S: Sink>(out: &mut S, given: GivenTask)
+fn given<S: Sink>(out: &mut S, given: Option<Task>)
     ensures { out.new ≡ fold S.push out.old (given_text given) }
 {
     match given {
-        GivenTask::Nothing => text(out, b" -"),
-        GivenTask::Given(t) => task(out, t),
+        None => text(out, b" -"),
+        Some(t) => task(out, t),
     }
 }
 
@@ -185,7 +185,7 @@ pub fn ending<S: Sink>(out: &mut S, running: Running)
 }
 
 // The notices, the task given and the wait.
-fn reported<S: Sink>(out: &mut S, list: Notices, task: GivenTask, wait: u64)
+fn reported<S: Sink>(out: &mut S, list: Notices, task: Option<Task>, wait: u64)
     ensures { out.new ≡ fold S.push out.old (reported_text list task wait) }
 {
     bar(out);

@@ -5,9 +5,8 @@ ghost use Rattle.text.specs.Readers.{Reads};
 ghost use Rattle.lamp_lines.specs.Enums.{case_of, enum, on_off_at};
 
 use matter::{
-    ColorLoopActionEnum, ColorLoopActionFound, ColorLoopDirectionEnum, ColorLoopDirectionFound,
-    ColorModeEnum, ColorModeFound, DirectionEnum, DirectionFound, EnhancedColorModeEnum,
-    EnhancedColorModeFound, MoveModeEnum, MoveModeFound, OnOff, StepModeEnum, StepModeFound,
+    ColorLoopActionEnum, ColorLoopDirectionEnum, ColorModeEnum, DirectionEnum, EnhancedColorModeEnum,
+    MoveModeEnum, OnOff, StepModeEnum,
 };
 use text::words::Words;
 
@@ -23,10 +22,7 @@ impl Numbered for DirectionEnum {
     ghost numbered = { case_of direction_number directions };
 
     fn of(number: u8) -> Option<DirectionEnum> {
-        match DirectionEnum::of_number(number) {
-            DirectionFound::Known(case) => Some(case),
-            DirectionFound::Reserved => None,
-        }
+        DirectionEnum::try_from(number).ok()
     }
 }
 
@@ -34,10 +30,7 @@ impl Numbered for MoveModeEnum {
     ghost numbered = { case_of move_mode_number move_modes };
 
     fn of(number: u8) -> Option<MoveModeEnum> {
-        match MoveModeEnum::of_number(number) {
-            MoveModeFound::Known(case) => Some(case),
-            MoveModeFound::Reserved => None,
-        }
+        MoveModeEnum::try_from(number).ok()
     }
 }
 
@@ -45,10 +38,7 @@ impl Numbered for StepModeEnum {
     ghost numbered = { case_of step_mode_number step_modes };
 
     fn of(number: u8) -> Option<StepModeEnum> {
-        match StepModeEnum::of_number(number) {
-            StepModeFound::Known(case) => Some(case),
-            StepModeFound::Reserved => None,
-        }
+        StepModeEnum::try_from(number).ok()
     }
 }
 
@@ -56,10 +46,7 @@ impl Numbered for ColorLoopActionEnum {
     ghost numbered = { case_of loop_action_number loop_actions };
 
     fn of(number: u8) -> Option<ColorLoopActionEnum> {
-        match ColorLoopActionEnum::of_number(number) {
-            ColorLoopActionFound::Known(case) => Some(case),
-            ColorLoopActionFound::Reserved => None,
-        }
+        ColorLoopActionEnum::try_from(number).ok()
     }
 }
 
@@ -67,10 +54,7 @@ impl Numbered for ColorLoopDirectionEnum {
     ghost numbered = { case_of loop_direction_number loop_directions };
 
     fn of(number: u8) -> Option<ColorLoopDirectionEnum> {
-        match ColorLoopDirectionEnum::of_number(number) {
-            ColorLoopDirectionFound::Known(case) => Some(case),
-            ColorLoopDirectionFound::Reserved => None,
-        }
+        ColorLoopDirectionEnum::try_from(number).ok()
     }
 }
 
@@ -78,10 +62,7 @@ impl Numbered for ColorModeEnum {
     ghost numbered = { case_of color_mode_number color_modes };
 
     fn of(number: u8) -> Option<ColorModeEnum> {
-        match ColorModeEnum::of_number(number) {
-            ColorModeFound::Known(case) => Some(case),
-            ColorModeFound::Reserved => None,
-        }
+        ColorModeEnum::try_from(number).ok()
     }
 }
 
@@ -89,10 +70,7 @@ impl Numbered for EnhancedColorModeEnum {
     ghost numbered = { case_of enhanced_color_mode_number enhanced_color_modes };
 
     fn of(number: u8) -> Option<EnhancedColorModeEnum> {
-        match EnhancedColorModeEnum::of_number(number) {
-            EnhancedColorModeFound::Known(case) => Some(case),
-            EnhancedColorModeFound::Reserved => None,
-        }
+        EnhancedColorModeEnum::try_from(number).ok()
     }
 }
 

@@ -5,8 +5,8 @@ ghost use Rattle.lamp_lines.specs.Moves.{dashed, delta_at, target_at, move_to_at
 
 use crate::enums::enumerated;
 use tasks::{
-    ColorLoop, ColorTemperatureMove, ColorTemperatureMoveTo, HueDelta, HueMove,
-    HueSaturationMoveTo, SaturationMove, TargetSaturation, Task,
+    ColorLoop, ColorTemperatureMove, ColorTemperatureMoveTo, HueMove,
+    HueSaturationMoveTo, SaturationMove, Task,
 };
 use text::numbers::FromWord;
 use text::words::Words;
@@ -22,22 +22,22 @@ fn dashed<T: FromWord>(words: &mut Words) -> Option<Option<T>>
 }
 
 #[tactic(auto, unfolding(crate::specs::Moves::delta_at))]
-fn delta(words: &mut Words) -> Option<HueDelta>
+fn delta(words: &mut Words) -> Option<Option<i64>>
     ensures { Reads (delta_at words.old) result words.new }
 {
     match dashed(words)? {
-        Some(delta) => Some(HueDelta::By(delta)),
-        None => Some(HueDelta::Keep),
+        Some(delta) => Some(Some(delta)),
+        None => Some(None),
     }
 }
 
 #[tactic(auto, unfolding(crate::specs::Moves::target_at))]
-fn target(words: &mut Words) -> Option<TargetSaturation>
+fn target(words: &mut Words) -> Option<Option<u8>>
     ensures { Reads (target_at words.old) result words.new }
 {
     match dashed(words)? {
-        Some(saturation) => Some(TargetSaturation::To(saturation)),
-        None => Some(TargetSaturation::Keep),
+        Some(saturation) => Some(Some(saturation)),
+        None => Some(None),
     }
 }
 

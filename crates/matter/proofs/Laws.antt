@@ -1,29 +1,24 @@
 -- Laws of the vocabulary: a choice, a list of tests that hold, and numbers looked up.
-use Prim.Native.Nat.{ℕ, ◌≤◌}
+use Prim.Native.Nat.{ℕ, ◌≤◌, ◌<◌}
 use mathlib.Core.Bool.{Bool, true, false, cond, ◌&&◌, ◌||◌, true≢false}
 use mathlib.Core.List.{List, [], ◌∷◌}
-use mathlib.Core.Path.{◌≡◌, refl, sym}
+use Rattle.std.specs.Prelude.{Ok, Err, is_ok}
+use mathlib.Core.Path.{◌≡◌, refl, sym, ap, ◌∙◌}
 use native.Mathlib.Omega.{arith}
 use lib.Dec.{eqb, leb}
 use borrow.Author.Tests.{eqb-true, leb-true, le-leb}
 use Rattle.matter.specs.All.{all_true, all_from}
+use Rattle.matter.specs.Causes.{Verdict, accepted, number_of, refusal_number}
+use Rattle.matter.specs.declared.refusals.Refusal.{Refusal}
 use Rattle.matter.specs.Numbers.{case_numbered, direction_number, direction_found, move_mode_number, move_mode_found, step_mode_number, step_mode_found, loop_action_number, loop_action_found, loop_direction_number, loop_direction_found, color_mode_number, color_mode_found, enhanced_color_mode_number, enhanced_color_mode_found, on_off_number, on_off_found}
 use Rattle.matter.specs.declared.enums.DirectionEnum.{DirectionEnum}
-use Rattle.matter.specs.declared.enums.DirectionFound.{DirectionFound}
 use Rattle.matter.specs.declared.enums.MoveModeEnum.{MoveModeEnum}
-use Rattle.matter.specs.declared.enums.MoveModeFound.{MoveModeFound}
 use Rattle.matter.specs.declared.enums.StepModeEnum.{StepModeEnum}
-use Rattle.matter.specs.declared.enums.StepModeFound.{StepModeFound}
 use Rattle.matter.specs.declared.enums.ColorLoopActionEnum.{ColorLoopActionEnum}
-use Rattle.matter.specs.declared.enums.ColorLoopActionFound.{ColorLoopActionFound}
 use Rattle.matter.specs.declared.enums.ColorLoopDirectionEnum.{ColorLoopDirectionEnum}
-use Rattle.matter.specs.declared.enums.ColorLoopDirectionFound.{ColorLoopDirectionFound}
 use Rattle.matter.specs.declared.enums.ColorModeEnum.{ColorModeEnum}
-use Rattle.matter.specs.declared.enums.ColorModeFound.{ColorModeFound}
 use Rattle.matter.specs.declared.enums.EnhancedColorModeEnum.{EnhancedColorModeEnum}
-use Rattle.matter.specs.declared.enums.EnhancedColorModeFound.{EnhancedColorModeFound}
 use Rattle.matter.specs.declared.enums.OnOff.{OnOff}
-use Rattle.matter.specs.declared.enums.OnOffFound.{OnOffFound}
 
 -- ---- both parts of a conjunction that holds
 
@@ -51,6 +46,36 @@ or_right false b e = e
 pub cond_both : {A : Type 0} (P : A → Type 0) (t : Bool) (a b : A) → (t ≡ true → P a) → (t ≡ false → P b) → P (cond t a b)
 cond_both P true a b h k = h refl
 cond_both P false a b h k = k refl
+
+-- ---- verdicts
+
+-- one that is accepted, and one that is not
+pub accepted-of : (v : Verdict) → is_ok v ≡ true → v ≡ accepted
+accepted-of (Ok u) e = refl
+accepted-of (Err refusal) e = absurd (true≢false (sym e))
+
+pub refused-of : (v : Verdict) → is_ok v ≡ false → v ≡ accepted → ⊥
+refused-of v e z = true≢false (sym (ap is_ok z) ∙ e)
+
+-- 0 is the number of no refusal
+refusal-some : (refusal : Refusal) → 0 < refusal_number refusal
+refusal-some Refusal.ConstraintError = omega arith
+refusal-some Refusal.InvalidCommand = omega arith
+refusal-some Refusal.Clock = omega arith
+refusal-some Refusal.CrossedBounds = omega arith
+refusal-some Refusal.InvalidTask = omega arith
+refusal-some Refusal.StepWhileIdle = omega arith
+refusal-some Refusal.InvalidLamp = omega arith
+refusal-some Refusal.ShortSlice = omega arith
+refusal-some Refusal.NoPlace = omega arith
+
+pub number-0 : (v : Verdict) → number_of v ≡ 0 → v ≡ accepted
+number-0 (Ok u) e = refl
+number-0 (Err refusal) e = absurd (omega (arith, refusal-some refusal, e))
+
+pub not-ok : (v : Verdict) → (v ≡ accepted → ⊥) → is_ok v ≡ false
+not-ok (Ok u) n = absurd (n refl)
+not-ok (Err refusal) n = refl
 
 -- ---- what is at most a number is at most a later one
 
@@ -100,42 +125,42 @@ module _ {A B : Type 0} (number : A → ℕ) (known : A → B) (none : B) (n : �
 
 -- ---- every case is found by its number
 
-pub direction-back : (d : DirectionEnum) → direction_found (direction_number d) ≡ DirectionFound.Known d
+pub direction-back : (d : DirectionEnum) → direction_found (direction_number d) ≡ Ok d
 direction-back DirectionEnum.Shortest = refl
 direction-back DirectionEnum.Longest = refl
 direction-back DirectionEnum.Up = refl
 direction-back DirectionEnum.Down = refl
 
-pub move-mode-back : (m : MoveModeEnum) → move_mode_found (move_mode_number m) ≡ MoveModeFound.Known m
+pub move-mode-back : (m : MoveModeEnum) → move_mode_found (move_mode_number m) ≡ Ok m
 move-mode-back MoveModeEnum.Stop = refl
 move-mode-back MoveModeEnum.Up = refl
 move-mode-back MoveModeEnum.Down = refl
 
-pub step-mode-back : (m : StepModeEnum) → step_mode_found (step_mode_number m) ≡ StepModeFound.Known m
+pub step-mode-back : (m : StepModeEnum) → step_mode_found (step_mode_number m) ≡ Ok m
 step-mode-back StepModeEnum.Up = refl
 step-mode-back StepModeEnum.Down = refl
 
-pub loop-action-back : (a : ColorLoopActionEnum) → loop_action_found (loop_action_number a) ≡ ColorLoopActionFound.Known a
+pub loop-action-back : (a : ColorLoopActionEnum) → loop_action_found (loop_action_number a) ≡ Ok a
 loop-action-back ColorLoopActionEnum.Deactivate = refl
 loop-action-back ColorLoopActionEnum.ActivateFromColorLoopStartEnhancedHue = refl
 loop-action-back ColorLoopActionEnum.ActivateFromEnhancedCurrentHue = refl
 
-pub loop-direction-back : (d : ColorLoopDirectionEnum) → loop_direction_found (loop_direction_number d) ≡ ColorLoopDirectionFound.Known d
+pub loop-direction-back : (d : ColorLoopDirectionEnum) → loop_direction_found (loop_direction_number d) ≡ Ok d
 loop-direction-back ColorLoopDirectionEnum.Decrement = refl
 loop-direction-back ColorLoopDirectionEnum.Increment = refl
 
-pub color-mode-back : (m : ColorModeEnum) → color_mode_found (color_mode_number m) ≡ ColorModeFound.Known m
+pub color-mode-back : (m : ColorModeEnum) → color_mode_found (color_mode_number m) ≡ Ok m
 color-mode-back ColorModeEnum.CurrentHueAndCurrentSaturation = refl
 color-mode-back ColorModeEnum.CurrentXAndCurrentY = refl
 color-mode-back ColorModeEnum.ColorTemperatureMireds = refl
 
-pub enhanced-color-mode-back : (m : EnhancedColorModeEnum) → enhanced_color_mode_found (enhanced_color_mode_number m) ≡ EnhancedColorModeFound.Known m
+pub enhanced-color-mode-back : (m : EnhancedColorModeEnum) → enhanced_color_mode_found (enhanced_color_mode_number m) ≡ Ok m
 enhanced-color-mode-back EnhancedColorModeEnum.CurrentHueAndCurrentSaturation = refl
 enhanced-color-mode-back EnhancedColorModeEnum.CurrentXAndCurrentY = refl
 enhanced-color-mode-back EnhancedColorModeEnum.ColorTemperatureMireds = refl
 enhanced-color-mode-back EnhancedColorModeEnum.EnhancedCurrentHueAndCurrentSaturation = refl
 
-pub on-off-back : (o : OnOff) → on_off_found (on_off_number o) ≡ OnOffFound.Known o
+pub on-off-back : (o : OnOff) → on_off_found (on_off_number o) ≡ Ok o
 on-off-back OnOff.Off = refl
 on-off-back OnOff.On = refl
 on-off-back OnOff.NoHandler = refl

@@ -5,7 +5,7 @@ use crate::enums::{
 };
 
 // OptionsMask and OptionsOverride, which come with every command.
-#[derive(Clone, Copy)]
+#[derive(Clone, Copy, Debug, PartialEq, Eq)]
 pub struct CommandOptions {
     pub mask: u8,
     pub overrides: u8,
@@ -13,7 +13,7 @@ pub struct CommandOptions {
 
 // The commands that are served, each with the arguments that the source's function of that name takes. Times are in
 // tenths of a second.
-#[derive(Clone, Copy)]
+#[derive(Clone, Copy, Debug, PartialEq, Eq)]
 pub enum Command {
     MoveToHue {
         hue: u8,
@@ -92,7 +92,7 @@ pub enum Command {
 }
 
 // A command as it is received: with its options.
-#[derive(Clone, Copy)]
+#[derive(Clone, Copy, Debug, PartialEq, Eq)]
 pub struct Request {
     pub options: CommandOptions,
     pub command: Command,

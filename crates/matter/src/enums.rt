@@ -5,8 +5,14 @@ ghost use Rattle.std.specs.Prelude.{◌≡◌};
 ghost use Rattle.matter.specs.Rules.{signed, color_mode_of};
 ghost use Rattle.matter.specs.Numbers.{direction_number, direction_found, move_mode_number, move_mode_found, step_mode_number, step_mode_found, loop_action_number, loop_action_found, loop_direction_number, loop_direction_found, color_mode_number, color_mode_found, enhanced_color_mode_number, enhanced_color_mode_found, on_off_number, on_off_found};
 
+// A number that no case of an enum has.
+#[derive(Clone, Copy, Debug, PartialEq, Eq)]
+pub struct Reserved {
+    pub number: u8,
+}
+
 // Which way round the circle of hues a move-to goes.
-#[derive(Clone, Copy)]
+#[derive(Clone, Copy, Debug, PartialEq, Eq)]
 pub enum DirectionEnum {
     Shortest,
     Longest,
@@ -14,55 +20,41 @@ pub enum DirectionEnum {
     Down,
 }
 
-#[derive(Clone, Copy)]
-pub enum DirectionFound {
-    Known(DirectionEnum),
-    Reserved,
-}
+impl From<DirectionEnum> for u8 {
+    ghost from_gives = { λ x n. n ≡ direction_number x };
 
-impl DirectionEnum {
-    pub fn number(self) -> u8
-        ensures { result ≡ direction_number self }
-    {
-        match self {
+    fn from(case: DirectionEnum) -> u8 {
+        match case {
             DirectionEnum::Shortest => 0,
             DirectionEnum::Longest => 1,
             DirectionEnum::Up => 2,
             DirectionEnum::Down => 3,
         }
     }
+}
 
-    pub fn of_number(n: u8) -> DirectionFound
-        ensures { result ≡ direction_found n }
-    {
-        if n == 0 {
-            return DirectionFound::Known(DirectionEnum::Shortest);
+impl TryFrom<u8> for DirectionEnum {
+    type Error = Reserved;
+
+    ghost try_from_gives = { λ n r. r ≡ direction_found n };
+
+    fn try_from(number: u8) -> Result<Self, Reserved> {
+        match number {
+            0 => Ok(DirectionEnum::Shortest),
+            1 => Ok(DirectionEnum::Longest),
+            2 => Ok(DirectionEnum::Up),
+            3 => Ok(DirectionEnum::Down),
+            _ => Err(Reserved { number }),
         }
-        if n == 1 {
-            return DirectionFound::Known(DirectionEnum::Longest);
-        }
-        if n == 2 {
-            return DirectionFound::Known(DirectionEnum::Up);
-        }
-        if n == 3 {
-            return DirectionFound::Known(DirectionEnum::Down);
-        }
-        DirectionFound::Reserved
     }
 }
 
 // What a move at a rate does: stop, or go up or down.
-#[derive(Clone, Copy)]
+#[derive(Clone, Copy, Debug, PartialEq, Eq)]
 pub enum MoveModeEnum {
     Stop,
     Up,
     Down,
-}
-
-#[derive(Clone, Copy)]
-pub enum MoveModeFound {
-    Known(MoveModeEnum),
-    Reserved,
 }
 
 impl MoveModeEnum {
@@ -76,191 +68,171 @@ impl MoveModeEnum {
             MoveModeEnum::Down => -(rate as i64),
         }
     }
+}
 
-    pub fn number(self) -> u8
-        ensures { result ≡ move_mode_number self }
-    {
-        match self {
+impl From<MoveModeEnum> for u8 {
+    ghost from_gives = { λ x n. n ≡ move_mode_number x };
+
+    fn from(case: MoveModeEnum) -> u8 {
+        match case {
             MoveModeEnum::Stop => 0,
             MoveModeEnum::Up => 1,
             MoveModeEnum::Down => 3,
         }
     }
+}
 
-    pub fn of_number(n: u8) -> MoveModeFound
-        ensures { result ≡ move_mode_found n }
-    {
-        if n == 0 {
-            return MoveModeFound::Known(MoveModeEnum::Stop);
+impl TryFrom<u8> for MoveModeEnum {
+    type Error = Reserved;
+
+    ghost try_from_gives = { λ n r. r ≡ move_mode_found n };
+
+    fn try_from(number: u8) -> Result<Self, Reserved> {
+        match number {
+            0 => Ok(MoveModeEnum::Stop),
+            1 => Ok(MoveModeEnum::Up),
+            3 => Ok(MoveModeEnum::Down),
+            _ => Err(Reserved { number }),
         }
-        if n == 1 {
-            return MoveModeFound::Known(MoveModeEnum::Up);
-        }
-        if n == 3 {
-            return MoveModeFound::Known(MoveModeEnum::Down);
-        }
-        MoveModeFound::Reserved
     }
 }
 
 // Which way a step goes.
-#[derive(Clone, Copy)]
+#[derive(Clone, Copy, Debug, PartialEq, Eq)]
 pub enum StepModeEnum {
     Up,
     Down,
 }
 
-#[derive(Clone, Copy)]
-pub enum StepModeFound {
-    Known(StepModeEnum),
-    Reserved,
-}
+impl From<StepModeEnum> for u8 {
+    ghost from_gives = { λ x n. n ≡ step_mode_number x };
 
-impl StepModeEnum {
-    pub fn number(self) -> u8
-        ensures { result ≡ step_mode_number self }
-    {
-        match self {
+    fn from(case: StepModeEnum) -> u8 {
+        match case {
             StepModeEnum::Up => 1,
             StepModeEnum::Down => 3,
         }
     }
+}
 
-    pub fn of_number(n: u8) -> StepModeFound
-        ensures { result ≡ step_mode_found n }
-    {
-        if n == 1 {
-            return StepModeFound::Known(StepModeEnum::Up);
+impl TryFrom<u8> for StepModeEnum {
+    type Error = Reserved;
+
+    ghost try_from_gives = { λ n r. r ≡ step_mode_found n };
+
+    fn try_from(number: u8) -> Result<Self, Reserved> {
+        match number {
+            1 => Ok(StepModeEnum::Up),
+            3 => Ok(StepModeEnum::Down),
+            _ => Err(Reserved { number }),
         }
-        if n == 3 {
-            return StepModeFound::Known(StepModeEnum::Down);
-        }
-        StepModeFound::Reserved
     }
 }
 
 // What the colour-loop command does with the loop.
-#[derive(Clone, Copy)]
+#[derive(Clone, Copy, Debug, PartialEq, Eq)]
 pub enum ColorLoopActionEnum {
     Deactivate,
     ActivateFromColorLoopStartEnhancedHue,
     ActivateFromEnhancedCurrentHue,
 }
 
-#[derive(Clone, Copy)]
-pub enum ColorLoopActionFound {
-    Known(ColorLoopActionEnum),
-    Reserved,
-}
+impl From<ColorLoopActionEnum> for u8 {
+    ghost from_gives = { λ x n. n ≡ loop_action_number x };
 
-impl ColorLoopActionEnum {
-    pub fn number(self) -> u8
-        ensures { result ≡ loop_action_number self }
-    {
-        match self {
+    fn from(case: ColorLoopActionEnum) -> u8 {
+        match case {
             ColorLoopActionEnum::Deactivate => 0,
             ColorLoopActionEnum::ActivateFromColorLoopStartEnhancedHue => 1,
             ColorLoopActionEnum::ActivateFromEnhancedCurrentHue => 2,
         }
     }
+}
 
-    pub fn of_number(n: u8) -> ColorLoopActionFound
-        ensures { result ≡ loop_action_found n }
-    {
-        if n == 0 {
-            return ColorLoopActionFound::Known(ColorLoopActionEnum::Deactivate);
+impl TryFrom<u8> for ColorLoopActionEnum {
+    type Error = Reserved;
+
+    ghost try_from_gives = { λ n r. r ≡ loop_action_found n };
+
+    fn try_from(number: u8) -> Result<Self, Reserved> {
+        match number {
+            0 => Ok(ColorLoopActionEnum::Deactivate),
+            1 => Ok(ColorLoopActionEnum::ActivateFromColorLoopStartEnhancedHue),
+            2 => Ok(ColorLoopActionEnum::ActivateFromEnhancedCurrentHue),
+            _ => Err(Reserved { number }),
         }
-        if n == 1 {
-            return ColorLoopActionFound::Known(
-                ColorLoopActionEnum::ActivateFromColorLoopStartEnhancedHue,
-            );
-        }
-        if n == 2 {
-            return ColorLoopActionFound::Known(ColorLoopActionEnum::ActivateFromEnhancedCurrentHue);
-        }
-        ColorLoopActionFound::Reserved
     }
 }
 
 // Which way the colour loop turns.
-#[derive(Clone, Copy)]
+#[derive(Clone, Copy, Debug, PartialEq, Eq)]
 pub enum ColorLoopDirectionEnum {
     Decrement,
     Increment,
 }
 
-#[derive(Clone, Copy)]
-pub enum ColorLoopDirectionFound {
-    Known(ColorLoopDirectionEnum),
-    Reserved,
-}
+impl From<ColorLoopDirectionEnum> for u8 {
+    ghost from_gives = { λ x n. n ≡ loop_direction_number x };
 
-impl ColorLoopDirectionEnum {
-    pub fn number(self) -> u8
-        ensures { result ≡ loop_direction_number self }
-    {
-        match self {
+    fn from(case: ColorLoopDirectionEnum) -> u8 {
+        match case {
             ColorLoopDirectionEnum::Decrement => 0,
             ColorLoopDirectionEnum::Increment => 1,
         }
     }
+}
 
-    pub fn of_number(n: u8) -> ColorLoopDirectionFound
-        ensures { result ≡ loop_direction_found n }
-    {
-        if n == 0 {
-            return ColorLoopDirectionFound::Known(ColorLoopDirectionEnum::Decrement);
+impl TryFrom<u8> for ColorLoopDirectionEnum {
+    type Error = Reserved;
+
+    ghost try_from_gives = { λ n r. r ≡ loop_direction_found n };
+
+    fn try_from(number: u8) -> Result<Self, Reserved> {
+        match number {
+            0 => Ok(ColorLoopDirectionEnum::Decrement),
+            1 => Ok(ColorLoopDirectionEnum::Increment),
+            _ => Err(Reserved { number }),
         }
-        if n == 1 {
-            return ColorLoopDirectionFound::Known(ColorLoopDirectionEnum::Increment);
-        }
-        ColorLoopDirectionFound::Reserved
     }
 }
 
 // Which attributes the colour is read from.
-#[derive(Clone, Copy)]
+#[derive(Clone, Copy, Debug, PartialEq, Eq)]
 pub enum ColorModeEnum {
     CurrentHueAndCurrentSaturation,
     CurrentXAndCurrentY,
     ColorTemperatureMireds,
 }
 
-#[derive(Clone, Copy)]
-pub enum ColorModeFound {
-    Known(ColorModeEnum),
-    Reserved,
-}
+impl From<ColorModeEnum> for u8 {
+    ghost from_gives = { λ x n. n ≡ color_mode_number x };
 
-impl ColorModeEnum {
-    pub fn number(self) -> u8
-        ensures { result ≡ color_mode_number self }
-    {
-        match self {
+    fn from(case: ColorModeEnum) -> u8 {
+        match case {
             ColorModeEnum::CurrentHueAndCurrentSaturation => 0,
             ColorModeEnum::CurrentXAndCurrentY => 1,
             ColorModeEnum::ColorTemperatureMireds => 2,
         }
     }
+}
 
-    pub fn of_number(n: u8) -> ColorModeFound
-        ensures { result ≡ color_mode_found n }
-    {
-        if n == 0 {
-            return ColorModeFound::Known(ColorModeEnum::CurrentHueAndCurrentSaturation);
+impl TryFrom<u8> for ColorModeEnum {
+    type Error = Reserved;
+
+    ghost try_from_gives = { λ n r. r ≡ color_mode_found n };
+
+    fn try_from(number: u8) -> Result<Self, Reserved> {
+        match number {
+            0 => Ok(ColorModeEnum::CurrentHueAndCurrentSaturation),
+            1 => Ok(ColorModeEnum::CurrentXAndCurrentY),
+            2 => Ok(ColorModeEnum::ColorTemperatureMireds),
+            _ => Err(Reserved { number }),
         }
-        if n == 1 {
-            return ColorModeFound::Known(ColorModeEnum::CurrentXAndCurrentY);
-        }
-        if n == 2 {
-            return ColorModeFound::Known(ColorModeEnum::ColorTemperatureMireds);
-        }
-        ColorModeFound::Reserved
     }
 }
 
 // ColorModeEnum, and the enhanced hue.
-#[derive(Clone, Copy)]
+#[derive(Clone, Copy, Debug, PartialEq, Eq)]
 pub enum EnhancedColorModeEnum {
     CurrentHueAndCurrentSaturation,
     CurrentXAndCurrentY,
@@ -268,85 +240,67 @@ pub enum EnhancedColorModeEnum {
     EnhancedCurrentHueAndCurrentSaturation,
 }
 
-#[derive(Clone, Copy)]
-pub enum EnhancedColorModeFound {
-    Known(EnhancedColorModeEnum),
-    Reserved,
-}
+impl From<EnhancedColorModeEnum> for u8 {
+    ghost from_gives = { λ x n. n ≡ enhanced_color_mode_number x };
 
-impl EnhancedColorModeEnum {
-    pub fn number(self) -> u8
-        ensures { result ≡ enhanced_color_mode_number self }
-    {
-        match self {
+    fn from(case: EnhancedColorModeEnum) -> u8 {
+        match case {
             EnhancedColorModeEnum::CurrentHueAndCurrentSaturation => 0,
             EnhancedColorModeEnum::CurrentXAndCurrentY => 1,
             EnhancedColorModeEnum::ColorTemperatureMireds => 2,
             EnhancedColorModeEnum::EnhancedCurrentHueAndCurrentSaturation => 3,
         }
     }
+}
 
-    pub fn of_number(n: u8) -> EnhancedColorModeFound
-        ensures { result ≡ enhanced_color_mode_found n }
-    {
-        if n == 0 {
-            return EnhancedColorModeFound::Known(
-                EnhancedColorModeEnum::CurrentHueAndCurrentSaturation,
-            );
+impl TryFrom<u8> for EnhancedColorModeEnum {
+    type Error = Reserved;
+
+    ghost try_from_gives = { λ n r. r ≡ enhanced_color_mode_found n };
+
+    fn try_from(number: u8) -> Result<Self, Reserved> {
+        match number {
+            0 => Ok(EnhancedColorModeEnum::CurrentHueAndCurrentSaturation),
+            1 => Ok(EnhancedColorModeEnum::CurrentXAndCurrentY),
+            2 => Ok(EnhancedColorModeEnum::ColorTemperatureMireds),
+            3 => Ok(EnhancedColorModeEnum::EnhancedCurrentHueAndCurrentSaturation),
+            _ => Err(Reserved { number }),
         }
-        if n == 1 {
-            return EnhancedColorModeFound::Known(EnhancedColorModeEnum::CurrentXAndCurrentY);
-        }
-        if n == 2 {
-            return EnhancedColorModeFound::Known(EnhancedColorModeEnum::ColorTemperatureMireds);
-        }
-        if n == 3 {
-            return EnhancedColorModeFound::Known(
-                EnhancedColorModeEnum::EnhancedCurrentHueAndCurrentSaturation,
-            );
-        }
-        EnhancedColorModeFound::Reserved
     }
 }
 
 // What the on/off cluster beside the lamp says: off, on, or that there is none.
-#[derive(Clone, Copy)]
+#[derive(Clone, Copy, Debug, PartialEq, Eq)]
 pub enum OnOff {
     Off,
     On,
     NoHandler,
 }
 
-#[derive(Clone, Copy)]
-pub enum OnOffFound {
-    Known(OnOff),
-    Reserved,
-}
+impl From<OnOff> for u8 {
+    ghost from_gives = { λ x n. n ≡ on_off_number x };
 
-impl OnOff {
-    pub fn number(self) -> u8
-        ensures { result ≡ on_off_number self }
-    {
-        match self {
+    fn from(case: OnOff) -> u8 {
+        match case {
             OnOff::Off => 0,
             OnOff::On => 1,
             OnOff::NoHandler => 2,
         }
     }
+}
 
-    pub fn of_number(n: u8) -> OnOffFound
-        ensures { result ≡ on_off_found n }
-    {
-        if n == 0 {
-            return OnOffFound::Known(OnOff::Off);
+impl TryFrom<u8> for OnOff {
+    type Error = Reserved;
+
+    ghost try_from_gives = { λ n r. r ≡ on_off_found n };
+
+    fn try_from(number: u8) -> Result<Self, Reserved> {
+        match number {
+            0 => Ok(OnOff::Off),
+            1 => Ok(OnOff::On),
+            2 => Ok(OnOff::NoHandler),
+            _ => Err(Reserved { number }),
         }
-        if n == 1 {
-            return OnOffFound::Known(OnOff::On);
-        }
-        if n == 2 {
-            return OnOffFound::Known(OnOff::NoHandler);
-        }
-        OnOffFound::Reserved
     }
 }
 

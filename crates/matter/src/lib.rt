@@ -1,22 +1,16 @@
 // The vocabulary of the Color Control cluster: enums, bitmaps, commands, limits, and the causes of a refusal.
 #![tactic(auto)]
 
-mod causes;
 mod commands;
 mod enums;
 mod limits;
 mod options;
+mod refusals;
 
-pub use causes::{
-    ACCEPTED, CLOCK_REFUSED, CONSTRAINT_ERROR, CROSSED_BOUNDS, INVALID_COMMAND, INVALID_LAMP,
-    INVALID_TASK, NO_PLACE, SHORT_SLICE, STEP_WHILE_IDLE,
-};
 pub use commands::{Command, CommandOptions, Request};
 pub use enums::{
-    ColorLoopActionEnum, ColorLoopActionFound, ColorLoopDirectionEnum, ColorLoopDirectionFound,
-    ColorModeEnum, ColorModeFound, DirectionEnum, DirectionFound, EnhancedColorModeEnum,
-    EnhancedColorModeFound, MoveModeEnum, MoveModeFound, OnOff, OnOffFound, StepModeEnum,
-    StepModeFound, color_mode_of,
+    ColorLoopActionEnum, ColorLoopDirectionEnum, ColorModeEnum, DirectionEnum,
+    EnhancedColorModeEnum, MoveModeEnum, OnOff, Reserved, StepModeEnum, color_mode_of,
 };
 pub use limits::{Bounds, CLOCK_LIMIT};
 pub use options::{
@@ -24,3 +18,4 @@ pub use options::{
     UPDATE_DIRECTION, UPDATE_START_HUE, UPDATE_TIME, XY, contains, default_color_mode,
     should_continue,
 };
+pub use refusals::{Refusal, number_of};

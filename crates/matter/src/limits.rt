@@ -6,7 +6,7 @@ ghost use Rattle.matter.specs.Bounds.{lower, upper};
 pub const CLOCK_LIMIT: u64 = 1_099_511_627_776;
 
 // The physical bounds of the mireds.
-#[derive(Clone, Copy)]
+#[derive(Clone, Copy, Debug, PartialEq, Eq)]
 pub struct Bounds {
     pub min: u16,
     pub max: u16,
@@ -17,13 +17,13 @@ impl Bounds {
     pub fn lower_limit(self, limit: u16) -> u16
         ensures { result ≡ lower self limit }
     {
-        if limit < self.min { self.min } else { limit }
+        limit.max(self.min)
     }
 
     // The smaller maximum.
     pub fn upper_limit(self, limit: u16) -> u16
         ensures { result ≡ upper self limit }
     {
-        if self.max < limit { self.max } else { limit }
+        limit.min(self.max)
     }
 }

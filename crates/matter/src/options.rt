@@ -44,8 +44,7 @@ pub fn should_continue(on_off: OnOff, options: u8, options_mask: u8, options_ove
     ensures { result ≡ may_execute on_off options options_mask options_override }
 {
     match on_off {
-        OnOff::NoHandler => true,
-        OnOff::On => true,
+        OnOff::NoHandler | OnOff::On => true,
         OnOff::Off => {
             if contains(options_mask as u32, EXECUTE_IF_OFF) {
                 contains(options_override as u32, EXECUTE_IF_OFF)

@@ -1,17 +1,17 @@
 -- How many of 32 lamps run and the lowest place, asked again and again.
+use Rattle.std.specs.Prelude.{Option, Some, None}
 use Rattle.std.specs.Prelude.{ℕ, ◌+◌, ◌*◌, ◌%◌, ltb, cond, List, [], ◌∷◌, set, replicate}
 use Rattle.lamp.specs.declared.Lamp.{Lamp}
 use Rattle.tasks.specs.declared.Running.{Running}
-use Rattle.rows.specs.declared.Lowest.{Lowest}
 use Rattle.rows.specs.Rows.{count_of, lowest_of, running_count, first_running}
 use Rattle.exports.specs.Lamps.{lamp_of}
 use Rattle.measure.specs.declared.sums.Sums.{Sums}
 use Rattle.measure.specs.Sums.{added}
 
 -- count and lowest place in one number; 32 stands for no place
-unfoldable pub numbered : ℕ → Lowest → ℕ
-numbered count Lowest.Nothing = count + 2048
-numbered count (Lowest.At place) = count + 64 * place
+unfoldable pub numbered : ℕ → Option ℕ → ℕ
+numbered count None = count + 2048
+numbered count (Some place) = count + 64 * place
 
 -- by the mask
 abbrev pub of_mask : ℕ → ℕ

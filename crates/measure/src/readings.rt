@@ -5,17 +5,17 @@ ghost use Rattle.measure.specs.Readings.{numbered, of_mask, of_lamps, turned, ma
 
 use crate::sums::Sums;
 use lamp::Lamp;
-use rows::{Lowest, lowest_running, running_count};
+use rows::{lowest_running, running_count};
 use tasks::Running;
 
 // Count and lowest place in one number; 32 stands for no place.
 #[tactic(auto, unfolding(crate::specs::Readings::numbered))]
-fn numbered(count: u32, lowest: Lowest) -> u64
+fn numbered(count: u32, lowest: Option<u8>) -> u64
     ensures { result ≡ numbered count lowest }
 {
     match lowest {
-        Lowest::Nothing => count as u64 + 2048,
-        Lowest::At(place) => count as u64 + 64 * (place as u64),
+        None => count as u64 + 2048,
+        Some(place) => count as u64 + 64 * (place as u64),
     }
 }
 
@@ -32,13 +32,13 @@ fn of_lamps(lamps: &[Lamp]) -> u64
     ensures { result ≡ of_lamps lamps.now }
 {
     let mut count: u32 = 0;
-    let mut lowest = Lowest::Nothing;
+    let mut lowest = None;
     let mut i = lamps.len();
     while 0 < i {
         i -= 1;
         if lamps[i].running.is_running() {
             count += 1;
-            lowest = Lowest::At(i as u8);
+            lowest = Some(i as u8);
         }
     }
     numbered(count, lowest)

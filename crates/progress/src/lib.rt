@@ -29,13 +29,7 @@ pub fn permille(elapsed: u64, time: u32) -> u16
 fn limited(signed: i64) -> i64
     ensures { result ≡ limited signed }
 {
-    if 65535 < signed {
-        return 65535;
-    }
-    if signed < -65535 {
-        return -65535;
-    }
-    signed
+    signed.clamp(-65535, 65535)
 }
 
 // The part of a signed way at so many thousandths. The fraction is dropped toward zero.
@@ -49,11 +43,7 @@ pub fn part(way: i64, permille: u16) -> i64
 fn within_limit(elapsed: u64) -> u64
     ensures { result ≡ min elapsed clock_limit }
 {
-    if CLOCK_LIMIT < elapsed {
-        CLOCK_LIMIT
-    } else {
-        elapsed
-    }
+    elapsed.min(CLOCK_LIMIT)
 }
 
 // The signed way that a move at a rate per second has gone. The fraction is dropped toward zero.
@@ -107,11 +97,7 @@ pub fn loop_delta(direction: ColorLoopDirectionEnum, elapsed: u64, seconds: u16)
 pub fn tenths(ms: u64) -> u64
     ensures { result ≡ tenths_of ms }
 {
-    let whole = ms / 100;
-    if ms % 100 == 0 {
-        return whole;
-    }
-    whole + 1
+    ms.div_ceil(100)
 }
 
 // The sum of a start and a signed part, clamped to `lo` and `hi`; `lo` is checked first.
@@ -139,32 +125,21 @@ pub fn moved_saturation(start: u8, part: i64) -> u8
 pub fn elapsed(start: u64, clock: u64) -> u64
     ensures { result ≡ clock - start }
 {
-    if clock < start {
-        return 0;
-    }
-    clock - start
+    clock.saturating_sub(start)
 }
 
 // What is left of a move-to's time.
 pub fn time_left(elapsed: u64, time: u32) -> u64
     ensures { result ≡ time - elapsed }
 {
-    let total = time as u64;
-    if total < elapsed {
-        return 0;
-    }
-    total - elapsed
+    u64::from(time).saturating_sub(elapsed)
 }
 
 // The wait before a move-to's next step: its end, if that is nearer than a tick.
 pub fn wait_for_end(elapsed: u64, time: u32) -> u64
     ensures { result ≡ end_wait elapsed time }
 {
-    let left = time_left(elapsed, time);
-    if left < TICK {
-        return left;
-    }
-    TICK
+    time_left(elapsed, time).min(TICK)
 }
 
 // The wait before the colour loop's next step: its next whole turn, if that is nearer than a tick.
@@ -172,9 +147,5 @@ pub fn wait_for_turn(elapsed: u64, seconds: u16) -> u64
     ensures { result ≡ turn_wait elapsed seconds }
 {
     let total = loop_ms(seconds);
-    let left = total - elapsed % total;
-    if left < TICK {
-        return left;
-    }
-    TICK
+    (total - elapsed % total).min(TICK)
 }

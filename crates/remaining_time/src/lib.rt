@@ -3,28 +3,21 @@
 #![tactic(auto)]
 
 ghost use Rattle.std.specs.Prelude.{◌≡◌};
-ghost use Rattle.remaining_time.specs.RemainingTime.{apart, reported, written_quietly};
+ghost use Rattle.remaining_time.specs.RemainingTime.{reported, written_quietly};
 
 use progress::tenths;
 
 // The attribute, in tenths of a second.
-#[derive(Clone, Copy)]
+#[derive(Clone, Copy, Debug, PartialEq, Eq)]
 pub struct RemainingTime {
     pub tenths: u16,
 }
 
 // The attribute after a write, and whether the change is reported.
-#[derive(Clone, Copy)]
+#[derive(Clone, Copy, Debug, PartialEq, Eq)]
 pub struct Written {
     pub reported: bool,
     pub remaining: RemainingTime,
-}
-
-// How far apart two numbers are.
-fn abs_diff(a: u16, b: u16) -> u16
-    ensures { result ≡ apart a b }
-{
-    if a < b { b - a } else { a - b }
 }
 
 // Whether a change from `prev` to `new_ds` is reported: to 0, from 0 to more than a second, or, at a transition's start,
@@ -35,7 +28,7 @@ fn is_reported(prev: u16, new_ds: u16, is_start_of_transition: bool) -> bool
 {
     let changed_to_zero = (new_ds == 0) & !(prev == 0);
     let changed_from_zero_gt_10 = (prev == 0) & (10 < new_ds);
-    let changed_by_gt_10 = (10 < abs_diff(new_ds, prev)) & is_start_of_transition;
+    let changed_by_gt_10 = (10 < new_ds.abs_diff(prev)) & is_start_of_transition;
     changed_to_zero | changed_from_zero_gt_10 | changed_by_gt_10
 }
 

@@ -7,7 +7,6 @@ use row_lines::answers::RowTurn;
 use row_lines::lines::{OnRow, RowLine};
 use row_lines::{answers, lines};
 use rows::Row;
-use tasks::GivenTask;
 use text::writer;
 
 // A line of more bytes is unreadable.
@@ -37,13 +36,13 @@ pub(crate) fn nothing_yet() -> Kept {
 }
 
 // The task that was given last is another.
-fn with_task(state: State, task: GivenTask) -> State {
+fn with_task(state: State, task: Option<Task>) -> State {
     let held = state.held;
     State { held, task }
 }
 
 // A row and the task that it leaves beside the lamp.
-fn with_row(state: State, turn: RowTurn, task: GivenTask) -> Reply {
+fn with_row(state: State, turn: RowTurn, task: Option<Task>) -> Reply {
     let row = turn.row;
     Reply {
         kept: Kept {
@@ -58,7 +57,7 @@ fn with_row(state: State, turn: RowTurn, task: GivenTask) -> Reply {
 // A new row: the task that was given last is forgotten.
 fn make_row(kept: Kept, count: u8, out: &mut [u8], at: usize) -> Reply {
     let before = kept.state;
-    with_row(before, answers::make(count, out, at), GivenTask::Nothing)
+    with_row(before, answers::make(count, out, at), None)
 }
 
 // The lamp's turn, beside the row that there is.

@@ -3,9 +3,8 @@
 use call_lines::leaves::Leaf;
 use call_lines::lines::{Line, Making, OnLamp};
 use call_lines::{leaves, lines};
-use lamp::{Answer, Call, Lamp, Made};
+use lamp::{Answer, Call, Lamp, };
 use lamp_lines::answers;
-use tasks::GivenTask;
 use text::writer;
 
 #[derive(Clone, Copy)]
@@ -18,7 +17,7 @@ pub enum Held {
 #[derive(Clone, Copy)]
 pub struct State {
     pub held: Held,
-    pub task: GivenTask,
+    pub task: Option<Task>,
 }
 
 // The state after a line, and the place after its answer.
@@ -31,7 +30,7 @@ pub struct Turn {
 pub(crate) fn nothing_yet() -> State {
     State {
         held: Held::Nothing,
-        task: GivenTask::Nothing,
+        task: None,
     }
 }
 
@@ -80,15 +79,15 @@ fn help(state: State, out: &mut [u8], at: usize) -> Turn {
 }
 
 // The task given last, after an answer.
-pub(crate) fn last_task(last: GivenTask, given: GivenTask) -> GivenTask {
+pub(crate) fn last_task(last: Option<Task>, given: Option<Task>) -> Option<Task> {
     match given {
-        GivenTask::Nothing => last,
-        GivenTask::Given(task) => GivenTask::Given(task),
+        None => last,
+        Some(task) => Some(task),
     }
 }
 
 // An answer is written, and its lamp kept.
-fn answered(last: GivenTask, answer: Answer, out: &mut [u8], at: usize) -> Turn {
+fn answered(last: Option<Task>, answer: Answer, out: &mut [u8], at: usize) -> Turn {
     let lamp = answer.lamp;
     let given = answer.task;
     let task = last_task(last, given);
@@ -104,7 +103,7 @@ fn answered(last: GivenTask, answer: Answer, out: &mut [u8], at: usize) -> Turn 
 
 // Another lamp: the task that was given last is forgotten.
 fn placed(lamp: Lamp, out: &mut [u8], at: usize) -> Turn {
-    answered(GivenTask::Nothing, lines::shown(lamp), out, at)
+    answered(None, lines::shown(lamp), out, at)
 }
 
 fn not_made(state: State, number: u8, out: &mut [u8], at: usize) -> Turn {
@@ -117,8 +116,8 @@ fn not_made(state: State, number: u8, out: &mut [u8], at: usize) -> Turn {
 
 fn make(state: State, making: Making, out: &mut [u8], at: usize) -> Turn {
     match lines::make(making) {
-        Made::Lamp(lamp) => placed(lamp, out, at),
-        Made::Refused(number) => not_made(state, number, out, at),
+        Ok(lamp) => placed(lamp, out, at),
+        Err(number) => not_made(state, number, out, at),
     }
 }
 
@@ -135,8 +134,8 @@ fn on_held(state: State, what: OnLamp, out: &mut [u8], at: usize) -> Turn {
 fn start_last(state: State, clock: u64, out: &mut [u8], at: usize) -> Turn {
     let last = state.task;
     match last {
-        GivenTask::Nothing => error(state, out, at),
-        GivenTask::Given(task) => {
+        None => error(state, out, at),
+        Some(task) => {
             on_held(state, OnLamp::Call(Call::Start { task, clock }), out, at)
         }
     }

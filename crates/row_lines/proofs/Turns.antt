@@ -6,7 +6,8 @@ use mathlib.Core.List.{List, ◌++◌}
 use borrow.Author.Tests.{le-leb}
 use lib.Dec.{leb}
 use lib.ListN.{length}
-use Rattle.lamp.specs.declared.Made.{Made}
+use Rattle.std.specs.Prelude.{Result, Ok, Err}
+use Rattle.matter.specs.declared.refusals.Refusal.{Refusal}
 use Rattle.lamp.specs.Making.{making}
 use Rattle.rows.specs.declared.Row.{Row}
 use Rattle.rows.specs.declared.RowStepped.{RowStepped}
@@ -24,7 +25,7 @@ unfolding step_with
 step-turn r fill clock given lent left stepped e f g = rw (g, f, e, lent_length fill (length given))
 
 -- the lamps of a fresh row are those that `new 153 500 31 0 0` makes
-pub fresh-made : making (record { min = 153; max = 500 }) 31 0 0 ≡ Made.Lamp fresh_place
+pub fresh-made : making (record { min = 153; max = 500 }) 31 0 0 ≡ Ok fresh_place
 unfolding making
 fresh-made = refl
 

@@ -1,11 +1,10 @@
 -- What the lines of a row come to, and the texts of their answers: document 02, A.1 and A.3; docs/PROTOCOL.md.
+use Rattle.std.specs.Prelude.{Option, Some, None}
 use Rattle.std.specs.Prelude.{ℕ, zero, suc, ◌+◌, ◌*◌, ◌%◌, Bool, cond, ◌||◌, List, [], ◌∷◌, ◌++◌, ◌≡◌, leb, ltb, eqb, length, drop, replicate}
-use Rattle.tasks.specs.declared.GivenTask.{GivenTask}
 use Rattle.lamp.specs.declared.Answer.{Answer}
 use Rattle.lamp.specs.declared.Call.{Call}
 use Rattle.lamp.specs.declared.Lamp.{Lamp}
 use Rattle.lamp.specs.Making.{fresh_lamp}
-use Rattle.rows.specs.declared.Lowest.{Lowest}
 use Rattle.rows.specs.declared.Row.{Row}
 use Rattle.rows.specs.declared.RowAnswer.{RowAnswer}
 use Rattle.rows.specs.declared.RowStepped.{RowStepped}
@@ -55,7 +54,7 @@ then_row r = ascii " |" ++ row_text r
 -- the row after it, the task that a lamp gave, and the answer
 pub record Turn : Type 0 where
   pub row : Row
-  pub task : GivenTask
+  pub task : Option Task
   pub text : List ℕ
 
 -- what a function gives that puts its answer into a sink
@@ -64,7 +63,7 @@ Turned t push old new r = (r.row ≡ t.row) × (r.task ≡ t.task) × (new ≡ f
 
 -- the row, no task
 abbrev pub says : Row → List ℕ → Turn
-says r text = record { row = r; task = GivenTask.Nothing; text = text }
+says r text = record { row = r; task = None; text = text }
 
 -- ok | <row>
 abbrev pub shown_row : Row → Turn
@@ -94,9 +93,9 @@ with_mask r mask = record { count = r.count; running_mask = mask; lamps = r.lamp
 
 -- ---- how many are still turning, from the word alone
 
-abbrev pub lowest_text : Lowest → List ℕ
-lowest_text Lowest.Nothing = ascii " -"
-lowest_text (Lowest.At place) = number_text place
+abbrev pub lowest_text : Option ℕ → List ℕ
+lowest_text None = ascii " -"
+lowest_text (Some place) = number_text place
 
 -- "`<count> <lowest>`, or `0 -`"
 unfoldable pub turning_text : ℕ → List ℕ
@@ -137,9 +136,9 @@ step_row r s = cond (ltb 1024 s.size) (unread r) (step_with r s.size s.fill s.cl
 -- ---- lines at a place
 
 -- "`startlast` where no task was given" is an error
-abbrev pub last_start : GivenTask → ℕ → Asked
-last_start GivenTask.Nothing clock = Asked.Nothing
-last_start (GivenTask.Given task) clock = Asked.Call (Call.Start task clock)
+abbrev pub last_start : Option Task → ℕ → Asked
+last_start None clock = Asked.Nothing
+last_start (Some task) clock = Asked.Call (Call.Start task clock)
 
 -- single calls; "edits and looks from outside"; "`at <place> set`, `new`, `drive`, `leaf`: `error`"
 abbrev pub on_lamp_asked : OnLamp → Asked
@@ -149,7 +148,7 @@ on_lamp_asked (OnLamp.Record running) = Asked.Edit (OnLamp.Record running)
 on_lamp_asked OnLamp.Show = Asked.Edit OnLamp.Show
 on_lamp_asked (OnLamp.Set setting) = Asked.Nothing
 
-abbrev pub asked_of : Line → GivenTask → Asked
+abbrev pub asked_of : Line → Option Task → Asked
 asked_of (Line.Lamp l) last = Asked.Place l
 asked_of (Line.OnLamp what) last = on_lamp_asked what
 asked_of (Line.StartLast clock) last = last_start last clock
@@ -207,7 +206,7 @@ answered_place r place Asked.Nothing = unread r
 
 -- ---- the lines of the row that there is, where this task was given last
 
-unfoldable pub on_row : Row → OnRow → GivenTask → Turn
+unfoldable pub on_row : Row → OnRow → Option Task → Turn
 on_row r (OnRow.Count count) last = shown_row (with_count r count)
 on_row r (OnRow.Mask mask) last = shown_row (with_mask r mask)
 on_row r OnRow.Show last = shown_row r

@@ -15,8 +15,8 @@ use lamp::{Answer, Call, Lamp, LoopSettings};
 use lamp_lines::answers::{answer, bar, ending, lamp_numbers, number, numbers, status};
 use matter::{Bounds, ColorLoopDirectionEnum};
 use remaining_time::RemainingTime;
-use rows::{Lowest, MOST, Row, RowAnswer, lowest_running, running_count};
-use tasks::{GivenTask, Running};
+use rows::{MOST, Row, RowAnswer, lowest_running, running_count};
+use tasks::{Running};
 use text::writer::{Sink, decimal, hex, text};
 
 // The longest slice that is lent.
@@ -26,7 +26,7 @@ const LONGEST: usize = 1024;
 #[derive(Clone, Copy)]
 pub struct RowTurn {
     pub row: Row,
-    pub task: GivenTask,
+    pub task: Option<Task>,
 }
 
 // What a line at a place asks of the lamp there.
@@ -101,7 +101,7 @@ fn shown<S: Sink>(row: Row, out: &mut S) -> RowTurn
     then_row(out, row);
     RowTurn {
         row,
-        task: GivenTask::Nothing,
+        task: None,
     }
 }
 
@@ -111,7 +111,7 @@ fn error<S: Sink>(row: Row, out: &mut S) -> RowTurn
     text(out, b"error");
     RowTurn {
         row,
-        task: GivenTask::Nothing,
+        task: None,
     }
 }
 
@@ -170,12 +170,12 @@ fn with_mask(row: Row, running_mask: u32) -> Row
 }
 
 // The lowest place that runs; `-` where none does.
-fn lowest<S: Sink>(out: &mut S, place: Lowest)
+fn lowest<S: Sink>(out: &mut S, place: Option<u8>)
     ensures { out.new ≡ fold S.push out.old (lowest_text place) }
 {
     match place {
-        Lowest::Nothing => text(out, b" -"),
-        Lowest::At(k) => number(out, k as u64),
+        None => text(out, b" -"),
+        Some(k) => number(out, k as u64),
     }
 }
 
@@ -195,7 +195,7 @@ fn row_turning<S: Sink>(row: Row, out: &mut S) -> RowTurn
     turning(row.running_mask, out);
     RowTurn {
         row,
-        task: GivenTask::Nothing,
+        task: None,
     }
 }
 
@@ -276,7 +276,7 @@ fn step_with<S: Sink>(row: Row, bytes: &mut [u8], asked: RowStep, out: &mut S) -
     lent(out, stepped.wait, bytes, asked.fill);
     RowTurn {
         row: stepped.row,
-        task: GivenTask::Nothing,
+        task: None,
     }
 }
 
@@ -294,12 +294,12 @@ fn step<S: Sink>(row: Row, asked: RowStep, out: &mut S) -> RowTurn
 }
 
 // A start of the task given last.
-fn start_of(last: GivenTask, clock: u64) -> Asked
+fn start_of(last: Option<Task>, clock: u64) -> Asked
     ensures { result ≡ last_start last clock }
 {
     match last {
-        GivenTask::Nothing => Asked::Nothing,
-        GivenTask::Given(task) => Asked::Call(Call::Start { task, clock }),
+        None => Asked::Nothing,
+        Some(task) => Asked::Call(Call::Start { task, clock }),
     }
 }
 
@@ -316,7 +316,7 @@ fn asked_of(what: OnLamp) -> Asked
 }
 
 // What a line asks of a lamp in a row, where the task given last is this.
-fn asked_at(line: Line, last: GivenTask) -> Asked
+fn asked_at(line: Line, last: Option<Task>) -> Asked
     ensures { result ≡ asked_of line last }
 {
     match line {
@@ -395,7 +395,7 @@ fn edited<S: Sink>(row: Row, place: u8, edit: Answer, out: &mut S) -> RowTurn
     then_row(out, next);
     RowTurn {
         row: next,
-        task: GivenTask::Nothing,
+        task: None,
     }
 }
 
@@ -413,7 +413,7 @@ fn edited_on<S: Sink>(row: Row, place: u8, what: OnLamp, out: &mut S) -> RowTurn
 
 // A line at a place, where the task given last is this.
 #[tactic(auto, unfolding(crate::specs::RowAnswers::answered_place))]
-fn at_place<S: Sink>(row: Row, asked: AtPlace, last: GivenTask, out: &mut S) -> RowTurn
+fn at_place<S: Sink>(row: Row, asked: AtPlace, last: Option<Task>, out: &mut S) -> RowTurn
     ensures { Turned (answered_place row asked.place (asked_of asked.line last)) S.push out.old out.new result }
 {
     let AtPlace { place, line } = asked;
@@ -427,7 +427,7 @@ fn at_place<S: Sink>(row: Row, asked: AtPlace, last: GivenTask, out: &mut S) -> 
 
 // A line of the row, where the task given last is this.
 #[tactic(auto, unfolding(crate::specs::RowAnswers::on_row))]
-pub fn on_row<S: Sink>(row: Row, what: OnRow, last: GivenTask, out: &mut S) -> RowTurn
+pub fn on_row<S: Sink>(row: Row, what: OnRow, last: Option<Task>, out: &mut S) -> RowTurn
     ensures { Turned (on_row row what last) S.push out.old out.new result }
 {
     match what {

@@ -1,4 +1,5 @@
 -- Ten lamps that turn together by one row call, and two fades 50 ms apart, with their waits, by computation.
+use Rattle.std.specs.Prelude.{Option, Some, None}
 use Prim.Native.Nat.{ℕ, zero, suc}
 use mathlib.Core.Bool.{false}
 use mathlib.Core.List.{List, [], ◌∷◌, ◌++◌, map}
@@ -10,8 +11,6 @@ use Rattle.hue.specs.Hue.{moved_hue}
 use Rattle.progress.specs.Progress.{permille_of}
 use Rattle.color.specs.Valid.{color_valid}
 use Rattle.color.specs.Setters.{hue_set}
-use Rattle.tasks.specs.declared.HueDelta.{HueDelta}
-use Rattle.tasks.specs.declared.TargetSaturation.{TargetSaturation}
 use Rattle.tasks.specs.declared.Task.{Task}
 use Rattle.tasks.specs.Valid.{move_to_valid, task_valid, running_valid}
 use Rattle.lamp.specs.declared.Lamp.{Lamp}
@@ -38,7 +37,7 @@ two = of_idle 2
 
 -- half the circle down, in two tenths
 abbrev pub down : Task
-down = Task.HueSaturationMoveTo (record { delta = HueDelta.By (neg_ℤ (pos 32768)); saturation = TargetSaturation.Keep; ms = 200; enhanced = false })
+down = Task.HueSaturationMoveTo (record { delta = Some (neg_ℤ (pos 32768)); saturation = None; ms = 200; enhanced = false })
 
 -- a start at each of so many places, from place k on
 abbrev pub starts : ℕ → ℕ → List RowCall

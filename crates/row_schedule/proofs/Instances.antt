@@ -1,6 +1,7 @@
 -- The claim for rows, of rows that meet its premises by computation: the last of two lamps, given a move to a hue, started, and
 -- turned by row calls among refused ones and calls to its neighbour, ends at its target, and its row shows that; and the lamp at
 -- place 4 of ten, with each part of the tie read as numbers.
+use Rattle.std.specs.Prelude.{Option, Some, None}
 use Prim.Native.Nat.{ℕ}
 use mathlib.Core.Bool.{false}
 use mathlib.Core.List.{List, [], ◌∷◌, ◌++◌}
@@ -20,7 +21,6 @@ use Rattle.hue.specs.Hue.{distance, path_delta, is_tie, moved_hue}
 use Rattle.progress.specs.Progress.{permille_of}
 use Rattle.color.specs.Valid.{color_valid}
 use Rattle.color.specs.Setters.{hue_set}
-use Rattle.tasks.specs.declared.GivenTask.{GivenTask}
 use Rattle.tasks.specs.Valid.{move_to_valid, task_valid, running_valid}
 use Rattle.lamp.specs.declared.Lamp.{Lamp}
 use Rattle.lamp.specs.declared.Call.{Call}
@@ -156,7 +156,7 @@ hue-at-4 =
 
 -- `single`: the command gives its task, the start asks for 100 ms, and the step with an earlier clock is refused
 pub singles-at-4 :
-    ((answered_at ten 4 (move_to half OnOff.On 5000)).task ≡ GivenTask.Given down)
+    ((answered_at ten 4 (move_to half OnOff.On 5000)).task ≡ Some down)
     × ((answered_at ten 4 (move_to half OnOff.On 5000)).notices.places ≡ 17 ∷ replicate 15 0)
     × ((answered_at (after_row ten begun) 4 (start_of half (lamp_at 0) 5050)).wait ≡ 100)
     × ((answered_at (after_row ten early) 4 (Call.Step 5199)).number ≡ 4)

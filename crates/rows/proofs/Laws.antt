@@ -1,4 +1,5 @@
 -- What a row call and a call at a place come to, seen from one lamp.
+use Rattle.std.specs.Prelude.{Option, Some, None}
 use Prim.Native.Nat.{ℕ, zero, suc, ◌+◌, ◌*◌, ◌≤◌, ◌<◌, min}
 use mathlib.Core.Bool.{Bool, true, false, cond, not, ◌||◌}
 use mathlib.Core.List.{List, [], ◌∷◌}
@@ -11,7 +12,6 @@ use lib.Seq.{get_or-take, get_or-set_same, get_or-set_other, set-get_or, length-
 use borrow.Author.Tests.{eq-eqb, le-ltb, le-leb, lt-leb, leb-false, ltb-false, eqb-true, ne_eqb}
 use Rattle.matter.specs.Limits.{clock_limit}
 use Rattle.notices.specs.Notices.{noted}
-use Rattle.tasks.specs.declared.GivenTask.{GivenTask}
 use Rattle.tasks.specs.Runs.{runs}
 use Rattle.lamp.specs.declared.Lamp.{Lamp}
 use Rattle.lamp.specs.declared.Answer.{Answer}
@@ -255,13 +255,13 @@ single-count r place x = either (eqb (place_cause r place) 0) (λ e. rw e) (λ e
 
 -- one that is refused, for the place or by its lamp, leaves the row as it was, reports nothing, and has no task and wait 0
 pub single-refused : (r : Row) (k : ℕ) (x : Call) → ((answered_at r k x).number ≡ 0 → ⊥) →
-    answered_at r k x ≡ record { number = (answered_at r k x).number; row = r; notices = noted []; task = GivenTask.Nothing; wait = 0 }
+    answered_at r k x ≡ record { number = (answered_at r k x).number; row = r; notices = noted []; task = None; wait = 0 }
 unfolding answered_at
 single-refused r k x n =
     either (eqb (place_cause r k) 0)
     (λ e. let same = refused-same (lamp_at r k) x (λ z. (rw e at n) (number-is-cause (lamp_at r k) x ∙ z)) in
     let stays = ap (with_lamps r) (set-get_or r.lamps k no_lamp) ∙ same-row r (place-there r k (eqb-true _ _ e)).2 in
-    rw (e, same) (ap (λ (q : Row). record { number = cause (lamp_at r k) x; row = q; notices = noted []; task = GivenTask.Nothing; wait = 0 }) stays))
+    rw (e, same) (ap (λ (q : Row). record { number = cause (lamp_at r k) x; row = q; notices = noted []; task = None; wait = 0 }) stays))
     (λ e. rw e)
 
 -- ---- making a row, and putting a lamp into it

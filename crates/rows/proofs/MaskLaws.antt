@@ -1,4 +1,5 @@
 -- What every call leaves of the running mask.
+use Rattle.std.specs.Prelude.{Option, Some, None}
 use Rattle.std.proofs.Common.{◌≡◌, ℕ, ◌^◌, ◌<◌, ◌≤◌, true, cond, ◌&&◌, ◌||◌, length, set, eqb, leb, ltb, refl, ap, sym, ◌∙◌, arith, eqb-true, eq-eqb, leb-false, ltb-true, ltb-false}
 use borrow.Author.Tests.{lt-leb}
 use Rattle.std.specs.Int.{w32, bit_at, trailing_zeros}
@@ -14,7 +15,6 @@ use Rattle.lamp.specs.declared.Call.{Call}
 use Rattle.lamp.specs.declared.Lamp.{Lamp}
 use Rattle.commands.specs.Answers.{answer}
 use Rattle.commands.proofs.Unchanged.{unchanged}
-use Rattle.rows.specs.declared.Lowest.{Lowest}
 use Rattle.rows.specs.declared.Row.{Row}
 use Rattle.rows.specs.Rows.{mask_true, placed, no_lamp, lamp_at, row_cause, row_stepped, place_cause, answered_at, put_at, lowest_of, Readings}
 use Rattle.rows.specs.Mask.{MaskKept, MaskOfRows}
@@ -116,7 +116,7 @@ put-others r place k l low n =
     (λ e. rw e (bit_elsewhere r.running_mask place k (runs l.running) (leb-false 32 place (or_right (leb r.count place) (leb 32 place) e)) low n))
 
 lowest-at : (mask k : ℕ) → mask < 2 ^ 32 → bit_at mask k ≡ 1 → ((j : ℕ) → j < k → bit_at mask j ≡ 0) →
-    lowest_of mask ≡ Lowest.At k
+    lowest_of mask ≡ Some k
 lowest-at mask k fits set_here none_below =
     either (eqb mask 0)
     (λ e. absurd (omega (arith, (rw (eqb-true mask 0 e) at set_here), bit_at-zero k)))
@@ -126,7 +126,7 @@ lowest-at mask k fits set_here none_below =
     let at_least : k ≤ trailing_zeros w32 mask = either (ltb (trailing_zeros w32 mask) k)
     (λ l. absurd (omega (arith, none_below _ (ltb-true _ k l), t.1))) (λ l. ltb-false _ k l) in
     let same : trailing_zeros w32 mask ≡ k = omega (arith, at_most, at_least) in
-    rw e (ap Lowest.At same))
+    rw e (ap Some same))
 
 pub mask-of-rows : MaskOfRows
 mask-of-rows =

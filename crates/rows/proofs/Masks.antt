@@ -1,4 +1,5 @@
 -- The running mask: its bits, its readings, and one bit set or cleared in it.
+use Rattle.std.specs.Prelude.{Option, Some, None}
 use Rattle.std.proofs.Common.{◌≡◌, ℕ, zero, suc, ◌+◌, ◌*◌, ◌^◌, ◌%◌, ◌<◌, ◌≤◌, Bool, true, false, cond, not, List, [], ◌∷◌, map, length, set, take, get_or, eqb, refl, ap, sym, ◌∙◌, arith, w32, count_ones, length-take-le, eqb-true, ne_eqb}
 use Rattle.std.proofs.lemmas.Bool.{eqb-false}
 use Rattle.std.specs.Int.{bit_at, bit_not}
@@ -12,7 +13,6 @@ use Rattle.std.proofs.lemmas.Nat.Bits.{bit_at_set_same, bit_at_set_other, bit_at
 use Rattle.std.proofs.lemmas.Simd.{mask_l-lt, bit_mask_l, ones-mask_l, trailing_mask_l}
 use Rattle.tasks.specs.Runs.{runs}
 use Rattle.lamp.specs.declared.Lamp.{Lamp}
-use Rattle.rows.specs.declared.Lowest.{Lowest}
 use Rattle.rows.specs.declared.Row.{Row}
 use Rattle.std.proofs.lemmas.Nat.{or_of_32, and_le_l}
 use Rattle.rows.proofs.Laws.{either}
@@ -79,17 +79,17 @@ stored-true r k l m there few len =
 
 -- ---- readings
 
-first-step : (b : Bool) (mask before k : ℕ) (rest : Lowest) →
-    cond (eqb mask 0) Lowest.Nothing (Lowest.At (suc k + before)) ≡ rest →
-    cond (eqb (cond b 1 0 + 2 * mask) 0) Lowest.Nothing (Lowest.At (k + cond (not b) (1 + before) 0)) ≡ cond b (Lowest.At k) rest
-first-step true mask before k rest e = rw (ne_eqb (1 + 2 * mask) 0 (λ z. omega (arith, z))) (ap Lowest.At (add-zero k))
+first-step : (b : Bool) (mask before k : ℕ) (rest : Option ℕ) →
+    cond (eqb mask 0) None (Some (suc k + before)) ≡ rest →
+    cond (eqb (cond b 1 0 + 2 * mask) 0) None (Some (k + cond (not b) (1 + before) 0)) ≡ cond b (Some k) rest
+first-step true mask before k rest e = rw (ne_eqb (1 + 2 * mask) 0 (λ z. omega (arith, z))) (ap Some (add-zero k))
 first-step false zero before k rest e = e
 first-step false (suc mask) before k rest e =
     let later : k + (1 + before) ≡ suc k + before = omega arith in
-    rw (ne_eqb (0 + 2 * suc mask) 0 (λ z. omega (arith, z))) (ap Lowest.At later ∙ (rw (ne_eqb (suc mask) 0 (λ z. omega (arith, z))) at e))
+    rw (ne_eqb (0 + 2 * suc mask) 0 (λ z. omega (arith, z))) (ap Some later ∙ (rw (ne_eqb (suc mask) 0 (λ z. omega (arith, z))) at e))
 
 first-at : (k : ℕ) (ls : List Lamp) →
-    cond (eqb (mask_of ls) 0) Lowest.Nothing (Lowest.At (k + prefix_len (λ l. not (running l)) ls)) ≡ first_running k ls
+    cond (eqb (mask_of ls) 0) None (Some (k + prefix_len (λ l. not (running l)) ls)) ≡ first_running k ls
 first-at k [] = refl
 first-at k (l ∷ ls) = first-step (running l) (mask_of ls) (prefix_len (λ x. not (running x)) ls) k (first_running (suc k) ls) (first-at (suc k) ls)
 
@@ -97,7 +97,7 @@ lowest-is : (ls : List Lamp) → length ls ≤ 32 → lowest_of (mask_of ls) ≡
 lowest-is ls few =
     either (eqb (mask_of ls) 0)
     (λ e. rw e (rw e at (first-at 0 ls)))
-    (λ e. rw e (ap Lowest.At (trailing_mask_l running 32 ls few (omega (arith, eqb-false _ _ e)) ∙ sym (zero-add _)) ∙ (rw e at (first-at 0 ls))))
+    (λ e. rw e (ap Some (trailing_mask_l running 32 ls few (omega (arith, eqb-false _ _ e)) ∙ sym (zero-add _)) ∙ (rw e at (first-at 0 ls))))
 
 pub readings : (r : Row) → mask_true r ≡ true → r.count ≤ 32 → length r.lamps ≡ 32 → Readings r
 readings r m few len =

@@ -1,4 +1,5 @@
 -- What is promised of the running mask: document 02, A.3.
+use Rattle.std.specs.Prelude.{Option, Some, None}
 use Rattle.std.specs.Prelude.{ℕ, ◌^◌, ◌<◌, ◌≤◌, ◌≡◌, true, false, cond, ◌&&◌, ltb, List, length}
 use Rattle.std.specs.Int.{bit_at}
 use Rattle.matter.specs.declared.commands.Request.{Request}
@@ -8,7 +9,6 @@ use Rattle.tasks.specs.Runs.{runs}
 use Rattle.lamp.specs.declared.Call.{Call}
 use Rattle.lamp.specs.declared.Lamp.{Lamp}
 use Rattle.commands.specs.Answers.{answer}
-use Rattle.rows.specs.declared.Lowest.{Lowest}
 use Rattle.rows.specs.declared.Row.{Row}
 use Rattle.rows.specs.Rows.{mask_true, row_of, lamp_at, row_stepped, answered_at, put_at, lowest_of}
 
@@ -45,6 +45,6 @@ pub record MaskOfRows : Type 0 where
   pub put_others : (r : Row) (place k : ℕ) (l : Lamp) → k < 32 → (k ≡ place → ⊥) →
       bit_at (put_at r place l).running_mask k ≡ bit_at r.running_mask k
   -- the lowest place of any mask alone: its bit is set, and none below it
-  pub none : lowest_of 0 ≡ Lowest.Nothing
+  pub none : lowest_of 0 ≡ None
   pub lowest : (mask k : ℕ) → mask < 2 ^ 32 → bit_at mask k ≡ 1 → ((j : ℕ) → j < k → bit_at mask j ≡ 0) →
-      lowest_of mask ≡ Lowest.At k
+      lowest_of mask ≡ Some k

@@ -1,4 +1,5 @@
 -- Rows of lamps: document 02, A.1 and A.3. A row has up to 32 lamps; those at and past its count are no part of it.
+use Rattle.std.specs.Prelude.{Option, Some, None}
 use Rattle.std.specs.Prelude.{ℕ, zero, suc, ◌*◌, ◌^◌, ◌<◌, ◌≤◌, min, max, Bool, true, false, not, cond, ◌&&◌, ◌||◌, ◌==◌, List, [], ◌∷◌, ◌++◌, ◌≡◌, leb, ltb, eqb, map, length, set, take, drop, get_or, count_by, bit_and, bit_or, count_ones}
 use Rattle.std.specs.Int.{w32, bit_not, bit_at, trailing_zeros}
 use Rattle.std.specs.Simd.Lanes.{mask_l}
@@ -8,7 +9,6 @@ use Rattle.notices.specs.Notices.{noted}
 use Rattle.matter.specs.declared.enums.ColorModeEnum.{ColorModeEnum}
 use Rattle.matter.specs.declared.enums.EnhancedColorModeEnum.{EnhancedColorModeEnum}
 use Rattle.matter.specs.declared.enums.ColorLoopDirectionEnum.{ColorLoopDirectionEnum}
-use Rattle.tasks.specs.declared.GivenTask.{GivenTask}
 use Rattle.tasks.specs.declared.Running.{Running}
 use Rattle.tasks.specs.Runs.{runs}
 use Rattle.lamp.specs.declared.Lamp.{Lamp}
@@ -18,7 +18,6 @@ use Rattle.lamp.specs.Answers.{first_cause, refusal}
 use Rattle.lamp.specs.Calls.{step_answer}
 use Rattle.lamp.specs.Valid.{lamp_valid}
 use Rattle.commands.specs.Answers.{answer}
-use Rattle.rows.specs.declared.Lowest.{Lowest}
 use Rattle.rows.specs.declared.Row.{Row}
 use Rattle.rows.specs.declared.RowStepped.{RowStepped}
 use Rattle.rows.specs.declared.RowAnswer.{RowAnswer}
@@ -133,7 +132,7 @@ place_cause r place =
 
 abbrev pub place_refusal : Row → ℕ → RowAnswer
 place_refusal r number =
-    record { number = number; row = r; notices = noted []; task = GivenTask.Nothing; wait = 0 }
+    record { number = number; row = r; notices = noted []; task = None; wait = 0 }
 
 -- the lamp's own answer, and the row with that lamp in it
 abbrev pub with_answer : Row → ℕ → Answer → RowAnswer
@@ -203,17 +202,17 @@ abbrev pub count_of : ℕ → ℕ
 count_of mask = count_ones mask
 
 -- "the lowest running place, or that there is none"
-abbrev pub lowest_of : ℕ → Lowest
-lowest_of mask = cond (mask == 0) Lowest.Nothing (Lowest.At (trailing_zeros w32 mask))
+abbrev pub lowest_of : ℕ → Option ℕ
+lowest_of mask = cond (mask == 0) None (Some (trailing_zeros w32 mask))
 
 -- what reading each lamp gives
 abbrev pub running_count : List Lamp → ℕ
 running_count ls = count_by (λ l. runs l.running) ls
 
 -- the first lamp that runs, from place k on
-abbrev pub first_running : ℕ → List Lamp → Lowest
-first_running k [] = Lowest.Nothing
-first_running k (l ∷ ls) = cond (runs l.running) (Lowest.At k) (first_running (suc k) ls)
+abbrev pub first_running : ℕ → List Lamp → Option ℕ
+first_running k [] = None
+first_running k (l ∷ ls) = cond (runs l.running) (Some k) (first_running (suc k) ls)
 
 -- "for a row in form all equal what reading each lamp gives"
 pub record Readings (r : Row) : Type 0 where

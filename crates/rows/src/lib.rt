@@ -10,7 +10,6 @@ use commands::call;
 use lamp::{Answer, Call, Lamp};
 use matter::{ACCEPTED, CLOCK_LIMIT, CLOCK_REFUSED, INVALID_LAMP, NO_PLACE, SHORT_SLICE};
 use notices::Notices;
-use tasks::GivenTask;
 
 // The most lamps of a row.
 pub const MOST: u8 = 32;
@@ -26,7 +25,7 @@ pub struct Row {
 
 // The lowest place of a row at which a lamp runs.
 #[derive(Clone, Copy)]
-pub enum Lowest {
+pub enum Option<u8> {
     Nothing,
     At(u8),
 }
@@ -45,7 +44,7 @@ pub struct RowAnswer {
     pub number: u8,
     pub row: Row,
     pub notices: Notices,
-    pub task: GivenTask,
+    pub task: Option<Task>,
     pub wait: u64,
 }
 
@@ -57,13 +56,13 @@ pub fn running_count(mask: u32) -> u32
 }
 
 // The lowest place at which a lamp runs, from a row's running mask alone.
-pub fn lowest_running(mask: u32) -> Lowest
+pub fn lowest_running(mask: u32) -> Option<u8>
     ensures { result ≡ lowest_of mask }
 {
     if mask == 0 {
-        return Lowest::Nothing;
+        return None;
     }
-    Lowest::At(mask.trailing_zeros() as u8)
+    Some(mask.trailing_zeros() as u8)
 }
 
 // The mask of these lamps.
@@ -222,7 +221,7 @@ impl Row {
             number,
             row: self,
             notices: Notices::new(),
-            task: GivenTask::Nothing,
+            task: None,
             wait: 0,
         }
     }

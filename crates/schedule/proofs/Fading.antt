@@ -1,4 +1,5 @@
 -- A lamp that fades as the schedule says: what holds between the two, over one call and at the start.
+use Rattle.std.specs.Prelude.{Option, Some, None}
 use Prim.Native.Nat.{ℕ, ◌-◌, ◌≤◌, ◌<◌, min}
 use mathlib.Core.Bool.{Bool, true, false, not, ◌&&◌, ◌||◌, and-true, or-false}
 use mathlib.Core.Logic.{inl, inr}
@@ -9,7 +10,6 @@ use lib.Dec.{leb, eqb}
 use borrow.Author.Tests.{leb-true, ne_eqb, not-true}
 use Rattle.progress.specs.Progress.{permille_of}
 use Rattle.progress.proofs.Laws.{permille-full, permille-is}
-use Rattle.tasks.specs.declared.HueDelta.{HueDelta}
 use Rattle.tasks.specs.Runs.{runs}
 use Rattle.tasks.specs.declared.Running.{Running}
 use Rattle.lamp.specs.declared.Lamp.{Lamp}
@@ -118,7 +118,7 @@ permille-none : (c t : ℕ) → 0 < t → permille_of (c - c) t ≡ 0
 permille-none c t h = rw (sub_self c) (permille-is 0 t h ∙ ap (min 1000) (zero-div t))
 
 -- the first pass, at the permille of a start
-start-pass : (f : Fed) → Sane f → (saturation : ℕ) (l : Lamp) → l.clock ≡ f.start → Meets f saturation (hue_saturation_pass l (run_of f saturation) (start_permille (time f.fade) (no_hue_delta (HueDelta.By (delta_from f.fade f.found)) && true))) (shown_at f l.clock)
+start-pass : (f : Fed) → Sane f → (saturation : ℕ) (l : Lamp) → l.clock ≡ f.start → Meets f saturation (hue_saturation_pass l (run_of f saturation) (start_permille (time f.fade) (no_hue_delta (Some (delta_from f.fade f.found)) && true))) (shown_at f l.clock)
 start-pass f n saturation l c =
     let o : over f (l.clock - f.start) ≡ (eqb (time f.fade) 0 || eqb (whole_of f) 0) = ap (λ (t : ℕ). over f (t - f.start)) c ∙ sym (done-is f f.start) ∙ begins-done f in
     rw and-true
@@ -133,9 +133,9 @@ start-meets : (f : Fed) → Sane f → (l : Lamp) → l.color.hue ≡ f.found �
 unfolding started hue_saturation_start
 start-meets f n l h =
     let at : Lamp = with_full_time (at_clock l f.start) (time f.fade) in
-    let m : Meets f l.color.saturation (hue_saturation_pass at (run_from f l.color.hue l.color.saturation) (start_permille (time f.fade) (no_hue_delta (HueDelta.By (delta_from f.fade f.found)) && true))) (shown_at f f.start) =
+    let m : Meets f l.color.saturation (hue_saturation_pass at (run_from f l.color.hue l.color.saturation) (start_permille (time f.fade) (no_hue_delta (Some (delta_from f.fade f.found)) && true))) (shown_at f f.start) =
     subst
-    (λ (hue : ℕ). Meets f l.color.saturation (hue_saturation_pass at (run_from f hue l.color.saturation) (start_permille (time f.fade) (no_hue_delta (HueDelta.By (delta_from f.fade f.found)) && true))) (shown_at f f.start))
+    (λ (hue : ℕ). Meets f l.color.saturation (hue_saturation_pass at (run_from f hue l.color.saturation) (start_permille (time f.fade) (no_hue_delta (Some (delta_from f.fade f.found)) && true))) (shown_at f f.start))
     (sym h)
     (start-pass f n l.color.saturation at refl) in
     record { shows = m.shows; wait = m.wait }

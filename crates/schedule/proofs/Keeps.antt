@@ -1,4 +1,5 @@
 -- The claim, proved: a move to a hue gives its task, and once that is started keeps its schedule, over every list of calls.
+use Rattle.std.specs.Prelude.{Option, Some, None}
 use Prim.Native.Nat.{ℕ, ◌+◌, ◌-◌, ◌%◌, ◌≤◌, ◌<◌}
 use mathlib.Core.Bool.{not, ◌&&◌, true}
 use mathlib.Core.List.{List, ◌∷◌, ◌++◌}
@@ -10,7 +11,6 @@ use borrow.Author.Tests.{leb-true}
 use Rattle.matter.specs.declared.enums.OnOff.{OnOff}
 use Rattle.matter.proofs.Laws.{each, and_right}
 use Rattle.matter.specs.InRange.{InRangeRequest}
-use Rattle.tasks.specs.declared.GivenTask.{GivenTask}
 use Rattle.tasks.specs.Valid.{task_valid, move_to_valid}
 use Rattle.lamp.specs.declared.Lamp.{Lamp}
 use Rattle.lamp.specs.declared.Answer.{Answer}
@@ -96,7 +96,7 @@ module _ (f : Fed) (n : Sane f) (a : Answer) (b : Begins f a) where
 -- ---- the command
 
 -- (a) the task
-task-is : (l : Lamp) (h : HueCommand) (on_off : OnOff) (clock : ℕ) → accepts l (Call.Command (as_request h) on_off clock) ≡ true → allowed l (as_request h) on_off ≡ true → (answer l (Call.Command (as_request h) on_off clock)).task ≡ GivenTask.Given (task_of h l.color.hue)
+task-is : (l : Lamp) (h : HueCommand) (on_off : OnOff) (clock : ℕ) → accepts l (Call.Command (as_request h) on_off clock) ≡ true → allowed l (as_request h) on_off ≡ true → (answer l (Call.Command (as_request h) on_off clock)).task ≡ Some (task_of h l.color.hue)
 unfolding command_effect
 task-is l h on_off clock a e =
     rw (accepted-is l (Call.Command (as_request h) on_off clock) a)

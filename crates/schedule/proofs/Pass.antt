@@ -1,4 +1,5 @@
 -- One pass of a fade's running record shows what the schedule shows at the pass's clock.
+use Rattle.std.specs.Prelude.{Option, Some, None}
 use Prim.Native.Nat.{ℕ, ◌-◌}
 use mathlib.Core.Bool.{Bool, true, false, not, cond}
 use mathlib.Core.Logic.{inl, inr}
@@ -8,8 +9,6 @@ use borrow.Author.Tests.{eqb-true}
 use Rattle.progress.specs.Progress.{permille_of}
 use Rattle.color.specs.declared.Color.{Color}
 use Rattle.color.specs.Setters.{same, hue_set}
-use Rattle.tasks.specs.declared.HueDelta.{HueDelta}
-use Rattle.tasks.specs.declared.TargetSaturation.{TargetSaturation}
 use Rattle.tasks.specs.declared.HueSaturationRun.{HueSaturationRun}
 use Rattle.tasks.specs.declared.Running.{Running}
 use Rattle.lamp.specs.declared.Lamp.{Lamp}
@@ -29,8 +28,8 @@ run_from f hue saturation =
       saturation = saturation;
       task =
           record {
-            delta = HueDelta.By (delta_from f.fade f.found);
-            saturation = TargetSaturation.Keep;
+            delta = Some (delta_from f.fade f.found);
+            saturation = None;
             ms = time f.fade;
             enhanced = f.fade.enhanced;
           };

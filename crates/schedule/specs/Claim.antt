@@ -2,11 +2,11 @@
 -- ones too, from any valid lamp: each move to a hue that is accepted and may execute gives its task and, once a start
 -- of that task is accepted, keeps its schedule. One statement over a lamp and a whole list. Premises: the lamp is
 -- valid; lamp and calls are in range; the demand's own.
+use Rattle.std.specs.Prelude.{Option, Some, None}
 use Rattle.std.specs.Prelude.{ℕ, ◌+◌, ◌≤◌, true, cond, ◌||◌, List, [], ◌∷◌, ◌++◌, ◌≡◌, eqb, pos, nat_abs}
 use Rattle.std.specs.Int.Signed.{le_z}
 use Rattle.matter.specs.declared.enums.OnOff.{OnOff}
 use Rattle.hue.specs.Hue.{distance}
-use Rattle.tasks.specs.declared.GivenTask.{GivenTask}
 use Rattle.lamp.specs.declared.Lamp.{Lamp}
 use Rattle.lamp.specs.declared.Answer.{Answer}
 use Rattle.lamp.specs.Valid.{lamp_valid}
@@ -99,7 +99,7 @@ FadeFrom h l now at calls = Premises h l now at calls → KeptFade (answer now (
 -- a move to a hue on the lamp `l`, and the calls that follow it
 pub record Kept (l : Lamp) (h : HueCommand) (on_off : OnOff) (clock : ℕ) (rest : List Call) : Type 0 where
   -- (a) it gives a task of its way and time
-  pub task : (answer l (move_to h on_off clock)).task ≡ GivenTask.Given (task_of h l.color.hue)
+  pub task : (answer l (move_to h on_off clock)).task ≡ Some (task_of h l.color.hue)
   -- every start of that task that follows, after the calls `between`
   pub fades : (between calls : List Call) (at : ℕ) → rest ≡ between ++ (start_of h l at ∷ calls) →
       FadeFrom h l (after (next l (move_to h on_off clock)) between) at calls

@@ -1,6 +1,7 @@
 -- The schedule of a fade: document 01, "Demand 3's schedule". A machine of its own. It is fed a move to a hue and the
 -- hue that the command found, and from the accepted start on the calls alone; the lamp's bounds have no say since A.12
 -- (docs/DECISIONS.md, point 12). It sees no lamp and no answer, and keeps its own clock and its own done.
+use Rattle.std.specs.Prelude.{Option, Some, None}
 use Rattle.std.specs.Prelude.{ℕ, ◌-◌, ◌*◌, min, Bool, true, false, not, cond, ◌&&◌, ◌||◌, List, [], ◌∷◌, leb, eqb, ℤ, nat_abs}
 use Rattle.matter.specs.declared.commands.Command.{Command}
 use Rattle.matter.specs.declared.commands.CommandOptions.{CommandOptions}
@@ -10,8 +11,6 @@ use Rattle.matter.specs.declared.enums.DirectionEnum.{DirectionEnum}
 use Rattle.matter.specs.Limits.{clock_limit}
 use Rattle.hue.specs.Hue.{path_delta, moved_hue}
 use Rattle.progress.specs.Progress.{permille_of, part_of, tenths_of}
-use Rattle.tasks.specs.declared.HueDelta.{HueDelta}
-use Rattle.tasks.specs.declared.TargetSaturation.{TargetSaturation}
 use Rattle.tasks.specs.declared.Task.{Task}
 use Rattle.tasks.specs.Valid.{task_valid}
 use Rattle.lamp.specs.declared.Call.{Call}
@@ -50,8 +49,8 @@ abbrev pub task_of : HueCommand → ℕ → Task
 task_of h found =
     Task.HueSaturationMoveTo
     (record {
-      delta = HueDelta.By (delta_from h found);
-      saturation = TargetSaturation.Keep;
+      delta = Some (delta_from h found);
+      saturation = None;
       ms = time h;
       enhanced = h.enhanced;
     })

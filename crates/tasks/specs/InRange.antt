@@ -1,9 +1,8 @@
 -- The widths of the numbers of a task and of a running record: facts that every one a program holds has.
+use Rattle.std.specs.Prelude.{Option, Some, None, ℕ}
 use Rattle.std.specs.Prelude.{◌<◌, ◌^◌, ℤ}
 use Rattle.std.specs.Int.Signed.{mag}
 use Rattle.matter.specs.InRange.{Byte, Short, Long, Clock}
-use Rattle.tasks.specs.declared.HueDelta.{HueDelta}
-use Rattle.tasks.specs.declared.TargetSaturation.{TargetSaturation}
 use Rattle.tasks.specs.declared.HueSaturationMoveTo.{HueSaturationMoveTo}
 use Rattle.tasks.specs.declared.ColorTemperatureMoveTo.{ColorTemperatureMoveTo}
 use Rattle.tasks.specs.declared.ColorTemperatureMove.{ColorTemperatureMove}
@@ -14,13 +13,13 @@ use Rattle.tasks.specs.declared.Running.{Running}
 abbrev pub Signed64 : ℤ → Type 0
 Signed64 z = mag z < 2 ^ 63
 
-abbrev pub InRangeDelta : HueDelta → Type 0
-InRangeDelta HueDelta.Keep = Unit
-InRangeDelta (HueDelta.By way) = Signed64 way
+abbrev pub InRangeDelta : Option ℤ → Type 0
+InRangeDelta None = Unit
+InRangeDelta (Some way) = Signed64 way
 
-abbrev pub InRangeTarget : TargetSaturation → Type 0
-InRangeTarget TargetSaturation.Keep = Unit
-InRangeTarget (TargetSaturation.To saturation) = Byte saturation
+abbrev pub InRangeTarget : Option ℕ → Type 0
+InRangeTarget None = Unit
+InRangeTarget (Some saturation) = Byte saturation
 
 pub record InRangeMoveTo (t : HueSaturationMoveTo) : Type 0 where
   pub delta : InRangeDelta t.delta

@@ -1,13 +1,12 @@
 -- When a task and a running record are valid: document 01, "Task out of form" and, in "Lamp out of form", the running
 -- record. A definition here says what is valid; the comment quotes the sentence that says what is out of form.
+use Rattle.std.specs.Prelude.{Option, Some, None}
 use Rattle.std.specs.Prelude.{ℕ, ◌%◌, Bool, true, false, not, ◌&&◌, ◌||◌, [], ◌∷◌, leb, ltb, eqb, ℤ, pos, neg_ℤ, nat_abs}
 use Rattle.std.specs.Int.Signed.{le_z}
 use Rattle.matter.specs.declared.enums.MoveModeEnum.{MoveModeEnum}
 use Rattle.matter.specs.All.{all_true}
 use Rattle.matter.specs.Limits.{saturation_limit}
 use Rattle.matter.specs.declared.limits.Bounds.{Bounds}
-use Rattle.tasks.specs.declared.HueDelta.{HueDelta}
-use Rattle.tasks.specs.declared.TargetSaturation.{TargetSaturation}
 use Rattle.tasks.specs.declared.HueSaturationMoveTo.{HueSaturationMoveTo}
 use Rattle.tasks.specs.declared.HueMove.{HueMove}
 use Rattle.tasks.specs.declared.SaturationMove.{SaturationMove}
@@ -23,22 +22,22 @@ abbrev pub small : ℤ → Bool
 small z = le_z (neg_ℤ (pos 65535)) z && le_z z (pos 65535)
 
 -- "way beyond ±65,535"
-abbrev pub delta_valid : HueDelta → Bool
-delta_valid HueDelta.Keep = true
-delta_valid (HueDelta.By way) = small way
+abbrev pub delta_valid : Option ℤ → Bool
+delta_valid None = true
+delta_valid (Some way) = small way
 
-abbrev pub delta_given : HueDelta → Bool
-delta_given HueDelta.Keep = false
-delta_given (HueDelta.By way) = true
+abbrev pub delta_given : Option ℤ → Bool
+delta_given None = false
+delta_given (Some way) = true
 
 -- "saturation above 254"
-abbrev pub saturation_valid : TargetSaturation → Bool
-saturation_valid TargetSaturation.Keep = true
-saturation_valid (TargetSaturation.To saturation) = leb saturation saturation_limit
+abbrev pub saturation_valid : Option ℕ → Bool
+saturation_valid None = true
+saturation_valid (Some saturation) = leb saturation saturation_limit
 
-abbrev pub saturation_given : TargetSaturation → Bool
-saturation_given TargetSaturation.Keep = false
-saturation_given (TargetSaturation.To saturation) = true
+abbrev pub saturation_given : Option ℕ → Bool
+saturation_given None = false
+saturation_given (Some saturation) = true
 
 -- "Stop as a move's direction"
 abbrev pub moves : MoveModeEnum → Bool

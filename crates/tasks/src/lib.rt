@@ -4,37 +4,23 @@
 #![tactic(auto)]
 
 ghost use Rattle.std.specs.Prelude.{◌≡◌};
-ghost use Rattle.tasks.specs.Valid.{time_valid, delta_valid, delta_given, saturation_valid, saturation_given, moves, within_bounds, rate_valid, move_to_valid, hue_move_valid, saturation_move_valid, task_valid, running_valid};
+ghost use Rattle.tasks.specs.Valid.{time_valid, delta_valid, saturation_valid, moves, within_bounds, rate_valid, move_to_valid, hue_move_valid, saturation_move_valid, task_valid, running_valid};
 ghost use Rattle.tasks.specs.Runs.{runs};
 
 use matter::{Bounds, ColorLoopDirectionEnum, MoveModeEnum};
 
-// The signed way of the hue, where a task moves it (hue_delta, an Option<i32>, in the source).
-#[derive(Clone, Copy)]
-pub enum HueDelta {
-    Keep,
-    By(i64),
-}
-
-// The saturation a task moves to, where it moves it (target_saturation, an Option<u8>, in the source).
-#[derive(Clone, Copy)]
-pub enum TargetSaturation {
-    Keep,
-    To(u8),
-}
-
-// To a hue, a saturation or both: the way of the hue, the time in milliseconds, the target, and whether the hue is reported
-// as an enhanced one.
-#[derive(Clone, Copy)]
+// To a hue, a saturation or both: the signed way of the hue where it moves the hue, the time in milliseconds, the target
+// where it moves the saturation, and whether the hue is reported as an enhanced one.
+#[derive(Clone, Copy, Debug, PartialEq, Eq)]
 pub struct HueSaturationMoveTo {
-    pub delta: HueDelta,
+    pub delta: Option<i64>,
     pub ms: u32,
-    pub saturation: TargetSaturation,
+    pub saturation: Option<u8>,
     pub enhanced: bool,
 }
 
 // The hue at a rate, in enhanced units a second.
-#[derive(Clone, Copy)]
+#[derive(Clone, Copy, Debug, PartialEq, Eq)]
 pub struct HueMove {
     pub rate: u32,
     pub direction: MoveModeEnum,
@@ -42,21 +28,21 @@ pub struct HueMove {
 }
 
 // The saturation at a rate, in units a second.
-#[derive(Clone, Copy)]
+#[derive(Clone, Copy, Debug, PartialEq, Eq)]
 pub struct SaturationMove {
     pub rate: u32,
     pub direction: MoveModeEnum,
 }
 
 // To a target in mireds, in a time in milliseconds.
-#[derive(Clone, Copy)]
+#[derive(Clone, Copy, Debug, PartialEq, Eq)]
 pub struct ColorTemperatureMoveTo {
     pub ms: u32,
     pub target: u16,
 }
 
 // The mireds at a signed rate a second, between the caller's limits.
-#[derive(Clone, Copy)]
+#[derive(Clone, Copy, Debug, PartialEq, Eq)]
 pub struct ColorTemperatureMove {
     pub rate: i64,
     pub min: u16,
@@ -64,13 +50,13 @@ pub struct ColorTemperatureMove {
 }
 
 // The colour loop: a turn in so many seconds.
-#[derive(Clone, Copy)]
+#[derive(Clone, Copy, Debug, PartialEq, Eq)]
 pub struct ColorLoop {
     pub direction: ColorLoopDirectionEnum,
     pub seconds: u16,
 }
 
-#[derive(Clone, Copy)]
+#[derive(Clone, Copy, Debug, PartialEq, Eq)]
 pub enum Task {
     HueSaturationMoveTo(HueSaturationMoveTo),
     HueMove(HueMove),
@@ -82,7 +68,7 @@ pub enum Task {
 }
 
 // What runs: the clock at its start, the numbers found there, and the task.
-#[derive(Clone, Copy)]
+#[derive(Clone, Copy, Debug, PartialEq, Eq)]
 pub struct HueSaturationRun {
     pub start: u64,
     pub hue: u16,
@@ -90,21 +76,21 @@ pub struct HueSaturationRun {
     pub task: HueSaturationMoveTo,
 }
 
-#[derive(Clone, Copy)]
+#[derive(Clone, Copy, Debug, PartialEq, Eq)]
 pub struct HueRun {
     pub start: u64,
     pub hue: u16,
     pub task: HueMove,
 }
 
-#[derive(Clone, Copy)]
+#[derive(Clone, Copy, Debug, PartialEq, Eq)]
 pub struct SaturationRun {
     pub start: u64,
     pub saturation: u8,
     pub task: SaturationMove,
 }
 
-#[derive(Clone, Copy)]
+#[derive(Clone, Copy, Debug, PartialEq, Eq)]
 pub struct ColorTemperatureToRun {
     pub start: u64,
     pub mireds: u16,
@@ -112,7 +98,7 @@ pub struct ColorTemperatureToRun {
 }
 
 // The limits are worked out at the start: `lo` and `hi`.
-#[derive(Clone, Copy)]
+#[derive(Clone, Copy, Debug, PartialEq, Eq)]
 pub struct ColorTemperatureRun {
     pub start: u64,
     pub mireds: u16,
@@ -121,7 +107,7 @@ pub struct ColorTemperatureRun {
     pub rate: i64,
 }
 
-#[derive(Clone, Copy)]
+#[derive(Clone, Copy, Debug, PartialEq, Eq)]
 pub struct ColorLoopRun {
     pub start: u64,
     pub hue: u16,
@@ -130,7 +116,7 @@ pub struct ColorLoopRun {
 
 // The loop's four numbers stand in the variant itself: they fill the bytes between the tag and a record's clock, so that no
 // copy of a lamp carries a gap (docs/SPEED.md).
-#[derive(Clone, Copy)]
+#[derive(Clone, Copy, Debug, PartialEq, Eq)]
 pub enum Running {
     Idle,
     HueSaturationMoveTo(HueSaturationRun),
@@ -170,50 +156,24 @@ fn within_bounds(bounds: Bounds, mireds: u16) -> bool
 fn moving(direction: MoveModeEnum) -> bool
     ensures { result ≡ moves direction }
 {
-    match direction {
-        MoveModeEnum::Stop => false,
-        MoveModeEnum::Up => true,
-        MoveModeEnum::Down => true,
+    !matches!(direction, MoveModeEnum::Stop)
+}
+
+fn is_valid_delta(delta: Option<i64>) -> bool
+    ensures { result ≡ delta_valid delta }
+{
+    match delta {
+        None => true,
+        Some(way) => (-65535 <= way) & (way <= 65535),
     }
 }
 
-impl HueDelta {
-    fn given(self) -> bool
-        ensures { result ≡ delta_given self }
-    {
-        match self {
-            HueDelta::Keep => false,
-            HueDelta::By(_) => true,
-        }
-    }
-
-    fn is_valid(self) -> bool
-        ensures { result ≡ delta_valid self }
-    {
-        match self {
-            HueDelta::Keep => true,
-            HueDelta::By(way) => (-65535 <= way) & (way <= 65535),
-        }
-    }
-}
-
-impl TargetSaturation {
-    fn given(self) -> bool
-        ensures { result ≡ saturation_given self }
-    {
-        match self {
-            TargetSaturation::Keep => false,
-            TargetSaturation::To(_) => true,
-        }
-    }
-
-    fn is_valid(self) -> bool
-        ensures { result ≡ saturation_valid self }
-    {
-        match self {
-            TargetSaturation::Keep => true,
-            TargetSaturation::To(saturation) => saturation <= 254,
-        }
+fn is_valid_saturation(target: Option<u8>) -> bool
+    ensures { result ≡ saturation_valid target }
+{
+    match target {
+        None => true,
+        Some(saturation) => saturation <= 254,
     }
 }
 
@@ -222,12 +182,10 @@ impl HueSaturationMoveTo {
     fn is_valid(self) -> bool
         ensures { result ≡ move_to_valid self }
     {
-        let delta = self.delta;
-        let saturation = self.saturation;
         is_valid_time(self.ms)
-            & delta.is_valid()
-            & saturation.is_valid()
-            & (delta.given() | saturation.given())
+            & is_valid_delta(self.delta)
+            & is_valid_saturation(self.saturation)
+            & (self.delta.is_some() | self.saturation.is_some())
     }
 }
 
@@ -236,8 +194,7 @@ impl HueMove {
     fn is_valid(self) -> bool
         ensures { result ≡ hue_move_valid self }
     {
-        let direction = self.direction;
-        (0 < self.rate) & (self.rate <= 65535) & moving(direction)
+        (0 < self.rate) & (self.rate <= 65535) & moving(self.direction)
     }
 }
 
@@ -246,8 +203,7 @@ impl SaturationMove {
     fn is_valid(self) -> bool
         ensures { result ≡ saturation_move_valid self }
     {
-        let direction = self.direction;
-        (0 < self.rate) & (self.rate <= 255) & moving(direction)
+        (0 < self.rate) & (self.rate <= 255) & moving(self.direction)
     }
 }
 
@@ -273,15 +229,7 @@ impl Running {
     pub fn is_running(self) -> bool
         ensures { result ≡ runs self }
     {
-        match self {
-            Running::Idle => false,
-            Running::HueSaturationMoveTo(_) => true,
-            Running::HueMove(_) => true,
-            Running::SaturationMove(_) => true,
-            Running::ColorTemperatureMoveTo(_) => true,
-            Running::ColorTemperatureMove(_) => true,
-            Running::ColorLoop { .. } => true,
-        }
+        !matches!(self, Running::Idle)
     }
 
     // Whether a lamp with these bounds and this clock can be valid with this record.
@@ -292,16 +240,14 @@ impl Running {
         match self {
             Running::Idle => true,
             Running::HueSaturationMoveTo(run) => {
-                let task = run.task;
-                task.is_valid() & (0 < task.ms) & (run.saturation <= 254) & (run.start <= clock)
+                run.task.is_valid()
+                    & (0 < run.task.ms)
+                    & (run.saturation <= 254)
+                    & (run.start <= clock)
             }
-            Running::HueMove(run) => {
-                let task = run.task;
-                task.is_valid() & (run.start <= clock)
-            }
+            Running::HueMove(run) => { run.task.is_valid() & (run.start <= clock) }
             Running::SaturationMove(run) => {
-                let task = run.task;
-                task.is_valid() & (run.saturation <= 254) & (run.start <= clock)
+                run.task.is_valid() & (run.saturation <= 254) & (run.start <= clock)
             }
             Running::ColorTemperatureMoveTo(run) => {
                 let task = run.task;
@@ -322,11 +268,4 @@ impl Running {
             Running::ColorLoop { start, .. } => start <= clock,
         }
     }
-}
-
-// The task that an answer gives, where it gives one.
-#[derive(Clone, Copy)]
-pub enum GivenTask {
-    Nothing,
-    Given(Task),
 }

@@ -1,5 +1,6 @@
 -- A lamp that runs, its colour loop active: 13 is withheld in the setters; moves at a rate, the loop and a halt leave
 -- the remaining time as it was (docs/DECISIONS.md, point 14); the colour loop's command leaves what runs (point 5).
+use Rattle.std.specs.Prelude.{Option, Some, None}
 use Prim.Native.Nat.{ℕ}
 use mathlib.Core.Bool.{Bool, true, false}
 use mathlib.Core.List.{List, [], ◌∷◌, map}
@@ -10,7 +11,6 @@ use Rattle.matter.specs.declared.enums.ColorLoopDirectionEnum.{ColorLoopDirectio
 use Rattle.matter.specs.declared.enums.DirectionEnum.{DirectionEnum}
 use Rattle.matter.specs.declared.enums.MoveModeEnum.{MoveModeEnum}
 use Rattle.matter.specs.declared.enums.OnOff.{OnOff}
-use Rattle.tasks.specs.declared.GivenTask.{GivenTask}
 use Rattle.tasks.specs.declared.Running.{Running}
 use Rattle.tasks.specs.declared.Task.{Task}
 use Rattle.tasks.specs.Runs.{runs}
@@ -108,7 +108,7 @@ off = acted ColorLoopActionEnum.Deactivate on_again.lamp
 
 -- notices, task, hue, stored hue, whether active; what runs and the remaining tenths
 abbrev pub Left : Type 0
-Left = List ℕ × GivenTask × ℕ × ℕ × Bool × Running × ℕ
+Left = List ℕ × (Option Task) × ℕ × ℕ × Bool × Running × ℕ
 
 abbrev pub left : Answer → Left
 left a = (
@@ -122,19 +122,19 @@ left a = (
 )
 
 -- what runs and the tenths are the lamp's own
-abbrev pub leaves : List ℕ → GivenTask → ℕ → Bool → Left
+abbrev pub leaves : List ℕ → Option Task → ℕ → Bool → Left
 leaves list task hue active = (list, task, hue, 640, active, moving.running, 1)
 
-abbrev pub turns : GivenTask
-turns = GivenTask.Given (Task.ColorLoop (record { direction = ColorLoopDirectionEnum.Increment; seconds = 25 }))
+abbrev pub turns : Option Task
+turns = Some (Task.ColorLoop (record { direction = ColorLoopDirectionEnum.Increment; seconds = 25 }))
 
 abbrev pub LoopLeaves : Type 0
 LoopLeaves =
     map left (on ∷ on_again ∷ off ∷ acted ColorLoopActionEnum.Deactivate off.lamp ∷ [])
     ≡ (leaves (13 ∷ 12 ∷ 8 ∷ 2 ∷ 3 ∷ 6 ∷ 7 ∷ 14 ∷ 15 ∷ 17 ∷ []) turns 8960 true
     ∷ leaves (13 ∷ 2 ∷ 3 ∷ 6 ∷ 7 ∷ 14 ∷ 15 ∷ 17 ∷ []) turns 8960 true
-    ∷ leaves (13 ∷ 17 ∷ 8 ∷ 13 ∷ 2 ∷ 3 ∷ 6 ∷ 7 ∷ 14 ∷ 15 ∷ []) (GivenTask.Given Task.Stop) 640 false
-    ∷ leaves (13 ∷ []) GivenTask.Nothing 640 false
+    ∷ leaves (13 ∷ 17 ∷ 8 ∷ 13 ∷ 2 ∷ 3 ∷ 6 ∷ 7 ∷ 14 ∷ 15 ∷ []) (Some Task.Stop) 640 false
+    ∷ leaves (13 ∷ []) None 640 false
     ∷ [])
 
 -- ---- by computation

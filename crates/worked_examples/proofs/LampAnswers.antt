@@ -1,5 +1,6 @@
 -- What each command answers, whole: document 01, "Commands in their order", and docs/DECISIONS.md, points 3 to 6 and
 -- 10. A command that gives a task changes nothing but the clock; the colour loop's command stands apart below.
+use Rattle.std.specs.Prelude.{Option, Some, None}
 use Prim.Native.Nat.{ℕ}
 use mathlib.Core.Bool.{Bool, true, false}
 use mathlib.Core.List.{List, [], ◌∷◌, ◌++◌, map}
@@ -14,9 +15,6 @@ use Rattle.matter.specs.declared.enums.MoveModeEnum.{MoveModeEnum}
 use Rattle.matter.specs.declared.enums.OnOff.{OnOff}
 use Rattle.matter.specs.declared.enums.StepModeEnum.{StepModeEnum}
 use Rattle.notices.specs.declared.Notices.{Notices}
-use Rattle.tasks.specs.declared.GivenTask.{GivenTask}
-use Rattle.tasks.specs.declared.HueDelta.{HueDelta}
-use Rattle.tasks.specs.declared.TargetSaturation.{TargetSaturation}
 use Rattle.tasks.specs.declared.Task.{Task}
 use Rattle.lamp.specs.declared.Lamp.{Lamp}
 use Rattle.lamp.specs.declared.LoopSettings.{LoopSettings}
@@ -65,7 +63,7 @@ pub record Row : Type 0 where
 
 abbrev pub gave_with : Notices → Task → Lamp → Answer
 gave_with notices task l =
-    record { number = 0; lamp = later l; notices = notices; task = GivenTask.Given task; wait = 0 }
+    record { number = 0; lamp = later l; notices = notices; task = Some task; wait = 0 }
 
 abbrev pub gave : Task → Lamp → Answer
 gave task l = gave_with (record { places = 17 ∷ replicate 15 0; len = 1 }) task l
@@ -104,17 +102,17 @@ Says l rows =
 abbrev pub to_hue : ℤ → Bool → Task
 to_hue way enhanced =
     Task.HueSaturationMoveTo
-    (record { delta = HueDelta.By way; saturation = TargetSaturation.Keep; ms = 700; enhanced = enhanced })
+    (record { delta = Some way; saturation = None; ms = 700; enhanced = enhanced })
 
 abbrev pub to_saturation : ℕ → Task
 to_saturation saturation =
     Task.HueSaturationMoveTo
-    (record { delta = HueDelta.Keep; saturation = TargetSaturation.To saturation; ms = 700; enhanced = false })
+    (record { delta = None; saturation = Some saturation; ms = 700; enhanced = false })
 
 abbrev pub to_both : ℤ → ℕ → Bool → Task
 to_both way saturation enhanced =
     Task.HueSaturationMoveTo
-    (record { delta = HueDelta.By way; saturation = TargetSaturation.To saturation; ms = 700; enhanced = enhanced })
+    (record { delta = Some way; saturation = Some saturation; ms = 700; enhanced = enhanced })
 
 abbrev pub to_mireds : ℕ → Task
 to_mireds target = Task.ColorTemperatureMoveTo (record { target = target; ms = 700 })
@@ -219,7 +217,7 @@ pub record LoopRow : Type 0 where
   pub flags : ℕ
   pub seconds : ℕ
   pub list : List ℕ
-  pub task : GivenTask
+  pub task : Option Task
   pub looping : LoopSettings
 
 abbrev pub settings : Bool → ColorLoopDirectionEnum → ℕ → ℕ → LoopSettings
@@ -228,7 +226,7 @@ settings active direction time start =
 
 abbrev pub flagged : ℕ → List ℕ → LoopSettings → LoopRow
 flagged flags list looping =
-    record { flags = flags; seconds = 30; list = list; task = GivenTask.Nothing; looping = looping }
+    record { flags = flags; seconds = 30; list = list; task = None; looping = looping }
 
 -- with the action: behind its flag's notice, and in the task the lamp's direction and time
 abbrev pub turned : ℕ → ℕ → List ℕ → ℕ → ℕ → LoopRow
@@ -237,7 +235,7 @@ turned flags seconds list time start =
       flags = flags;
       seconds = seconds;
       list = list ++ (13 ∷ 12 ∷ 8 ∷ 2 ∷ 3 ∷ 6 ∷ 7 ∷ 14 ∷ 15 ∷ 17 ∷ []);
-      task = GivenTask.Given (Task.ColorLoop (record { direction = ColorLoopDirectionEnum.Increment; seconds = time }));
+      task = Some (Task.ColorLoop (record { direction = ColorLoopDirectionEnum.Increment; seconds = time }));
       looping = settings true ColorLoopDirectionEnum.Increment time start;
     }
 
@@ -251,7 +249,7 @@ flag_rows =
     ∷ turned 5 0 (10 ∷ []) 0 8960
     ∷ []
 
-abbrev pub loop_said : Answer → ℕ × List ℕ × GivenTask × LoopSettings × ℕ
+abbrev pub loop_said : Answer → ℕ × List ℕ × (Option Task) × LoopSettings × ℕ
 loop_said a = (a.number, listed a, a.task, a.lamp.looping, a.wait)
 
 abbrev pub with_flags : ℕ → ℕ → Answer

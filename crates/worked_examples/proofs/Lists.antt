@@ -1,5 +1,6 @@
 -- Notice lists in their order, by computation: the three lines that document 01 gives for `fade`, and the lists that
 -- docs/DECISIONS.md fixes (points 1 and 5); and the numbers of the loop's snap.
+use Rattle.std.specs.Prelude.{Option, Some, None}
 use Prim.Native.Nat.{ℕ}
 use mathlib.Core.Bool.{Bool, true, false}
 use mathlib.Core.List.{[], ◌∷◌, map}
@@ -11,9 +12,6 @@ use Rattle.matter.specs.declared.commands.Command.{Command}
 use Rattle.matter.specs.declared.enums.DirectionEnum.{DirectionEnum}
 use Rattle.matter.specs.declared.enums.OnOff.{OnOff}
 use Rattle.progress.specs.Progress.{snapped, permille_of, clamp}
-use Rattle.tasks.specs.declared.GivenTask.{GivenTask}
-use Rattle.tasks.specs.declared.HueDelta.{HueDelta}
-use Rattle.tasks.specs.declared.TargetSaturation.{TargetSaturation}
 use Rattle.tasks.specs.declared.Task.{Task}
 use Rattle.lamp.specs.declared.Lamp.{Lamp}
 use Rattle.lamp.specs.declared.Answer.{Answer}
@@ -35,7 +33,7 @@ use Rattle.commands.specs.Commands.{deactivated, activated, loop_set, command_ef
 use Rattle.commands.specs.Answers.{command_cause, command_answer}
 
 -- a move-to of a way, with a saturation or without, started on a lamp at clock 5000; and on the lamp of the cases
-abbrev pub begun_on : Lamp → HueDelta → TargetSaturation → ℕ → Bool → Answer
+abbrev pub begun_on : Lamp → Option ℤ → Option ℕ → ℕ → Bool → Answer
 begun_on l delta saturation ms enhanced =
     start_answer l (Task.HueSaturationMoveTo (record {
       delta = delta;
@@ -44,7 +42,7 @@ begun_on l delta saturation ms enhanced =
       enhanced = enhanced;
     })) 5000
 
-abbrev pub begun : HueDelta → TargetSaturation → ℕ → Bool → Answer
+abbrev pub begun : Option ℤ → Option ℕ → ℕ → Bool → Answer
 begun delta saturation ms enhanced = begun_on lamp delta saturation ms enhanced
 
 -- ---- `fade` on `128 0 2 5000`: "15", "13 2 6 7 14 15", "13 2 6 7 14 15 1"
@@ -55,8 +53,8 @@ fade = Command.MoveToHue 128 DirectionEnum.Shortest 2
 abbrev pub FadeCommand : Type 0
 FadeCommand =
     (given lamp fade).task
-    ≡ GivenTask.Given (Task.HueSaturationMoveTo
-    (record { delta = HueDelta.By (pos 32768); saturation = TargetSaturation.Keep; ms = 200; enhanced = false }))
+    ≡ Some (Task.HueSaturationMoveTo
+    (record { delta = Some (pos 32768); saturation = None; ms = 200; enhanced = false }))
 
 abbrev pub FadeReported : Type 0
 FadeReported =
@@ -72,20 +70,20 @@ FadeWaits =
 abbrev pub StartReported : Type 0
 StartReported =
     map listed
-    (begun (HueDelta.By (pos 1)) TargetSaturation.Keep 1100 false
-    ∷ begun (HueDelta.By (pos 0)) (TargetSaturation.To 0) 1100 true
+    (begun (Some (pos 1)) None 1100 false
+    ∷ begun (Some (pos 0)) (Some 0) 1100 true
     ∷ [])
     ≡ ((1 ∷ 15 ∷ []) ∷ (1 ∷ 13 ∷ 2 ∷ 3 ∷ 6 ∷ 7 ∷ 14 ∷ 13 ∷ 4 ∷ 6 ∷ 7 ∷ 14 ∷ 15 ∷ 1 ∷ []) ∷ [])
 
 -- ---- time 0 with remaining 5: way 1 in 500 ms was started before
 
 abbrev pub five_left : Lamp
-five_left = (begun (HueDelta.By (pos 1)) TargetSaturation.Keep 500 false).lamp
+five_left = (begun (Some (pos 1)) None 500 false).lamp
 
 abbrev pub AtOnceReported : Type 0
 AtOnceReported =
     (five_left.remaining.tenths ≡ 5)
-    × (listed (begun_on five_left (HueDelta.By (pos 1)) TargetSaturation.Keep 0 false)
+    × (listed (begun_on five_left (Some (pos 1)) None 0 false)
     ≡ (1 ∷ 13 ∷ 2 ∷ 6 ∷ 7 ∷ 14 ∷ 15 ∷ []))
 
 -- ---- the colour loop: on with all flags, on again, off, off again; and with no flag

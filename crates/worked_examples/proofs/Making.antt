@@ -5,7 +5,8 @@ use mathlib.Core.List.{List, [], ◌∷◌, map}
 use mathlib.Core.Path.{◌≡◌, refl}
 use Rattle.matter.specs.declared.enums.ColorLoopDirectionEnum.{ColorLoopDirectionEnum}
 use Rattle.tasks.specs.declared.Running.{Running}
-use Rattle.lamp.specs.declared.Made.{Made}
+use Rattle.std.specs.Prelude.{Result, Ok, Err}
+use Rattle.matter.specs.declared.refusals.Refusal.{Refusal}
 use Rattle.lamp.specs.Making.{making}
 use Rattle.worked_examples.proofs.Runs.{Modes, xy, hue, warmth}
 use Rattle.matter.specs.Flags.{has_flag}
@@ -19,12 +20,12 @@ pub record Row : Type 0 where
   pub features : ℕ
   pub options : ℕ
   pub clock : ℕ
-  pub made : Made
+  pub made : Result Lamp Refusal
 
 -- refused with a number; or made, with these mireds and modes
 abbrev pub refused : ℕ → ℕ → ℕ → ℕ → Row
 refused min max clock number =
-    record { min = min; max = max; features = 31; options = 0; clock = clock; made = Made.Refused number }
+    record { min = min; max = max; features = 31; options = 0; clock = clock; made = Err number }
 
 abbrev pub makes : ℕ → ℕ → ℕ → ℕ → ℕ → ℕ → Modes → Row
 makes min max features options clock mireds modes =
@@ -35,7 +36,7 @@ makes min max features options clock mireds modes =
       options = options;
       clock = clock;
       made =
-          Made.Lamp
+          Ok
           (record {
             clock = clock;
             bounds = record { min = min; max = max };

@@ -1,5 +1,6 @@
 -- What is valid and what is not: document 01, "Task out of form" and "Lamp out of form", clause by clause, each beside
 -- its nearest neighbour valid; the limit of clocks; and which cause comes first.
+use Rattle.std.specs.Prelude.{Option, Some, None}
 use Prim.Native.Nat.{ℕ}
 use mathlib.Core.Bool.{false}
 use mathlib.Core.List.{List, [], ◌∷◌, ◌++◌, map}
@@ -11,8 +12,6 @@ use Rattle.matter.specs.declared.enums.DirectionEnum.{DirectionEnum}
 use Rattle.matter.specs.declared.enums.MoveModeEnum.{MoveModeEnum}
 use Rattle.matter.specs.declared.enums.OnOff.{OnOff}
 use Rattle.color.specs.declared.Color.{Color}
-use Rattle.tasks.specs.declared.HueDelta.{HueDelta}
-use Rattle.tasks.specs.declared.TargetSaturation.{TargetSaturation}
 use Rattle.tasks.specs.declared.HueSaturationMoveTo.{HueSaturationMoveTo}
 use Rattle.tasks.specs.declared.Task.{Task}
 use Rattle.tasks.specs.declared.Running.{Running}
@@ -42,17 +41,17 @@ edge refusal of good bad = (of good, 0) ∷ (of bad, refusal) ∷ []
 
 -- ---- tasks
 
-abbrev pub move_to : HueDelta → TargetSaturation → ℕ → HueSaturationMoveTo
+abbrev pub move_to : Option ℤ → Option ℕ → ℕ → HueSaturationMoveTo
 move_to delta saturation ms = record { delta = delta; saturation = saturation; ms = ms; enhanced = false }
 
 abbrev pub hue_in : ℕ → Task
-hue_in ms = Task.HueSaturationMoveTo (move_to (HueDelta.By (pos 1)) TargetSaturation.Keep ms)
+hue_in ms = Task.HueSaturationMoveTo (move_to (Some (pos 1)) None ms)
 
 abbrev pub hue_by : ℤ → Task
-hue_by way = Task.HueSaturationMoveTo (move_to (HueDelta.By way) TargetSaturation.Keep 100)
+hue_by way = Task.HueSaturationMoveTo (move_to (Some way) None 100)
 
-abbrev pub saturation_to : TargetSaturation → Task
-saturation_to saturation = Task.HueSaturationMoveTo (move_to HueDelta.Keep saturation 100)
+abbrev pub saturation_to : Option ℕ → Task
+saturation_to saturation = Task.HueSaturationMoveTo (move_to None saturation 100)
 
 abbrev pub mireds_to : ℕ → ℕ → Task
 mireds_to target ms = Task.ColorTemperatureMoveTo (record { target = target; ms = ms })
@@ -71,8 +70,8 @@ tasks =
     ++ edge 6 (λ (n : ℕ). hue_by (pos n)) 65535 65536
     ++ edge 6 (λ (n : ℕ). hue_by (neg_ℤ (pos n))) 65535 65536
     -- "saturation above 254"; "neither hue nor saturation"
-    ++ edge 6 (λ (n : ℕ). saturation_to (TargetSaturation.To n)) 254 255
-    ++ ((saturation_to TargetSaturation.Keep, 6) ∷ [])
+    ++ edge 6 (λ (n : ℕ). saturation_to (Some n)) 254 255
+    ++ ((saturation_to None, 6) ∷ [])
     -- "rate 0"; "hue rate above 65,535; saturation rate above 255; mired rate beyond ±65,535"
     ++ edge 6 (λ (n : ℕ). hue_move MoveModeEnum.Up n false) 1 0
     ++ edge 6 (λ (n : ℕ). hue_move MoveModeEnum.Up n false) 65535 65536
@@ -159,7 +158,7 @@ runs_loop start =
     (Running.ColorLoop ColorLoopDirectionEnum.Increment 0 0 start)
 
 abbrev pub by_one : ℕ → HueSaturationMoveTo
-by_one ms = move_to (HueDelta.By (pos 1)) TargetSaturation.Keep ms
+by_one ms = move_to (Some (pos 1)) None ms
 
 abbrev pub lamps : Rows Lamp
 lamps =

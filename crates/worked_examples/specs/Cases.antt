@@ -1,5 +1,6 @@
 -- The cases marked K in document 01: what a case says, and the list of all of them. A case of a transition goes through
 -- the command, its start and its steps.
+use Rattle.std.specs.Prelude.{Option, Some, None}
 use Rattle.std.specs.Prelude.{ℕ, ◌+◌, ◌<◌, Bool, true, false, not, cond, List, [], ◌∷◌, map, ◌≡◌, eqb, ℤ, pos, neg_ℤ, take, replicate}
 use Rattle.matter.specs.declared.enums.ColorLoopActionEnum.{ColorLoopActionEnum}
 use Rattle.matter.specs.declared.enums.ColorLoopDirectionEnum.{ColorLoopDirectionEnum}
@@ -13,7 +14,6 @@ use Rattle.hue.specs.declared.HuePath.{HuePath}
 use Rattle.hue.specs.Hue.{hue_path}
 use Rattle.progress.specs.Progress.{permille_of, part_of, tenths_of}
 use Rattle.remaining_time.specs.RemainingTime.{reported}
-use Rattle.tasks.specs.declared.GivenTask.{GivenTask}
 use Rattle.tasks.specs.declared.Running.{Running}
 use Rattle.tasks.specs.Runs.{runs}
 use Rattle.lamp.specs.declared.Lamp.{Lamp}
@@ -43,9 +43,9 @@ unfoldable pub next : Answer → (Lamp → Answer) → Answer
 next a call = cond (eqb a.number accepted) (call a.lamp) a
 
 -- a start of the task that was given; where none was, no start is accepted
-abbrev start_of : GivenTask → Lamp → Answer
-start_of GivenTask.Nothing l = refusal l invalid_task
-start_of (GivenTask.Given task) l = start_answer l task l.clock
+abbrev start_of : Option Task → Lamp → Answer
+start_of None l = refusal l invalid_task
+start_of (Some task) l = start_answer l task l.clock
 
 -- a command to a lamp, and its task started
 abbrev pub started_on : Lamp → Command → Answer
@@ -117,7 +117,7 @@ bare number l =
       number = number;
       lamp = l;
       notices = record { places = replicate 16 0; len = 0 };
-      task = GivenTask.Nothing;
+      task = None;
       wait = 0;
     }
 

@@ -109,8 +109,8 @@ impl Ours for data::Command {
 
 fn move_to(way: Option<i64>, sat: Option<u8>, ms: u32, enhanced: bool) -> HueSaturationMoveTo {
     HueSaturationMoveTo {
-        delta: way.map_or(HueDelta::Keep, HueDelta::By),
-        saturation: sat.map_or(TargetSaturation::Keep, TargetSaturation::To),
+        delta: way.map_or(None, Some),
+        saturation: sat.map_or(None, Some),
         ms,
         enhanced,
     }
@@ -162,12 +162,12 @@ impl Theirs for HueSaturationMoveTo {
     fn theirs(self) -> data::Task {
         data::Task::MoveTo {
             way: match self.delta {
-                HueDelta::Keep => None,
-                HueDelta::By(delta) => Some(delta),
+                None => None,
+                Some(delta) => Some(delta),
             },
             sat: match self.saturation {
-                TargetSaturation::Keep => None,
-                TargetSaturation::To(saturation) => Some(saturation),
+                None => None,
+                Some(saturation) => Some(saturation),
             },
             ms: self.ms,
             enhanced: self.enhanced,

@@ -10,7 +10,7 @@ use oracle_lib::maker::{Maker, Said, Stage};
 use oracle_lib::protocol::{self, Call, End, LONGEST, read};
 use oracle_lib::random::Random;
 use oracle_lib::recorder;
-use yemkruos::Answer;
+use yemkruos::{Answer, matter};
 
 /// The crate reads no lines, so these are passed over.
 const NO_CALL: &str = "(lines that are no calls, not compared)";
@@ -97,7 +97,7 @@ impl Both {
 fn same_answer(end: &End, answer: &Answer) -> bool {
     match *end {
         End::Refused(cause) => {
-            answer.number == cause
+            matter::number_of(answer.verdict) == cause
                 && answer.notices.iter().next().is_none()
                 && answer.given_task().is_none()
                 && answer.wait == 0
@@ -107,7 +107,7 @@ fn same_answer(end: &End, answer: &Answer) -> bool {
             wait,
             noticed,
         } => {
-            answer.number == 0
+            answer.verdict.is_ok()
                 && same_notices(noticed, answer)
                 && given == answer.given_task().map(|t| -> Task { t.theirs() })
                 && wait == answer.wait

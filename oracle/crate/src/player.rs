@@ -4,7 +4,7 @@ use oracle_lib::data;
 use oracle_lib::protocol::Call;
 use yemkruos::commands::{self, *};
 use yemkruos::hue::{HuePath, current_hue, hue_path_delta};
-use yemkruos::lamp::{self, Answer, Lamp, Made};
+use yemkruos::lamp::{self, Answer, Lamp};
 use yemkruos::matter::{Bounds, color_mode_of, should_continue};
 use yemkruos::remaining_time::RemainingTime;
 use yemkruos::tasks::{Running, Task};
@@ -55,8 +55,8 @@ impl Player {
             Call::Shown(stored) => Reply::Shown(current_hue(stored)),
             Call::New(min, max, features, options, clock) => {
                 match Lamp::new(Bounds { min, max }, features, options, clock) {
-                    Made::Lamp(lamp) => self.put(lamp),
-                    Made::Refused(number) => Reply::NotMade(number),
+                    Ok(lamp) => self.put(lamp),
+                    Err(refusal) => Reply::NotMade(refusal.number()),
                 }
             }
             Call::Lamp(fields) => self.put(lamp(&fields, Running::Idle)),

@@ -1,32 +1,31 @@
 // Made by rust/make from crates/commands/src/checks.rt: not to be edited.
 //! What is checked of a command by itself, in one row each: Stop mode, and its own numbers.
 
-use crate::matter::ACCEPTED;
-use crate::matter::CONSTRAINT_ERROR;
 use crate::matter::Command;
-use crate::matter::INVALID_COMMAND;
 use crate::matter::MoveModeEnum;
+use crate::matter::Refusal;
 
-/// Whether it is a move in Stop mode, and the cause that its numbers give, or 0.
+/// Whether it is a move in Stop mode, and the cause that its numbers give.
 #[derive(Clone, Copy, Debug, PartialEq, Eq)]
 pub struct Checks {
     pub stop: bool,
-    pub cause: u8,
+    pub cause: Result<(), Refusal>,
 }
 
 fn is_stop(mode: MoveModeEnum) -> bool {
-    match mode {
-        MoveModeEnum::Stop => true,
-        MoveModeEnum::Up => false,
-        MoveModeEnum::Down => false,
-    }
+    matches!(mode, MoveModeEnum::Stop)
+}
+
+/// A cause where the test holds.
+fn cause_if(test: bool, cause: Refusal) -> Result<(), Refusal> {
+    if test { Err(cause) } else { Ok(()) }
 }
 
 /// A number out of its range.
 fn constrained(bad: bool) -> Checks {
     Checks {
         stop: false,
-        cause: if bad { CONSTRAINT_ERROR } else { ACCEPTED },
+        cause: cause_if(bad, Refusal::ConstraintError),
     }
 }
 
@@ -34,15 +33,14 @@ fn constrained(bad: bool) -> Checks {
 fn nonzero(n: u16) -> Checks {
     Checks {
         stop: false,
-        cause: if n == 0 { INVALID_COMMAND } else { ACCEPTED },
+        cause: cause_if(n == 0, Refusal::InvalidCommand),
     }
 }
 
 fn moving(mode: MoveModeEnum, rate: u16) -> Checks {
-    let rated = nonzero(rate);
     Checks {
         stop: is_stop(mode),
-        cause: rated.cause,
+        cause: nonzero(rate).cause,
     }
 }
 

@@ -15,10 +15,8 @@ use crate::matter::DirectionEnum;
 use crate::matter::MoveModeEnum;
 use crate::matter::OnOff;
 use crate::matter::StepModeEnum;
-use crate::tasks::HueDelta;
 use crate::tasks::HueMove;
 use crate::tasks::HueSaturationMoveTo;
-use crate::tasks::TargetSaturation;
 use crate::tasks::Task;
 
 /// A plain hue, or a plain step of it, on the stored circle.
@@ -48,12 +46,12 @@ fn by_delta(
     lamp: Lamp,
     delta: i64,
     is_tie: bool,
-    saturation: TargetSaturation,
+    saturation: Option<u8>,
     tenths: u16,
     enhanced: bool,
 ) -> Outcome {
     let task = HueSaturationMoveTo {
-        delta: HueDelta::By(delta),
+        delta: Some(delta),
         saturation: saturation,
         ms: (tenths as u32) * 100,
         enhanced: enhanced,
@@ -66,7 +64,7 @@ pub(in crate::commands) fn to_hue(
     lamp: Lamp,
     hue: u16,
     direction: DirectionEnum,
-    saturation: TargetSaturation,
+    saturation: Option<u8>,
     tenths: u16,
     enhanced: bool,
 ) -> Outcome {
@@ -88,14 +86,7 @@ pub(in crate::commands) fn to_plain_hue(
     direction: DirectionEnum,
     tenths: u16,
 ) -> Outcome {
-    to_hue(
-        lamp,
-        stored_hue(hue),
-        direction,
-        TargetSaturation::Keep,
-        tenths,
-        false,
-    )
+    to_hue(lamp, stored_hue(hue), direction, None, tenths, false)
 }
 
 /// The hue that a command with both means: the enhanced one, or the plain one on the stored circle.
@@ -121,7 +112,7 @@ pub(in crate::commands) fn to_both(
         lamp,
         target,
         DirectionEnum::Shortest,
-        TargetSaturation::To(saturation),
+        Some(saturation),
         tenths,
         is_enhanced,
     )
@@ -135,14 +126,7 @@ pub(in crate::commands) fn step_hue(
     tenths: u16,
     enhanced: bool,
 ) -> Outcome {
-    by_delta(
-        lamp,
-        step_delta(mode, size),
-        false,
-        TargetSaturation::Keep,
-        tenths,
-        enhanced,
-    )
+    by_delta(lamp, step_delta(mode, size), false, None, tenths, enhanced)
 }
 
 /// A move of the hue at a rate in enhanced units.

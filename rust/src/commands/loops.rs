@@ -6,10 +6,10 @@
 use crate::commands::outcomes::Outcome;
 use crate::commands::outcomes::skipped;
 use crate::commands::with_options;
+use crate::color::cons_change;
 use crate::lamp::Answer;
 use crate::lamp::Lamp;
 use crate::lamp::LoopSettings;
-use crate::matter::ACCEPTED;
 use crate::matter::ColorLoopActionEnum;
 use crate::matter::ColorLoopDirectionEnum;
 use crate::matter::Command;
@@ -19,20 +19,13 @@ use crate::matter::UPDATE_DIRECTION;
 use crate::matter::UPDATE_START_HUE;
 use crate::matter::UPDATE_TIME;
 use crate::matter::contains;
+use crate::notices::Notice;
 use crate::notices::Numeral;
 use crate::tasks::ColorLoop;
-use crate::tasks::GivenTask;
 use crate::tasks::Task;
 
-fn word_if(test: bool, new: u16, old: u16) -> u16 {
-    if test { new } else { old }
-}
-
-fn direction_if(
-    test: bool,
-    new: ColorLoopDirectionEnum,
-    old: ColorLoopDirectionEnum,
-) -> ColorLoopDirectionEnum {
+/// The one or the other.
+fn choice<T: Copy>(test: bool, new: T, old: T) -> T {
     if test { new } else { old }
 }
 
@@ -45,11 +38,10 @@ fn updated_settings(
     start_hue: u16,
 ) -> LoopSettings {
     let bits = flags as u32;
-    let old = s.direction;
     LoopSettings {
-        direction: direction_if(contains(bits, UPDATE_DIRECTION), direction, old),
-        time: word_if(contains(bits, UPDATE_TIME), time, s.time),
-        start: word_if(contains(bits, UPDATE_START_HUE), start_hue, s.start),
+        direction: choice(contains(bits, UPDATE_DIRECTION), direction, s.direction),
+        time: choice(contains(bits, UPDATE_TIME), time, s.time),
+        start: choice(contains(bits, UPDATE_START_HUE), start_hue, s.start),
         ..s
     }
 }
@@ -57,16 +49,13 @@ fn updated_settings(
 /// The update's notices in front of a list.
 fn cons_updated(list: Numeral, flags: u8) -> Numeral {
     let bits = flags as u32;
-    list.cons(crate::notices::MARKED_DIRTY)
-        .cons_if(
+    list.note(Notice::MarkedDirty)
+        .note_if(
             contains(bits, UPDATE_START_HUE),
-            crate::notices::COLOR_LOOP_START_ENHANCED_HUE,
+            Notice::ColorLoopStartEnhancedHue,
         )
-        .cons_if(contains(bits, UPDATE_TIME), crate::notices::COLOR_LOOP_TIME)
-        .cons_if(
-            contains(bits, UPDATE_DIRECTION),
-            crate::notices::COLOR_LOOP_DIRECTION,
-        )
+        .note_if(contains(bits, UPDATE_TIME), Notice::ColorLoopTime)
+        .note_if(contains(bits, UPDATE_DIRECTION), Notice::ColorLoopDirection)
 }
 
 /// Off: where the loop is active, the stored hue comes back and the Stop task is given.
@@ -79,19 +68,17 @@ fn deactivate(lamp: Lamp) -> Outcome {
     let set = color.set_hue(lamp.looping.stored, true, true, lamp.clock);
     let next = set.color;
     let change = set.change;
-    let device = Numeral::new().cons(crate::notices::DEVICE_HUE_SATURATION);
+    let device = Numeral::new().note(Notice::DeviceHueSaturation);
     Outcome {
-        number: ACCEPTED,
         color: next,
         looping: LoopSettings {
             active: false,
             ..old
         },
-        reported: change
-            .cons(device, false)
-            .cons(crate::notices::COLOR_LOOP_ACTIVE)
-            .cons(crate::notices::TASK_GIVEN),
-        task: GivenTask::Given(Task::Stop),
+        reported: cons_change(change, device, false)
+            .note(Notice::ColorLoopActive)
+            .note(Notice::TaskGiven),
+        task: Some(Task::Stop),
     }
 }
 
@@ -104,23 +91,21 @@ fn activate(lamp: Lamp, seed: u16) -> Outcome {
     let next = set.color;
     let change = set.change;
     let given = Numeral::new()
-        .cons(crate::notices::TASK_GIVEN)
-        .cons(crate::notices::DEVICE_HUE_SATURATION);
-    let stored = word_if(active, old.stored, lamp.color.hue);
+        .note(Notice::TaskGiven)
+        .note(Notice::DeviceHueSaturation);
+    let stored = choice(active, old.stored, lamp.color.hue);
     let direction = old.direction;
     Outcome {
-        number: ACCEPTED,
         color: next,
         looping: LoopSettings {
             active: true,
             stored: stored,
             ..old
         },
-        reported: change
-            .cons(given, true)
-            .cons_if(!active, crate::notices::COLOR_LOOP_ACTIVE)
-            .cons_if(!active, crate::notices::COLOR_LOOP_STORED_ENHANCED_HUE),
-        task: GivenTask::Given(Task::ColorLoop(ColorLoop {
+        reported: cons_change(change, given, true)
+            .note_if(!active, Notice::ColorLoopActive)
+            .note_if(!active, Notice::ColorLoopStoredEnhancedHue),
+        task: Some(Task::ColorLoop(ColorLoop {
             direction: direction,
             seconds: old.time,
         })),

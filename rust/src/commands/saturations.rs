@@ -12,10 +12,8 @@ use crate::matter::Command;
 use crate::matter::MoveModeEnum;
 use crate::matter::OnOff;
 use crate::matter::StepModeEnum;
-use crate::tasks::HueDelta;
 use crate::tasks::HueSaturationMoveTo;
 use crate::tasks::SaturationMove;
-use crate::tasks::TargetSaturation;
 use crate::tasks::Task;
 
 fn saturation_step(mode: StepModeEnum, now: u8, size: u8) -> u8 {
@@ -31,8 +29,8 @@ fn saturation_step(mode: StepModeEnum, now: u8, size: u8) -> u8 {
 /// A move to a saturation; the time is in tenths.
 pub(in crate::commands) fn to_saturation(lamp: Lamp, saturation: u8, tenths: u16) -> Outcome {
     let task = HueSaturationMoveTo {
-        delta: HueDelta::Keep,
-        saturation: TargetSaturation::To(saturation),
+        delta: None,
+        saturation: Some(saturation),
         ms: (tenths as u32) * 100,
         enhanced: false,
     };

@@ -7,15 +7,12 @@ use crate::lamp::passes::Left;
 use crate::lamp::passes::left_by;
 use crate::lamp::Answer;
 use crate::lamp::Lamp;
-use crate::matter::ACCEPTED;
+use crate::color::cons_change;
 use crate::matter::CLOCK_LIMIT;
-use crate::matter::CLOCK_REFUSED;
-use crate::matter::INVALID_LAMP;
-use crate::matter::INVALID_TASK;
-use crate::matter::STEP_WHILE_IDLE;
+use crate::matter::Refusal;
+use crate::notices::Notice;
 use crate::notices::Notices;
 use crate::notices::Numeral;
-use crate::notices::REMAINING_TIME;
 use crate::progress::clamped_sum;
 use crate::progress::elapsed;
 use crate::progress::permille;
@@ -26,27 +23,24 @@ use crate::tasks::ColorTemperatureMove;
 use crate::tasks::ColorTemperatureMoveTo;
 use crate::tasks::ColorTemperatureRun;
 use crate::tasks::ColorTemperatureToRun;
-use crate::tasks::GivenTask;
-use crate::tasks::HueDelta;
 use crate::tasks::HueRun;
 use crate::tasks::HueSaturationMoveTo;
 use crate::tasks::HueSaturationRun;
 use crate::tasks::Running;
 use crate::tasks::SaturationRun;
-use crate::tasks::TargetSaturation;
 use crate::tasks::Task;
 
-fn no_hue_delta(delta: HueDelta) -> bool {
+fn no_hue_delta(delta: Option<i64>) -> bool {
     match delta {
-        HueDelta::Keep => true,
-        HueDelta::By(way) => (way <= 0) & (0 <= way),
+        None => true,
+        Some(way) => (way <= 0) & (0 <= way),
     }
 }
 
-fn no_saturation_delta(target: TargetSaturation, start: u8) -> bool {
+fn no_saturation_delta(target: Option<u8>, start: u8) -> bool {
     match target {
-        TargetSaturation::Keep => true,
-        TargetSaturation::To(saturation) => saturation == start,
+        None => true,
+        Some(saturation) => saturation == start,
     }
 }
 
@@ -235,7 +229,7 @@ impl Lamp {
         let color = passed.color;
         let remaining = passed.remaining;
         Answer {
-            number: ACCEPTED,
+            verdict: Ok(()),
             lamp: Lamp {
                 clock: clock,
                 remaining: remaining,
@@ -243,64 +237,62 @@ impl Lamp {
                 running: running,
                 ..self
             },
-            notices: list.cons_if(left.full, REMAINING_TIME).notices(),
-            task: GivenTask::Nothing,
+            notices: list.note_if(left.full, Notice::RemainingTime).notices(),
+            task: None,
             wait: passed.wait,
         }
     }
 
     /// Starts a task, in place of what runs.
     pub fn start(self, task: Task, clock: u64) -> Answer {
-        let cause = self.first_cause(clock);
-        if cause != ACCEPTED {
-            return self.refused(cause);
+        if let Err(refusal) = self.first_cause(clock) {
+            return self.refused(refusal);
         }
         if !task.is_valid() {
-            return self.refused(INVALID_TASK);
+            return self.refused(Refusal::InvalidTask);
         }
         let left = self.begin(task, clock);
         let passed = left.passed;
         let first = passed.first;
         let active = self.looping.active;
-        let list = first.cons(passed.behind(active), active);
+        let list = cons_change(first, passed.behind(active), active);
         self.accepted(left, list, clock)
     }
 
     /// One step of what runs.
     pub fn step(self, clock: u64) -> Answer {
         if !self.is_valid() {
-            return self.refused(INVALID_LAMP);
+            return self.refused(Refusal::InvalidLamp);
         }
         let running = self.running;
         if !running.is_running() {
-            return self.refused(STEP_WHILE_IDLE);
+            return self.refused(Refusal::StepWhileIdle);
         }
         if (clock < self.clock) | (CLOCK_LIMIT < clock) {
-            return self.refused(CLOCK_REFUSED);
+            return self.refused(Refusal::Clock);
         }
         let left = self.pass(running, clock);
         let passed = left.passed;
         let first = passed.first;
         let active = self.looping.active;
-        let list = first.cons(passed.behind(active), active);
+        let list = cons_change(first, passed.behind(active), active);
         self.accepted(left, list, clock)
     }
 
     /// Makes the lamp idle, and nothing else.
     pub fn halt(self, clock: u64) -> Answer {
-        let number = self.first_cause(clock);
-        if number != ACCEPTED {
-            return self.refused(number);
+        if let Err(cause) = self.first_cause(clock) {
+            return self.refused(cause);
         }
         Answer {
-            number: ACCEPTED,
+            verdict: Ok(()),
             lamp: Lamp {
                 clock: clock,
                 running: Running::Idle,
                 ..self
             },
             notices: Notices::new(),
-            task: GivenTask::Nothing,
+            task: None,
             wait: 0,
         }
     }

@@ -7,13 +7,12 @@
 use crate::color::Change;
 use crate::color::Color;
 use crate::color::ColorSet;
+use crate::color::cons_change;
 use crate::hue::moved_hue;
 use crate::matter::Bounds;
 use crate::matter::MoveModeEnum;
-use crate::notices::DEVICE_HUE_SATURATION;
-use crate::notices::DEVICE_MIREDS;
+use crate::notices::Notice;
 use crate::notices::Numeral;
-use crate::notices::REMAINING_TIME;
 use crate::progress::TICK;
 use crate::progress::clamped_sum;
 use crate::progress::delta_at_rate;
@@ -28,12 +27,10 @@ use crate::remaining_time::RemainingTime;
 use crate::tasks::ColorLoopRun;
 use crate::tasks::ColorTemperatureRun;
 use crate::tasks::ColorTemperatureToRun;
-use crate::tasks::HueDelta;
 use crate::tasks::HueRun;
 use crate::tasks::HueSaturationRun;
 use crate::tasks::Running;
 use crate::tasks::SaturationRun;
-use crate::tasks::TargetSaturation;
 
 /// What a pass is given of the lamp.
 #[derive(Clone, Copy, Debug, PartialEq, Eq)]
@@ -44,13 +41,13 @@ pub struct Found {
     pub color: Color,
 }
 
-/// What a move-to moves: the colour, its changes in their order, and the notice of the device that is written.
+/// What a move-to moves: the colour, its changes in their order, and the notice of the device that is written, where one is.
 #[derive(Clone, Copy, Debug, PartialEq, Eq)]
 pub struct Moved {
     pub color: Color,
-    pub first: Change,
-    pub second: Change,
-    pub device: u8,
+    pub first: Option<Change>,
+    pub second: Option<Change>,
+    pub device: Option<Notice>,
 }
 
 /// What a pass leaves: what moves, whether the remaining time is reported, the wait, the remaining time, and whether the
@@ -58,9 +55,9 @@ pub struct Moved {
 #[derive(Clone, Copy, Debug, PartialEq, Eq)]
 pub struct Passed {
     pub color: Color,
-    pub first: Change,
-    pub second: Change,
-    pub device: u8,
+    pub first: Option<Change>,
+    pub second: Option<Change>,
+    pub device: Option<Notice>,
     pub time: bool,
     pub wait: u64,
     pub remaining: RemainingTime,
@@ -106,18 +103,18 @@ pub(in crate::lamp) fn left_by(full: bool, passed: Passed, running: Running) -> 
 /// The hue's part of a move-to, where it moves the hue.
 fn move_hue(
     color: Color,
-    delta: HueDelta,
+    delta: Option<i64>,
     start: u16,
     permille: u16,
     is_enhanced: bool,
     clock: u64,
 ) -> ColorSet {
     match delta {
-        HueDelta::Keep => ColorSet {
+        None => ColorSet {
             color: color,
-            change: Change::none(),
+            change: None,
         },
-        HueDelta::By(way) => {
+        Some(way) => {
             let now = moved_hue(start, part(way, permille));
             color.set_hue(now, 1000 <= permille, is_enhanced, clock)
         }
@@ -137,17 +134,17 @@ fn saturation_now(start: u8, target: u8, permille: u16) -> u8 {
 /// The saturation's part of a move-to, where it moves the saturation.
 fn move_saturation(
     color: Color,
-    target: TargetSaturation,
+    target: Option<u8>,
     start: u8,
     permille: u16,
     clock: u64,
 ) -> ColorSet {
     match target {
-        TargetSaturation::Keep => ColorSet {
+        None => ColorSet {
             color: color,
-            change: Change::none(),
+            change: None,
         },
-        TargetSaturation::To(saturation) => {
+        Some(saturation) => {
             let now = saturation_now(start, saturation, permille);
             color.set_saturation(now, 1000 <= permille, clock)
         }
@@ -178,14 +175,19 @@ fn mireds_done(rate: i64, lo: u16, hi: u16, now: u16) -> bool {
     ((0 < rate) & (now == hi)) | ((rate < 0) & (now == lo))
 }
 
+/// The notice of the device that is written, where one is, in front of a list.
+fn cons_device(list: Numeral, device: Option<Notice>) -> Numeral {
+    match device {
+        Some(device) => list.note(device),
+        None => list,
+    }
+}
+
 impl Passed {
     /// What the pass reports behind its first change. Apart from that, so that both are inlined (docs/SPEED.md).
     pub(in crate::lamp) fn behind(self, loop_active: bool) -> Numeral {
-        let second = self.second;
-        let list = Numeral::new()
-            .cons_if(self.time, REMAINING_TIME)
-            .cons_if(0 < self.device, self.device);
-        second.cons(list, loop_active)
+        let time = Numeral::new().note_if(self.time, Notice::RemainingTime);
+        cons_change(self.second, cons_device(time, self.device), loop_active)
     }
 }
 
@@ -209,7 +211,7 @@ impl Found {
             color: color,
             first: first,
             second: second,
-            device: DEVICE_HUE_SATURATION,
+            device: Some(Notice::DeviceHueSaturation),
         }
     }
 
@@ -228,8 +230,8 @@ impl Found {
         Moved {
             color: color,
             first: first,
-            second: Change::none(),
-            device: DEVICE_MIREDS,
+            second: None,
+            device: Some(Notice::DeviceMireds),
         }
     }
 
@@ -256,14 +258,14 @@ impl Found {
     }
 
     /// A pass that moves one attribute and leaves the remaining time.
-    fn passed(self, set: ColorSet, device: u8, wait: u64, ends: bool) -> Passed {
+    fn passed(self, set: ColorSet, device: Option<Notice>, wait: u64, ends: bool) -> Passed {
         let color = set.color;
         let first = set.change;
         let remaining = self.remaining;
         Passed {
             color: color,
             first: first,
-            second: Change::none(),
+            second: None,
             device: device,
             time: false,
             wait: wait_unless(ends, wait),
@@ -279,7 +281,7 @@ impl Found {
         let now = moved_hue(run.hue, delta_at_rate(rate, elapsed(run.start, self.clock)));
         let old = self.color;
         let set = old.set_hue(now, false, task.enhanced, self.clock);
-        self.passed(set, DEVICE_HUE_SATURATION, TICK, false)
+        self.passed(set, Some(Notice::DeviceHueSaturation), TICK, false)
     }
 
     pub(in crate::lamp) fn saturation_move_transition(self, run: SaturationRun) -> Passed {
@@ -293,7 +295,7 @@ impl Found {
         let ends = saturation_done(direction, now);
         let old = self.color;
         let set = old.set_saturation(now, ends, self.clock);
-        self.passed(set, DEVICE_HUE_SATURATION, TICK, ends)
+        self.passed(set, Some(Notice::DeviceHueSaturation), TICK, ends)
     }
 
     pub(in crate::lamp) fn color_temperature_move_transition(
@@ -305,7 +307,7 @@ impl Found {
         let ends = mireds_done(run.rate, run.lo, run.hi, now);
         let old = self.color;
         let set = old.set_color_temperature(now, ends, self.clock);
-        self.passed(set, DEVICE_MIREDS, TICK, ends)
+        self.passed(set, Some(Notice::DeviceMireds), TICK, ends)
     }
 
     pub(in crate::lamp) fn color_loop_transition(self, run: ColorLoopRun) -> Passed {
@@ -316,7 +318,7 @@ impl Found {
         let old = self.color;
         let set = old.set_hue(now, false, true, self.clock);
         let wait = wait_for_turn(passed, task.seconds);
-        self.passed(set, DEVICE_HUE_SATURATION, wait, false)
+        self.passed(set, Some(Notice::DeviceHueSaturation), wait, false)
     }
 
     /// Where nothing runs, nothing changes, and no device is written.
@@ -324,8 +326,8 @@ impl Found {
         let color = self.color;
         let set = ColorSet {
             color: color,
-            change: Change::none(),
+            change: None,
         };
-        self.passed(set, 0, 0, true)
+        self.passed(set, None, 0, true)
     }
 }

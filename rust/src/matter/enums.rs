@@ -4,6 +4,12 @@
 //!
 //! Carried over from project-chip/rs-matter, commit 43f61585a4 (Apache-2.0, see NOTICE), and changed.
 
+/// A number that no case of an enum has.
+#[derive(Clone, Copy, Debug, PartialEq, Eq)]
+pub struct Reserved {
+    pub number: u8,
+}
+
 /// Which way round the circle of hues a move-to goes.
 #[derive(Clone, Copy, Debug, PartialEq, Eq)]
 pub enum DirectionEnum {
@@ -13,36 +19,28 @@ pub enum DirectionEnum {
     Down,
 }
 
-#[derive(Clone, Copy, Debug, PartialEq, Eq)]
-pub enum DirectionFound {
-    Known(DirectionEnum),
-    Reserved,
-}
-
-impl DirectionEnum {
-    pub fn number(self) -> u8 {
-        match self {
+impl From<DirectionEnum> for u8 {
+    fn from(case: DirectionEnum) -> u8 {
+        match case {
             DirectionEnum::Shortest => 0,
             DirectionEnum::Longest => 1,
             DirectionEnum::Up => 2,
             DirectionEnum::Down => 3,
         }
     }
+}
 
-    pub fn of_number(n: u8) -> DirectionFound {
-        if n == 0 {
-            return DirectionFound::Known(DirectionEnum::Shortest);
+impl TryFrom<u8> for DirectionEnum {
+    type Error = Reserved;
+
+    fn try_from(number: u8) -> Result<Self, Reserved> {
+        match number {
+            0 => Ok(DirectionEnum::Shortest),
+            1 => Ok(DirectionEnum::Longest),
+            2 => Ok(DirectionEnum::Up),
+            3 => Ok(DirectionEnum::Down),
+            _ => Err(Reserved { number }),
         }
-        if n == 1 {
-            return DirectionFound::Known(DirectionEnum::Longest);
-        }
-        if n == 2 {
-            return DirectionFound::Known(DirectionEnum::Up);
-        }
-        if n == 3 {
-            return DirectionFound::Known(DirectionEnum::Down);
-        }
-        DirectionFound::Reserved
     }
 }
 
@@ -54,12 +52,6 @@ pub enum MoveModeEnum {
     Down,
 }
 
-#[derive(Clone, Copy, Debug, PartialEq, Eq)]
-pub enum MoveModeFound {
-    Known(MoveModeEnum),
-    Reserved,
-}
-
 impl MoveModeEnum {
     /// A rate with the sign of its direction.
     pub fn signed(self, rate: u32) -> i64 {
@@ -69,26 +61,28 @@ impl MoveModeEnum {
             MoveModeEnum::Down => -(rate as i64),
         }
     }
+}
 
-    pub fn number(self) -> u8 {
-        match self {
+impl From<MoveModeEnum> for u8 {
+    fn from(case: MoveModeEnum) -> u8 {
+        match case {
             MoveModeEnum::Stop => 0,
             MoveModeEnum::Up => 1,
             MoveModeEnum::Down => 3,
         }
     }
+}
 
-    pub fn of_number(n: u8) -> MoveModeFound {
-        if n == 0 {
-            return MoveModeFound::Known(MoveModeEnum::Stop);
+impl TryFrom<u8> for MoveModeEnum {
+    type Error = Reserved;
+
+    fn try_from(number: u8) -> Result<Self, Reserved> {
+        match number {
+            0 => Ok(MoveModeEnum::Stop),
+            1 => Ok(MoveModeEnum::Up),
+            3 => Ok(MoveModeEnum::Down),
+            _ => Err(Reserved { number }),
         }
-        if n == 1 {
-            return MoveModeFound::Known(MoveModeEnum::Up);
-        }
-        if n == 3 {
-            return MoveModeFound::Known(MoveModeEnum::Down);
-        }
-        MoveModeFound::Reserved
     }
 }
 
@@ -99,28 +93,24 @@ pub enum StepModeEnum {
     Down,
 }
 
-#[derive(Clone, Copy, Debug, PartialEq, Eq)]
-pub enum StepModeFound {
-    Known(StepModeEnum),
-    Reserved,
-}
-
-impl StepModeEnum {
-    pub fn number(self) -> u8 {
-        match self {
+impl From<StepModeEnum> for u8 {
+    fn from(case: StepModeEnum) -> u8 {
+        match case {
             StepModeEnum::Up => 1,
             StepModeEnum::Down => 3,
         }
     }
+}
 
-    pub fn of_number(n: u8) -> StepModeFound {
-        if n == 1 {
-            return StepModeFound::Known(StepModeEnum::Up);
+impl TryFrom<u8> for StepModeEnum {
+    type Error = Reserved;
+
+    fn try_from(number: u8) -> Result<Self, Reserved> {
+        match number {
+            1 => Ok(StepModeEnum::Up),
+            3 => Ok(StepModeEnum::Down),
+            _ => Err(Reserved { number }),
         }
-        if n == 3 {
-            return StepModeFound::Known(StepModeEnum::Down);
-        }
-        StepModeFound::Reserved
     }
 }
 
@@ -132,34 +122,26 @@ pub enum ColorLoopActionEnum {
     ActivateFromEnhancedCurrentHue,
 }
 
-#[derive(Clone, Copy, Debug, PartialEq, Eq)]
-pub enum ColorLoopActionFound {
-    Known(ColorLoopActionEnum),
-    Reserved,
-}
-
-impl ColorLoopActionEnum {
-    pub fn number(self) -> u8 {
-        match self {
+impl From<ColorLoopActionEnum> for u8 {
+    fn from(case: ColorLoopActionEnum) -> u8 {
+        match case {
             ColorLoopActionEnum::Deactivate => 0,
             ColorLoopActionEnum::ActivateFromColorLoopStartEnhancedHue => 1,
             ColorLoopActionEnum::ActivateFromEnhancedCurrentHue => 2,
         }
     }
+}
 
-    pub fn of_number(n: u8) -> ColorLoopActionFound {
-        if n == 0 {
-            return ColorLoopActionFound::Known(ColorLoopActionEnum::Deactivate);
+impl TryFrom<u8> for ColorLoopActionEnum {
+    type Error = Reserved;
+
+    fn try_from(number: u8) -> Result<Self, Reserved> {
+        match number {
+            0 => Ok(ColorLoopActionEnum::Deactivate),
+            1 => Ok(ColorLoopActionEnum::ActivateFromColorLoopStartEnhancedHue),
+            2 => Ok(ColorLoopActionEnum::ActivateFromEnhancedCurrentHue),
+            _ => Err(Reserved { number }),
         }
-        if n == 1 {
-            return ColorLoopActionFound::Known(
-                ColorLoopActionEnum::ActivateFromColorLoopStartEnhancedHue,
-            );
-        }
-        if n == 2 {
-            return ColorLoopActionFound::Known(ColorLoopActionEnum::ActivateFromEnhancedCurrentHue);
-        }
-        ColorLoopActionFound::Reserved
     }
 }
 
@@ -170,28 +152,24 @@ pub enum ColorLoopDirectionEnum {
     Increment,
 }
 
-#[derive(Clone, Copy, Debug, PartialEq, Eq)]
-pub enum ColorLoopDirectionFound {
-    Known(ColorLoopDirectionEnum),
-    Reserved,
-}
-
-impl ColorLoopDirectionEnum {
-    pub fn number(self) -> u8 {
-        match self {
+impl From<ColorLoopDirectionEnum> for u8 {
+    fn from(case: ColorLoopDirectionEnum) -> u8 {
+        match case {
             ColorLoopDirectionEnum::Decrement => 0,
             ColorLoopDirectionEnum::Increment => 1,
         }
     }
+}
 
-    pub fn of_number(n: u8) -> ColorLoopDirectionFound {
-        if n == 0 {
-            return ColorLoopDirectionFound::Known(ColorLoopDirectionEnum::Decrement);
+impl TryFrom<u8> for ColorLoopDirectionEnum {
+    type Error = Reserved;
+
+    fn try_from(number: u8) -> Result<Self, Reserved> {
+        match number {
+            0 => Ok(ColorLoopDirectionEnum::Decrement),
+            1 => Ok(ColorLoopDirectionEnum::Increment),
+            _ => Err(Reserved { number }),
         }
-        if n == 1 {
-            return ColorLoopDirectionFound::Known(ColorLoopDirectionEnum::Increment);
-        }
-        ColorLoopDirectionFound::Reserved
     }
 }
 
@@ -203,32 +181,26 @@ pub enum ColorModeEnum {
     ColorTemperatureMireds,
 }
 
-#[derive(Clone, Copy, Debug, PartialEq, Eq)]
-pub enum ColorModeFound {
-    Known(ColorModeEnum),
-    Reserved,
-}
-
-impl ColorModeEnum {
-    pub fn number(self) -> u8 {
-        match self {
+impl From<ColorModeEnum> for u8 {
+    fn from(case: ColorModeEnum) -> u8 {
+        match case {
             ColorModeEnum::CurrentHueAndCurrentSaturation => 0,
             ColorModeEnum::CurrentXAndCurrentY => 1,
             ColorModeEnum::ColorTemperatureMireds => 2,
         }
     }
+}
 
-    pub fn of_number(n: u8) -> ColorModeFound {
-        if n == 0 {
-            return ColorModeFound::Known(ColorModeEnum::CurrentHueAndCurrentSaturation);
+impl TryFrom<u8> for ColorModeEnum {
+    type Error = Reserved;
+
+    fn try_from(number: u8) -> Result<Self, Reserved> {
+        match number {
+            0 => Ok(ColorModeEnum::CurrentHueAndCurrentSaturation),
+            1 => Ok(ColorModeEnum::CurrentXAndCurrentY),
+            2 => Ok(ColorModeEnum::ColorTemperatureMireds),
+            _ => Err(Reserved { number }),
         }
-        if n == 1 {
-            return ColorModeFound::Known(ColorModeEnum::CurrentXAndCurrentY);
-        }
-        if n == 2 {
-            return ColorModeFound::Known(ColorModeEnum::ColorTemperatureMireds);
-        }
-        ColorModeFound::Reserved
     }
 }
 
@@ -241,40 +213,28 @@ pub enum EnhancedColorModeEnum {
     EnhancedCurrentHueAndCurrentSaturation,
 }
 
-#[derive(Clone, Copy, Debug, PartialEq, Eq)]
-pub enum EnhancedColorModeFound {
-    Known(EnhancedColorModeEnum),
-    Reserved,
-}
-
-impl EnhancedColorModeEnum {
-    pub fn number(self) -> u8 {
-        match self {
+impl From<EnhancedColorModeEnum> for u8 {
+    fn from(case: EnhancedColorModeEnum) -> u8 {
+        match case {
             EnhancedColorModeEnum::CurrentHueAndCurrentSaturation => 0,
             EnhancedColorModeEnum::CurrentXAndCurrentY => 1,
             EnhancedColorModeEnum::ColorTemperatureMireds => 2,
             EnhancedColorModeEnum::EnhancedCurrentHueAndCurrentSaturation => 3,
         }
     }
+}
 
-    pub fn of_number(n: u8) -> EnhancedColorModeFound {
-        if n == 0 {
-            return EnhancedColorModeFound::Known(
-                EnhancedColorModeEnum::CurrentHueAndCurrentSaturation,
-            );
+impl TryFrom<u8> for EnhancedColorModeEnum {
+    type Error = Reserved;
+
+    fn try_from(number: u8) -> Result<Self, Reserved> {
+        match number {
+            0 => Ok(EnhancedColorModeEnum::CurrentHueAndCurrentSaturation),
+            1 => Ok(EnhancedColorModeEnum::CurrentXAndCurrentY),
+            2 => Ok(EnhancedColorModeEnum::ColorTemperatureMireds),
+            3 => Ok(EnhancedColorModeEnum::EnhancedCurrentHueAndCurrentSaturation),
+            _ => Err(Reserved { number }),
         }
-        if n == 1 {
-            return EnhancedColorModeFound::Known(EnhancedColorModeEnum::CurrentXAndCurrentY);
-        }
-        if n == 2 {
-            return EnhancedColorModeFound::Known(EnhancedColorModeEnum::ColorTemperatureMireds);
-        }
-        if n == 3 {
-            return EnhancedColorModeFound::Known(
-                EnhancedColorModeEnum::EnhancedCurrentHueAndCurrentSaturation,
-            );
-        }
-        EnhancedColorModeFound::Reserved
     }
 }
 
@@ -286,32 +246,26 @@ pub enum OnOff {
     NoHandler,
 }
 
-#[derive(Clone, Copy, Debug, PartialEq, Eq)]
-pub enum OnOffFound {
-    Known(OnOff),
-    Reserved,
-}
-
-impl OnOff {
-    pub fn number(self) -> u8 {
-        match self {
+impl From<OnOff> for u8 {
+    fn from(case: OnOff) -> u8 {
+        match case {
             OnOff::Off => 0,
             OnOff::On => 1,
             OnOff::NoHandler => 2,
         }
     }
+}
 
-    pub fn of_number(n: u8) -> OnOffFound {
-        if n == 0 {
-            return OnOffFound::Known(OnOff::Off);
+impl TryFrom<u8> for OnOff {
+    type Error = Reserved;
+
+    fn try_from(number: u8) -> Result<Self, Reserved> {
+        match number {
+            0 => Ok(OnOff::Off),
+            1 => Ok(OnOff::On),
+            2 => Ok(OnOff::NoHandler),
+            _ => Err(Reserved { number }),
         }
-        if n == 1 {
-            return OnOffFound::Known(OnOff::On);
-        }
-        if n == 2 {
-            return OnOffFound::Known(OnOff::NoHandler);
-        }
-        OnOffFound::Reserved
     }
 }
 

@@ -14,11 +14,11 @@ pub struct Bounds {
 impl Bounds {
     /// The larger minimum of a mired move or step: the limit, or the physical one.
     pub fn lower_limit(self, limit: u16) -> u16 {
-        if limit < self.min { self.min } else { limit }
+        limit.max(self.min)
     }
 
     /// The smaller maximum.
     pub fn upper_limit(self, limit: u16) -> u16 {
-        if self.max < limit { self.max } else { limit }
+        limit.min(self.max)
     }
 }

@@ -39,8 +39,7 @@ pub fn contains(bits: u32, flag: u32) -> bool {
 /// else of the lamp's own options.
 pub fn should_continue(on_off: OnOff, options: u8, options_mask: u8, options_override: u8) -> bool {
     match on_off {
-        OnOff::NoHandler => true,
-        OnOff::On => true,
+        OnOff::NoHandler | OnOff::On => true,
         OnOff::Off => {
             if contains(options_mask as u32, EXECUTE_IF_OFF) {
                 contains(options_override as u32, EXECUTE_IF_OFF)

@@ -7,12 +7,12 @@ mod write;
 
 use yemkruos::commands;
 use yemkruos::hue::{current_hue, hue_path_delta};
-use yemkruos::lamp::{Answer, Call, Lamp, Made};
+use yemkruos::lamp::{Answer, Call, Lamp};
 use yemkruos::matter::{Bounds, DirectionEnum, EnhancedColorModeEnum, OnOff};
 use yemkruos::matter::{color_mode_of, should_continue};
 use yemkruos::remaining_time::RemainingTime;
 use yemkruos::rows::Row;
-use yemkruos::tasks::{GivenTask, Running, Task};
+use yemkruos::tasks::{Running, Task};
 
 use rows::RowLine;
 use setters::{Setter, set};
@@ -75,13 +75,13 @@ impl Player {
             Line::Leave(on_off, options, mask, overrides) => {
                 (should_continue(on_off, options, mask, overrides) as u8).to_string()
             }
-            Line::ModeOf(mode) => color_mode_of(mode).number().to_string(),
+            Line::ModeOf(mode) => u8::from(color_mode_of(mode)).to_string(),
             Line::Shown(stored) => current_hue(stored).to_string(),
             Line::Running(mask) => rows::turning(mask),
             Line::New(bounds, features, options, clock) => {
                 match Lamp::new(bounds, features, options, clock) {
-                    Made::Lamp(lamp) => self.put(lamp),
-                    Made::Refused(number) => format!("refused {number}"),
+                    Ok(lamp) => self.put(lamp),
+                    Err(refusal) => format!("refused {}", refusal.number()),
                 }
             }
             Line::Lamp(lamp) => self.put(lamp),
@@ -90,7 +90,7 @@ impl Player {
                 let lamp = self.lamp?;
                 let answer = on_lamp(lamp, self.last, line)?;
                 self.lamp = Some(answer.lamp);
-                if let GivenTask::Given(task) = answer.task {
+                if let Some(task) = answer.task {
                     self.last = Some(task);
                 }
                 write::answer(&answer)
@@ -101,13 +101,13 @@ impl Player {
     fn put(&mut self, lamp: Lamp) -> String {
         self.lamp = Some(lamp);
         self.last = None;
-        write::answer(&lamp.refused(0))
+        write::answer(&lamp.unchanged(Ok(())))
     }
 }
 
 /// The answer where nothing but the lamp is changed, and nothing reported.
 fn quiet(lamp: Lamp) -> Answer {
-    lamp.refused(0)
+    lamp.unchanged(Ok(()))
 }
 
 fn on_lamp(lamp: Lamp, last: Option<Task>, line: Line) -> Option<Answer> {

@@ -15,13 +15,8 @@ const LONGEST_SLICE: usize = 1024;
 struct Words<'a>(std::slice::Split<'a, u8, fn(&u8) -> bool>);
 
 /// Reads an enum by its number; a reserved number cannot be read.
-macro_rules! known {
-    ($words:expr, $type:ident, $found:ident) => {
-        match $type::of_number($words.u8()?) {
-            $found::Known(case) => case,
-            $found::Reserved => return None,
-        }
-    };
+fn known<E: TryFrom<u8>>(words: &mut Words) -> Option<E> {
+    words.u8()?.try_into().ok()
 }
 
 pub fn line(line: &[u8]) -> Option<Line> {
@@ -82,27 +77,23 @@ impl Words<'_> {
     }
 
     fn direction(&mut self) -> Option<DirectionEnum> {
-        Some(known!(self, DirectionEnum, DirectionFound))
+        known(self)
     }
 
     fn mode(&mut self) -> Option<MoveModeEnum> {
-        Some(known!(self, MoveModeEnum, MoveModeFound))
+        known(self)
     }
 
     fn step_mode(&mut self) -> Option<StepModeEnum> {
-        Some(known!(self, StepModeEnum, StepModeFound))
+        known(self)
     }
 
     fn loop_direction(&mut self) -> Option<ColorLoopDirectionEnum> {
-        Some(known!(
-            self,
-            ColorLoopDirectionEnum,
-            ColorLoopDirectionFound
-        ))
+        known(self)
     }
 
     fn enhanced_mode(&mut self) -> Option<EnhancedColorModeEnum> {
-        Some(known!(self, EnhancedColorModeEnum, EnhancedColorModeFound))
+        known(self)
     }
 
     fn on_off(&mut self) -> Option<OnOff> {
@@ -127,7 +118,7 @@ impl Words<'_> {
             hue: self.u16()?,
             saturation: self.u8()?,
             mireds: self.u16()?,
-            mode: known!(self, ColorModeEnum, ColorModeFound),
+            mode: known(self)?,
             emode: self.enhanced_mode()?,
             stamps,
         };
@@ -152,12 +143,12 @@ impl Words<'_> {
     fn move_to(&mut self) -> Option<HueSaturationMoveTo> {
         Some(HueSaturationMoveTo {
             delta: match self.0.next()? {
-                b"-" => HueDelta::Keep,
-                word => HueDelta::By(signed(word)?),
+                b"-" => None,
+                word => Some(signed(word)?),
             },
             saturation: match self.0.next()? {
-                b"-" => TargetSaturation::Keep,
-                word => TargetSaturation::To(magnitude(word)?.try_into().ok()?),
+                b"-" => None,
+                word => Some(magnitude(word)?.try_into().ok()?),
             },
             ms: self.u32()?,
             enhanced: self.bit()?,
@@ -299,7 +290,7 @@ impl Words<'_> {
             ),
             b"color_loop_set" => Command::color_loop_set(
                 self.u8()?,
-                known!(self, ColorLoopActionEnum, ColorLoopActionFound),
+                known(self)?,
                 self.loop_direction()?,
                 self.u16()?,
                 self.u16()?,

@@ -1,8 +1,8 @@
 //! The lines of a row, over the crate's rows.
 
-use yemkruos::lamp::{Call, Lamp, Made};
+use yemkruos::lamp::{Call, Lamp};
 use yemkruos::matter::Bounds;
-use yemkruos::rows::{Lowest, MOST, Row, lowest_running, running_count};
+use yemkruos::rows::{MOST, Row, lowest_running, running_count};
 
 use super::write;
 use super::{Line, Player, on_lamp};
@@ -21,7 +21,7 @@ pub enum RowLine {
 /// A row of fresh lamps.
 fn fresh(count: u8) -> Row {
     let bounds = Bounds { min: 153, max: 500 };
-    let Made::Lamp(lamp) = Lamp::new(bounds, 31, 0, 0) else {
+    let Ok(lamp) = Lamp::new(bounds, 31, 0, 0) else {
         unreachable!("bounds and clock are good");
     };
     Row::new(count, [lamp; 32])
@@ -40,8 +40,8 @@ fn text(row: &Row) -> String {
 /// How many run, and the lowest place, from the mask alone.
 pub fn turning(mask: u32) -> String {
     let lowest = match lowest_running(mask) {
-        Lowest::Nothing => "-".to_string(),
-        Lowest::At(place) => place.to_string(),
+        None => "-".to_string(),
+        Some(place) => place.to_string(),
     };
     format!("{} {lowest}", running_count(mask))
 }
@@ -76,7 +76,7 @@ fn step(player: &mut Player, row: Row, size: usize, fill: u8, clock: u64) -> Str
     player.row = Some(stepped.row);
     let slice: String = bytes.iter().map(|b| format!("{b:02x}")).collect();
     let parts = [
-        write::status(stepped.number),
+        write::status(stepped.verdict),
         text(&stepped.row),
         stepped.wait.to_string(),
         write::or_none(slice),
@@ -98,7 +98,7 @@ fn at(player: &mut Player, row: Row, place: u8, line: Line) -> Option<String> {
             }
             let lamp = row.lamps[usize::from(place)];
             let answer = match line {
-                Line::Lamp(lamp) => lamp.refused(0),
+                Line::Lamp(lamp) => lamp.unchanged(Ok(())),
                 line => on_lamp(lamp, None, line)?,
             };
             player.row = Some(row.with_lamp(place, answer.lamp));
@@ -117,10 +117,10 @@ fn called(player: &mut Player, row: Row, place: u8, call: Call) -> String {
         player.last = Some(task);
     }
     if MOST < row.count || row.count <= place {
-        return format!("{} | - | - | - | 0 | -", write::status(answer.number));
+        return format!("{} | - | - | - | 0 | -", write::status(answer.verdict));
     }
     write::parts(
-        answer.number,
+        answer.verdict,
         &answer.row.lamps[usize::from(place)],
         &answer.notices,
         answer.given_task(),

@@ -1,5 +1,6 @@
 //! A setter by itself, as the protocol has it.
 
+use yemkruos::color::cons_change;
 use yemkruos::lamp::{Answer, Lamp};
 use yemkruos::notices::Numeral;
 
@@ -12,8 +13,7 @@ pub enum Setter {
 
 /// It is refused as a halt is, and stores the clock.
 pub fn set(lamp: Lamp, setter: Setter, is_end: bool, clock: u64) -> Answer {
-    let cause = lamp.first_cause(clock);
-    if cause != 0 {
+    if let Err(cause) = lamp.first_cause(clock) {
         return lamp.refused(cause);
     }
     let old = lamp.color;
@@ -23,7 +23,7 @@ pub fn set(lamp: Lamp, setter: Setter, is_end: bool, clock: u64) -> Answer {
         Setter::Mireds(mireds) => old.set_color_temperature(mireds, is_end, clock),
     };
     let color = set.color;
-    let reported = set.change.cons(Numeral::new(), lamp.looping.active);
+    let reported = cons_change(set.change, Numeral::new(), lamp.looping.active);
     let after = Lamp {
         color,
         clock,
@@ -31,6 +31,6 @@ pub fn set(lamp: Lamp, setter: Setter, is_end: bool, clock: u64) -> Answer {
     };
     Answer {
         notices: reported.notices(),
-        ..after.refused(0)
+        ..after.unchanged(Ok(()))
     }
 }

@@ -1,9 +1,9 @@
 //! An answer as its line.
 
-use yemkruos::Answer;
+use yemkruos::{Answer, Refusal};
 use yemkruos::lamp::Lamp;
 use yemkruos::notices::Notices;
-use yemkruos::tasks::{HueDelta, TargetSaturation, Task};
+use yemkruos::tasks::Task;
 
 fn fields(lamp: &Lamp) -> String {
     let (color, looping) = (&lamp.color, &lamp.looping);
@@ -19,10 +19,10 @@ fn fields(lamp: &Lamp) -> String {
         color.hue.into(),
         color.saturation.into(),
         color.mireds.into(),
-        color.mode.number().into(),
-        color.emode.number().into(),
+        u8::from(color.mode).into(),
+        u8::from(color.emode).into(),
         looping.active.into(),
-        looping.direction.number().into(),
+        u8::from(looping.direction).into(),
         looping.time.into(),
         looping.start.into(),
         looping.stored.into(),
@@ -34,23 +34,23 @@ fn task(task: &Task) -> String {
     match *task {
         Task::HueSaturationMoveTo(t) => {
             let delta = match t.delta {
-                HueDelta::Keep => "-".to_string(),
-                HueDelta::By(delta) => delta.to_string(),
+                None => "-".to_string(),
+                Some(delta) => delta.to_string(),
             };
             let saturation = match t.saturation {
-                TargetSaturation::Keep => "-".to_string(),
-                TargetSaturation::To(saturation) => saturation.to_string(),
+                None => "-".to_string(),
+                Some(saturation) => saturation.to_string(),
             };
             format!("move_to {delta} {saturation} {} {}", t.ms, t.enhanced as u8)
         }
         Task::HueMove(t) => {
-            let mode = t.direction.number();
+            let mode = u8::from(t.direction);
             format!("hue_move {mode} {} {}", t.rate, t.enhanced as u8)
         }
-        Task::SaturationMove(t) => format!("sat_move {} {}", t.direction.number(), t.rate),
+        Task::SaturationMove(t) => format!("sat_move {} {}", u8::from(t.direction), t.rate),
         Task::ColorTemperatureMoveTo(t) => format!("ct_to {} {}", t.target, t.ms),
         Task::ColorTemperatureMove(t) => format!("ct_move {} {} {}", t.rate, t.min, t.max),
-        Task::ColorLoop(t) => format!("loop {} {}", t.direction.number(), t.seconds),
+        Task::ColorLoop(t) => format!("loop {} {}", u8::from(t.direction), t.seconds),
         Task::Stop => "stop".to_string(),
     }
 }
@@ -63,10 +63,10 @@ pub fn or_none(text: String) -> String {
     }
 }
 
-pub fn status(number: u8) -> String {
-    match number {
-        0 => "ok".to_string(),
-        number => format!("refused {number}"),
+pub fn status(verdict: Result<(), Refusal>) -> String {
+    match verdict {
+        Ok(()) => "ok".to_string(),
+        Err(refusal) => format!("refused {}", refusal.number()),
     }
 }
 
@@ -85,7 +85,7 @@ pub fn lamp_line(lamp: &Lamp) -> String {
 pub fn answer(answer: &Answer) -> String {
     let given = answer.given_task();
     parts(
-        answer.number,
+        answer.verdict,
         &answer.lamp,
         &answer.notices,
         given,
@@ -93,10 +93,10 @@ pub fn answer(answer: &Answer) -> String {
     )
 }
 
-pub fn parts(number: u8, lamp: &Lamp, notices: &Notices, given: Option<Task>, wait: u64) -> String {
+pub fn parts(verdict: Result<(), Refusal>, lamp: &Lamp, notices: &Notices, given: Option<Task>, wait: u64) -> String {
     let notices: Vec<String> = notices.iter().map(|n| n.number().to_string()).collect();
     let parts = [
-        status(number),
+        status(verdict),
         fields(lamp),
         or_none(notices.join(" ")),
         or_none(given.as_ref().map_or(String::new(), task)),

@@ -4,4 +4,4 @@ use Rattle.hue.proofs.Laws.{distance_is}
 use Rattle.hue.proofs.distance_up.Goals as goal
 
 pub returns : goal.returns
-returns c = omega (arith, distance_is c.args.from c.args.to (omega arith), c.wrapping_sub_u16.ensures)
+returns c = omega (arith, distance_is c.args.from c.args.to (omega arith))

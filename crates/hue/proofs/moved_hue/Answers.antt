@@ -35,10 +35,10 @@ down s part e = sym (moved-turns s part) ∙ ap (moved_hue s) (is-negated (turn 
 pub returns-then-turn-ge0 : goal.returns-then-turn-ge0
 returns-then-turn-ge0 c =
     let p = c.args.part in let r = read p c.ranges.part in
-    omega (arith, up c.args.start p (rw r at c.if-turn-ge0.true), rw r at c.wrapping_add_u16.ensures.value)
+    rw r (omega (arith, up c.args.start p (rw r at c.if-turn-ge0.true)))
 
 pub returns-else-turn-ge0 : goal.returns-else-turn-ge0
 returns-else-turn-ge0 c =
     let p = c.args.part in let r = read p c.ranges.part in
-    omega
-    (arith, turn-size p, down c.args.start p (rw r at c.if-turn-ge0.false), rw (r, +ℤ_idl, to_z-of_z {w = w64} (negated p), abs_neg) at c.wrapping_sub_u16.ensures.value)
+    rw (r, +ℤ_idl, to_z-of_z {w = w64} (negated p), abs_neg)
+    (omega (arith, turn-size p, down c.args.start p (rw r at c.if-turn-ge0.false)))

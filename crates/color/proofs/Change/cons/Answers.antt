@@ -5,4 +5,4 @@ use Rattle.color.proofs.Change.cons.Goals as goal
 pub returns : goal.returns
 returns c =
     rw
-    (c.cons_if-5.ensures, c.cons_if-4.ensures, c.cons_if-3.ensures, c.cons_if-2.ensures, c.cons_if.ensures, c.cons.ensures, c.if-self.false, change-in-front)
+    (c.note_if-5.ensures, c.note_if-4.ensures, c.note_if-3.ensures, c.note_if-2.ensures, c.note_if.ensures, c.note.ensures, change-in-front)

@@ -6,4 +6,4 @@ use Rattle.commands.proofs.loops.cons_updated.Goals as goal
 pub returns : goal.returns
 returns c =
     rw
-    (c.cons_if-3.ensures, c.contains-3.ensures, c.cons_if-2.ensures, c.contains-2.ensures, c.cons_if.ensures, c.contains.ensures, c.cons.ensures, flags-in-front c.args.list (has_flag c.args.flags update_direction) (has_flag c.args.flags update_time) (has_flag c.args.flags update_start_hue))
+    (c.note_if-3.ensures, c.contains-3.ensures, c.note_if-2.ensures, c.contains-2.ensures, c.note_if.ensures, c.contains.ensures, c.note.ensures, flags-in-front c.args.list (has_flag c.args.flags update_direction) (has_flag c.args.flags update_time) (has_flag c.args.flags update_start_hue))

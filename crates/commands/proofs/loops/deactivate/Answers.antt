@@ -9,4 +9,4 @@ unfolding deactivated
 returns c =
     let lamp = c.args.lamp in
     rw
-    (c.cons-3.ensures, c.cons-2.ensures, c.cons.ensures, c.cons-device.ensures, c.new.ensures, c.set_hue-set.ensures, not-false lamp.looping.active c.if-not-lamp.false, off-change lamp.color lamp.looping.stored lamp.clock)
+    (c.note-2.ensures, c.note.ensures, c.cons_change.ensures, c.note-device.ensures, c.new.ensures, c.set_hue-set.ensures, not-false lamp.looping.active c.if-not-lamp.false, off-change lamp.color lamp.looping.stored lamp.clock)

@@ -5,4 +5,4 @@ use Rattle.lamp.proofs.Lamp.accepted.Goals as goal
 pub returns : goal.returns
 returns c =
     rw
-    (c.notices.ensures, c.cons_if.ensures, c.requires.list_value, left-placed c.args.left.passed c.args.self.looping.active c.requires.bytes c.args.left.full)
+    (c.notices.ensures, c.note_if.ensures, c.requires.list_value, left-placed c.args.left.passed c.args.self.looping.active c.requires.bytes c.args.left.full)

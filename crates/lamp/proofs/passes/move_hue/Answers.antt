@@ -6,8 +6,8 @@ use Rattle.progress.specs.Progress.{limited}
 use Rattle.lamp.proofs.Shared.{small_same}
 use Rattle.lamp.proofs.passes.move_hue.Goals as goal
 
-pub returns-in-By : goal.returns-in-By
-returns-in-By c =
-    let read : to_z w64 (of_z w64 c.in-By.way) ≡ c.in-By.way = search rules in
-    let same : limited (to_z w64 (of_z w64 c.in-By.way)) ≡ c.in-By.way = ap limited read ∙ small_same _ (rw c.in-By.is at c.requires) in
-    rw (c.set_hue.ensures, c.moved_hue-now.ensures, to_z-of_z {w = w64} (sfits_of c.part.type_inv), c.part.ensures, same, c.in-By.is)
+pub returns-in-Some : goal.returns-in-Some
+returns-in-Some c =
+    let read : to_z w64 (of_z w64 c.in-Some.way) ≡ c.in-Some.way = search rules in
+    let same : limited (to_z w64 (of_z w64 c.in-Some.way)) ≡ c.in-Some.way = ap limited read ∙ small_same _ (rw c.in-Some.is at c.requires) in
+    rw (c.set_hue.ensures, c.moved_hue-now.ensures, to_z-of_z {w = w64} (sfits_of c.part.type_inv), c.part.ensures, same, c.in-Some.is)
