@@ -157,7 +157,7 @@ pub fn ask<S: Sink>(leaf: Leaf, out: &mut S)
         Leaf::Delta(asked) => delta(asked, out),
         Leaf::Remaining(asked) => remaining(asked, out),
         Leaf::Leave(asked) => may_execute(asked, out),
-        Leaf::ModeOf(emode) => decimal(out, matter::color_mode_of(emode).number() as u64),
+        Leaf::ModeOf(emode) => decimal(out, u64::from(u8::from(matter::color_mode_of(emode)))),
         Leaf::CurrentHue(stored) => decimal(out, hue::current_hue(stored) as u64),
     }
 }

@@ -9,7 +9,7 @@ use crate::setters::Setting;
 use crate::{invocations, leaves, setters};
 use lamp::{Answer, Call, Lamp, };
 use lamp_lines::{fields, records};
-use matter::{ACCEPTED, Bounds};
+use matter::Bounds;
 use tasks::Running;
 use text::words::Words;
 
@@ -111,7 +111,7 @@ pub fn make(making: Making) -> Result<Lamp, Refusal>
 pub fn shown(lamp: Lamp) -> Answer
     ensures { result ≡ shown_answer lamp }
 {
-    lamp.refused(ACCEPTED)
+    lamp.unchanged(Ok(()))
 }
 
 // The fields anew, with the record that there is.

@@ -3,9 +3,8 @@ ghost use Rattle.std.specs.Prelude.{◌≡◌};
 ghost use Rattle.text.specs.Readers.{Reads};
 ghost use Rattle.call_lines.specs.Setters.{hue_setting_at, saturation_setting_at, mireds_setting_at, setting_at, setting_set, setting_answer};
 
-use color::{Color, ColorSet};
+use color::{Color, ColorSet, cons_change};
 use lamp::{Answer, Lamp};
-use matter::ACCEPTED;
 use notices::Numeral;
 use text::words::Words;
 
@@ -94,21 +93,16 @@ fn set_color(color: Color, setting: Setting) -> ColorSet
 pub fn set(lamp: Lamp, setting: Setting) -> Answer
     ensures { result ≡ setting_answer lamp setting }
 {
-    let number = lamp.first_cause(setting.clock);
-    if number != ACCEPTED {
-        return lamp.refused(number);
+    if let Err(cause) = lamp.first_cause(setting.clock) {
+        return lamp.refused(cause);
     }
-    let found = lamp.color;
-    let set = set_color(found, setting);
-    let color = set.color;
-    let change = set.change;
-    let reported = change.cons(Numeral::new(), lamp.looping.active);
-    let now = lamp.at_clock(setting.clock);
+    let set = set_color(lamp.color, setting);
+    let reported = cons_change(set.change, Numeral::new(), lamp.looping.active);
     Answer {
-        number: ACCEPTED,
+        verdict: Ok(()),
         lamp: Lamp {
-            color: color,
-            ..now
+            color: set.color,
+            ..lamp.at_clock(setting.clock)
         },
         notices: reported.notices(),
         task: None,

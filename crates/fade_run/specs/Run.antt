@@ -5,7 +5,8 @@ use Rattle.std.specs.Prelude.{ℕ, zero, suc, ◌+◌, ◌-◌, Bool, true, fals
 use Rattle.matter.specs.declared.commands.Command.{Command}
 use Rattle.matter.specs.Requests.{request, no_options}
 use Rattle.matter.specs.declared.enums.OnOff.{OnOff}
-use Rattle.matter.specs.Causes.{accepted}
+use Rattle.matter.specs.Causes.{Verdict, number_of, refusal_number}
+use Rattle.std.specs.Prelude.{is_ok}
 use Rattle.tasks.specs.Runs.{runs}
 use Rattle.lamp.specs.declared.Lamp.{Lamp}
 use Rattle.std.specs.Prelude.{Result, Ok, Err}
@@ -35,11 +36,11 @@ line_of a clock =
 
 -- "A refusal prints `refused`, a space and its number"
 abbrev pub one_text : Answer → ℕ → List ℕ
-one_text a clock = cond (eqb a.number accepted) (line_text (line_of a clock)) (refused_text a.number)
+one_text a clock = cond (is_ok a.verdict) (line_text (line_of a clock)) (refused_text (number_of a.verdict))
 
 -- whether a step follows an answer: not after a refusal, which "ends the run", and not once the lamp is idle
 abbrev pub goes_on : Answer → Bool
-goes_on a = eqb a.number accepted && runs a.lamp.running
+goes_on a = is_ok a.verdict && runs a.lamp.running
 
 -- the step that follows an answer to a call at a clock
 abbrev pub step_after : Answer → ℕ → Answer
@@ -57,7 +58,7 @@ further (suc left) a clock =
 
 abbrev pub text : Fade → List ℕ
 text Fade.BadLine = bad_line_text
-text (Fade.Refused number) = refused_text number
+text (Fade.Refused refusal) = refused_text (refusal_number refusal)
 text (Fade.Start s) =
     one_text (start_answer s.lamp s.task s.clock) s.clock
     ++ further s.left (start_answer s.lamp s.task s.clock) s.clock
@@ -72,9 +73,12 @@ abbrev pub start_of : ℕ → ℕ → Lamp → Option Task → Fade
 start_of left clock l None = Fade.Over
 start_of left clock l (Some task) = Fade.Start (record { lamp = l; task = task; clock = clock; left = left })
 
+abbrev pub unless_ended : Verdict → Fade → Fade
+unless_ended (Ok u) fade = fade
+unless_ended (Err refusal) fade = Fade.Refused refusal
+
 abbrev pub after_command : ℕ → ℕ → Answer → Fade
-after_command left clock a =
-    cond (eqb a.number accepted) (start_of left clock a.lamp a.task) (Fade.Refused a.number)
+after_command left clock a = unless_ended a.verdict (start_of left clock a.lamp a.task)
 
 -- "gives the plain command", on, with no options of its own
 abbrev pub commanded : ℕ → Wanted → Lamp → Fade
@@ -83,7 +87,7 @@ commanded left w l =
     (command_answer l (request (Command.MoveToHue w.hue w.direction w.tenths) no_options) OnOff.On w.clock)
 
 abbrev pub after_making : ℕ → Wanted → Result Lamp Refusal → Fade
-after_making left w (Err number) = Fade.Refused number
+after_making left w (Err refusal) = Fade.Refused refusal
 after_making left w (Ok l) = commanded left w l
 
 -- "It makes this lamp": "bounds 153 and 500, [..] hue 0, mireds 250, on, XY mode"
@@ -104,7 +108,7 @@ fade_text input = text (fade_of (asked_by input))
 
 abbrev pub next_text : Fade → List ℕ
 next_text Fade.BadLine = bad_line_text
-next_text (Fade.Refused number) = refused_text number
+next_text (Fade.Refused refusal) = refused_text (refusal_number refusal)
 next_text (Fade.Start s) = one_text (start_answer s.lamp s.task s.clock) s.clock
 next_text (Fade.Step s) = one_text (step_answer s.lamp s.clock) s.clock
 next_text Fade.Over = []

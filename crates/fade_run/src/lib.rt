@@ -11,7 +11,7 @@ use fade_line::reader::Wanted;
 use fade_line::writer;
 use fade_line::writer::{LONGEST, Line};
 use lamp::{Answer, Lamp, };
-use matter::{ACCEPTED, Bounds, Command, CommandOptions, OnOff, Request};
+use matter::{Bounds, Command, CommandOptions, OnOff, Refusal, Request};
 use tasks::{Task};
 
 // A start, and a step, that is to come, with how many more steps there may be.
@@ -34,7 +34,7 @@ pub struct Stepping {
 #[derive(Clone, Copy)]
 pub enum Fade {
     BadLine,
-    Refused(u8),
+    Refused(Refusal),
     Start(Starting),
     Step(Stepping),
     Over,
@@ -57,10 +57,10 @@ fn start_of(lamp: Lamp, given: Option<Task>, clock: u64, left: u16) -> Fade
 fn after_command(answer: Answer, clock: u64, left: u16) -> Fade
     ensures { result ≡ after_command left clock answer }
 {
-    if answer.number != ACCEPTED {
-        return Fade::Refused(answer.number);
+    match answer.verdict {
+        Ok(()) => start_of(answer.lamp, answer.task, clock, left),
+        Err(refusal) => Fade::Refused(refusal),
     }
-    start_of(answer.lamp, answer.task, clock, left)
 }
 
 fn command(lamp: Lamp, wanted: Wanted) -> Fade
@@ -86,7 +86,7 @@ fn begin(wanted: Wanted) -> Fade
     ensures { result ≡ fade_within wanted.tenths wanted }
 {
     match Lamp::new(Bounds { min: 153, max: 500 }, 31, 0, wanted.clock) {
-        Err(number) => Fade::Refused(number),
+        Err(refusal) => Fade::Refused(refusal),
         Ok(lamp) => command(lamp, wanted),
     }
 }
@@ -110,7 +110,7 @@ fn step_of(answer: Answer, clock: u64, left: u16) -> Fade
     requires { clock + answer.wait < 2 ^ 64 }
     ensures { result ≡ step_of answer clock left }
 {
-    if answer.number != ACCEPTED || !answer.lamp.running.is_running() || left == 0 {
+    if answer.verdict.is_err() || !answer.lamp.running.is_running() || left == 0 {
         return Fade::Over;
     }
     Fade::Step(Stepping {
@@ -123,10 +123,10 @@ fn step_of(answer: Answer, clock: u64, left: u16) -> Fade
 fn write_answer(answer: Answer, clock: u64, out: &mut [u8], at: usize) -> usize
     ensures { Wrote out.old at (fitting out.old at (one_text answer clock)) out.new result }
 {
-    if answer.number != ACCEPTED {
-        return writer::write_refused(out, at, answer.number);
+    match answer.verdict {
+        Ok(()) => writer::write_line(out, at, line_of(answer, clock)),
+        Err(refusal) => writer::write_refused(out, at, u8::from(refusal)),
     }
-    writer::write_line(out, at, line_of(answer, clock))
 }
 
 impl Fade {
@@ -166,9 +166,9 @@ impl Fade {
                 *self = Fade::Over;
                 writer::write_bad_line(out, at)
             }
-            Fade::Refused(number) => {
+            Fade::Refused(refusal) => {
                 *self = Fade::Over;
-                writer::write_refused(out, at, number)
+                writer::write_refused(out, at, u8::from(refusal))
             }
             Fade::Start(s) => {
                 self.report(s.lamp.start(s.task, s.clock), s.clock, s.left, out, at)

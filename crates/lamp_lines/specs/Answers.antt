@@ -1,7 +1,8 @@
 -- The texts of answers.
 use Rattle.std.specs.Prelude.{Option, Some, None}
 use Rattle.std.specs.Prelude.{ℕ, Bool, cond, List, [], ◌∷◌, ◌++◌, eqb, ℤ, take}
-use Rattle.matter.specs.Causes.{accepted}
+use Rattle.std.specs.Prelude.{Ok, Err}
+use Rattle.matter.specs.Causes.{Verdict, refusal_number}
 use Rattle.matter.specs.Numbers.{move_mode_number, loop_direction_number, color_mode_number, enhanced_color_mode_number}
 use Rattle.notices.specs.declared.Notices.{Notices}
 use Rattle.tasks.specs.declared.Running.{Running}
@@ -69,8 +70,9 @@ given_text (Some task) = task_text task
 
 -- ---- answers
 
-abbrev pub status_text : ℕ → List ℕ
-status_text number = cond (eqb number accepted) (ascii "ok") (ascii "refused" ++ numbers_text (number ∷ []))
+abbrev pub status_text : Verdict → List ℕ
+status_text (Ok u) = ascii "ok"
+status_text (Err refusal) = ascii "refused" ++ numbers_text (refusal_number refusal ∷ [])
 
 abbrev pub running_text : Running → List ℕ
 running_text r = cond (runs r) (ascii " running") (ascii " idle")
@@ -83,5 +85,5 @@ reported_text notices task wait =
 -- <status> | <fields> | <notices or -> | <task given or -> | <wait> | running or idle
 unfoldable pub answer_text : Answer → List ℕ
 answer_text a =
-    status_text a.number ++ ascii " |" ++ numbers_text (lamp_numbers a.lamp)
+    status_text a.verdict ++ ascii " |" ++ numbers_text (lamp_numbers a.lamp)
     ++ reported_text a.notices a.task a.wait ++ ascii " |" ++ running_text a.lamp.running

@@ -1,5 +1,5 @@
 -- Tasks by their names, each with what it asks for.
-use Rattle.std.specs.Prelude.{Option, Some, None}
+use Rattle.std.specs.Prelude.{Option, Some, None, ℤ}
 use Rattle.std.specs.Prelude.{ℕ, List, [], ◌∷◌, Option, Some, None, option_map}
 use Rattle.tasks.specs.declared.Task.{Task}
 use Rattle.text.specs.Numbers.{number_of, signed_of}

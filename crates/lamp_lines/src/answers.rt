@@ -5,6 +5,7 @@ ghost use Rattle.text.specs.Ascii.{ascii};
 ghost use Rattle.lamp_lines.specs.Answers.{number_text, signed_text, numbers_text, lamp_numbers, notices_text, delta_text, target_text, task_text, given_text, status_text, running_text, reported_text, answer_text};
 
 use lamp::{Answer, Lamp};
+use matter::Refusal;
 use notices::Notices;
 use tasks::{Running, Task};
 use text::writer::{Sink, decimal, signed, text};
@@ -75,10 +76,10 @@ pub fn lamp_numbers(lamp: Lamp) -> [u64; 18]
         color.hue as u64,
         color.saturation as u64,
         color.mireds as u64,
-        color.mode.number() as u64,
-        color.emode.number() as u64,
+        u64::from(u8::from(color.mode)),
+        u64::from(u8::from(color.emode)),
         looping.active as u64,
-        looping.direction.number() as u64,
+        u64::from(u8::from(looping.direction)),
         looping.time as u64,
         looping.start as u64,
         looping.stored as u64,
@@ -131,7 +132,7 @@ fn task<S: Sink>(out: &mut S, task: Task)
             out,
             b" hue_move",
             &[
-                t.direction.number() as u64,
+                u64::from(u8::from(t.direction)),
                 t.rate as u64,
                 t.enhanced as u64,
             ],
@@ -139,7 +140,7 @@ fn task<S: Sink>(out: &mut S, task: Task)
         Task::SaturationMove(t) => named(
             out,
             b" sat_move",
-            &[t.direction.number() as u64, t.rate as u64],
+            &[u64::from(u8::from(t.direction)), t.rate as u64],
         ),
         Task::ColorTemperatureMoveTo(t) => named(out, b" ct_to", &[t.target as u64, t.ms as u64]),
         Task::ColorTemperatureMove(t) => {
@@ -150,7 +151,7 @@ fn task<S: Sink>(out: &mut S, task: Task)
         Task::ColorLoop(t) => named(
             out,
             b" loop",
-            &[t.direction.number() as u64, t.seconds as u64],
+            &[u64::from(u8::from(t.direction)), t.seconds as u64],
         ),
         Task::Stop => text(out, b" stop"),
     }
@@ -165,13 +166,13 @@ fn given<S: Sink>(out: &mut S, given: Option<Task>)
     }
 }
 
-pub fn status<S: Sink>(out: &mut S, number: u8)
-    ensures { out.new ≡ fold S.push out.old (status_text number) }
+pub fn status<S: Sink>(out: &mut S, verdict: Result<(), Refusal>)
+    ensures { out.new ≡ fold S.push out.old (status_text verdict) }
 {
-    if number == 0 {
-        return text(out, b"ok");
+    match verdict {
+        Ok(()) => text(out, b"ok"),
+        Err(refusal) => named(out, b"refused", &[u64::from(u8::from(refusal))]),
     }
-    named(out, b"refused", &[number as u64]);
 }
 
 pub fn ending<S: Sink>(out: &mut S, running: Running)
@@ -200,7 +201,7 @@ fn reported<S: Sink>(out: &mut S, list: Notices, task: Option<Task>, wait: u64)
 pub fn answer<S: Sink>(out: &mut S, answer: Answer)
     ensures { out.new ≡ fold S.push out.old (answer_text answer) }
 {
-    status(out, answer.number);
+    status(out, answer.verdict);
     bar(out);
     numbers(out, &lamp_numbers(answer.lamp));
     reported(out, answer.notices, answer.task, answer.wait);

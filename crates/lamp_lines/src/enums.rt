@@ -5,8 +5,8 @@ ghost use Rattle.text.specs.Readers.{Reads};
 ghost use Rattle.lamp_lines.specs.Enums.{case_of, enum, on_off_at};
 
 use matter::{
-    ColorLoopActionEnum, ColorLoopDirectionEnum, ColorModeEnum, DirectionEnum, EnhancedColorModeEnum,
-    MoveModeEnum, OnOff, StepModeEnum,
+    ColorLoopActionEnum, ColorLoopDirectionEnum, ColorModeEnum, DirectionEnum,
+    EnhancedColorModeEnum, MoveModeEnum, OnOff, StepModeEnum,
 };
 use text::words::Words;
 

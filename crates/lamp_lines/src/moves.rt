@@ -5,8 +5,8 @@ ghost use Rattle.lamp_lines.specs.Moves.{dashed, delta_at, target_at, move_to_at
 
 use crate::enums::enumerated;
 use tasks::{
-    ColorLoop, ColorTemperatureMove, ColorTemperatureMoveTo, HueMove,
-    HueSaturationMoveTo, SaturationMove, Task,
+    ColorLoop, ColorTemperatureMove, ColorTemperatureMoveTo, HueMove, HueSaturationMoveTo,
+    SaturationMove, Task,
 };
 use text::numbers::FromWord;
 use text::words::Words;
