@@ -3,3 +3,4 @@ pub mod DigitLaws
 pub mod WordLaws
 pub mod NumberLaws
 pub mod PairLaws
+pub mod Places
