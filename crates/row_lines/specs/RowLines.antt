@@ -5,7 +5,6 @@ use Prim.Native.String.{String}
 use Rattle.text.specs.Ascii.{ascii}
 use Rattle.text.specs.Words.{first_word, behind_word}
 use Rattle.text.specs.Readers.{Read, Reader, Row, give, ◌then◌, number8, number16, number32, number64, word, by_next, at_end, ◌means◌, named}
-use Rattle.call_lines.specs.declared.lines.Line.{Line}
 use Rattle.call_lines.specs.Lines.{line_at}
 use Rattle.row_lines.specs.declared.lines.OnRow.{OnRow}
 use Rattle.row_lines.specs.declared.lines.RowLine.{RowLine}

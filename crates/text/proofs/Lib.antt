@@ -3,4 +3,4 @@ pub mod DigitLaws
 pub mod WordLaws
 pub mod NumberLaws
 pub mod PairLaws
-pub mod BufferLaws
+pub mod Places

@@ -37,10 +37,10 @@ module _ (x : ℕ) where
       by_test true h = refl
       by_test false h = ap (λ (l : List ℕ). b ∷ l) h
 
-  pub short_up_to : (s : List ℕ) → length (up_to x s) ≤ length s
+  pub up_to-short : (s : List ℕ) → length (up_to x s) ≤ length s
   unfolding up_to
-  short_up_to [] = omega arith
-  short_up_to (b ∷ s) = by_test (eqb b x) (short_up_to s)
+  up_to-short [] = omega arith
+  up_to-short (b ∷ s) = by_test (eqb b x) (up_to-short s)
     where
       by_test : (t : Bool) → length (up_to x s) ≤ length s → length (cond t [] (b ∷ up_to x s)) ≤ suc (length s)
       by_test true h = omega arith
