@@ -10,10 +10,10 @@ use Rattle.rows.specs.declared.Row.{Row}
 use Rattle.rows.specs.declared.RowAnswer.{RowAnswer}
 use Rattle.rows.specs.declared.RowStepped.{RowStepped}
 use Rattle.rows.specs.Rows.{row_of, placed, row_stepped, row_bytes, lamp_at, answered_at, put_at, count_of, lowest_of}
+use Rattle.std.specs.List.{fold}
 use Rattle.text.specs.Ascii.{ascii}
 use Rattle.text.specs.Digits.{decimal, hex_text}
 use Rattle.text.specs.Words.{same}
-use Rattle.text.specs.Written.{Written}
 use Rattle.lamp_lines.specs.Answers.{number_text, numbers_text, lamp_numbers, running_text, status_text, answer_text}
 use Rattle.call_lines.specs.declared.lines.Line.{Line}
 use Rattle.call_lines.specs.declared.lines.OnLamp.{OnLamp}
@@ -58,9 +58,9 @@ pub record Turn : Type 0 where
   pub task : GivenTask
   pub text : List ℕ
 
--- what a function gives that answers into a slice
-abbrev pub Turned : Turn → List ℕ → ℕ → List ℕ → RowTurn → Type 0
-Turned t old at new r = (r.row ≡ t.row) × (r.task ≡ t.task) × Written old at t.text new r.at
+-- what a function gives that puts its answer into a sink
+abbrev pub Turned : {S : Type 0} → Turn → (S → ℕ → S) → S → S → RowTurn → Type 0
+Turned t push old new r = (r.row ≡ t.row) × (r.task ≡ t.task) × (new ≡ fold push old t.text)
 
 -- the row, no task
 abbrev pub says : Row → List ℕ → Turn

@@ -1,34 +1,32 @@
-// What the lines of a row come to, and the texts of their answers. As in `text`, what does not fit is left out; the newline
-// is the caller's.
-ghost use Rattle.std.specs.Prelude.{◌≡◌, ◌++◌, cond, ◌+◌, ◌*◌, ◌%◌, ◌<◌, min, length, take, drop};
+// What the lines of a row come to, and the texts of their answers, into any sink; the newline is the caller's.
+ghost use Rattle.std.specs.Prelude.{◌≡◌, ◌++◌, cond, ◌+◌, ◌%◌, ◌<◌, min, length};
+ghost use Rattle.std.specs.List.{fold};
 ghost use Rattle.text.specs.Ascii.{ascii};
-ghost use Rattle.text.specs.Digits.{decimal};
 ghost use Rattle.text.specs.Words.{same};
-ghost use Rattle.text.specs.Written.{Written};
-ghost use Rattle.lamp_lines.specs.Answers.{number_text, numbers_text, lamp_numbers, status_text, answer_text};
-ghost use Rattle.row_lines.specs.RowAnswers.{summed, lamp_text, lamps_text, row_text, then_row, Turned, shown_row, unread, fresh_place, fresh_row, with_count, with_mask, lowest_text, turning_text, says, lent_bytes, slice_text, kept_text, lent_text, step_with, step_row, last_start, on_lamp_asked, asked_of, lamp_answer, lamp_hidden, called_at, lamp_missing, edited_at, edited_on, answered_place, on_row};
+ghost use Rattle.lamp_lines.specs.Answers.{status_text, answer_text};
+ghost use Rattle.row_lines.specs.RowAnswers.{lamp_text, lamps_text, row_sum, row_text, then_row, Turned, shown_row, unread, fresh_place, fresh_row, with_count, with_mask, lowest_text, turning_text, says, lent_bytes, slice_text, kept_text, lent_text, step_with, step_row, last_start, on_lamp_asked, asked_of, lamp_answer, lamp_hidden, called_at, lamp_missing, edited_at, edited_on, answered_place, on_row};
 
 use crate::lines::{AtPlace, OnRow, RowStep};
+use crate::sum::Sum;
 use call_lines::lines;
 use call_lines::lines::{Line, OnLamp};
 use color::Color;
 use lamp::{Answer, Call, Lamp, LoopSettings};
-use lamp_lines::answers::{answer, bar, lamp_numbers, number, status};
+use lamp_lines::answers::{answer, bar, ending, lamp_numbers, number, numbers, status};
 use matter::{Bounds, ColorLoopDirectionEnum};
 use remaining_time::RemainingTime;
 use rows::{Lowest, MOST, Row, RowAnswer, lowest_running, running_count};
 use tasks::{GivenTask, Running};
-use text::writer::{decimal, hex, text};
+use text::writer::{Sink, decimal, hex, text};
 
 // The longest slice that is lent.
 const LONGEST: usize = 1024;
 
-// The row after a line, the task that its lamp gave, and the place after the answer.
+// The row after a line, and the task that its lamp gave.
 #[derive(Clone, Copy)]
 pub struct RowTurn {
     pub row: Row,
     pub task: GivenTask,
-    pub at: usize,
 }
 
 // What a line at a place asks of the lamp there.
@@ -40,143 +38,75 @@ pub enum Asked {
     Nothing,
 }
 
-fn sum_byte(h: u32, b: u8) -> u32
-    ensures { result ≡ (h * 31 + b) % 4294967296 }
-{
-    (((h as u64) * 31 + (b as u64)) % 4294967296) as u32
-}
-
-fn sum_text(h: u32, s: &[u8]) -> u32
-    ensures { result ≡ summed h s.now }
-{
-    let mut sum = h;
-    let mut i = 0;
-    while i < s.len() {
-        sum = sum_byte(sum, s[i]);
-        i += 1;
-    }
-    sum
-}
-
-fn last_digit(n: u64) -> u8
-    ensures { result ≡ 48 + n % 10 }
-{
-    48 + (n % 10) as u8
-}
-
-// A number in decimal.
-fn sum_decimal(h: u32, n: u64) -> u32
-    ensures { result ≡ summed h (decimal n) }
-{
-    if n < 10 {
-        sum_byte(h, last_digit(n))
-    } else {
-        let sum = sum_decimal(h, n / 10);
-        sum_byte(sum, last_digit(n))
-    }
-}
-
-// A number after a blank.
-fn sum_number(h: u32, n: u64) -> u32
-    ensures { result ≡ summed h (number_text n) }
-{
-    sum_decimal(sum_byte(h, b' '), n)
-}
-
-fn sum_numbers(h: u32, list: &[u64]) -> u32
-    ensures { result ≡ summed h (numbers_text list.now) }
-{
-    let mut sum = h;
-    let mut i = 0;
-    while i < list.len() {
-        sum = sum_number(sum, list[i]);
-        i += 1;
-    }
-    sum
-}
-
-// A lamp's fields, with no blank before the first.
-fn sum_fields(h: u32, lamp: Lamp) -> u32
-    ensures { result ≡ summed h (drop 1 (numbers_text (lamp_numbers lamp))) }
+// A lamp's fields, with no blank before the first, and a line's end.
+#[tactic(auto, unfolding(crate::specs::RowAnswers::lamp_text))]
+fn lamp_line<S: Sink>(out: &mut S, lamp: Lamp)
+    ensures { out.new ≡ fold S.push out.old (lamp_text lamp) }
 {
     let list = lamp_numbers(lamp);
-    let first = sum_decimal(h, list[0]);
-    sum_numbers(first, &list[1..])
+    decimal(out, list[0]);
+    numbers(out, &list[1..]);
+    ending(out, lamp.running);
+    out.byte(b'\n');
 }
 
-#[tactic(auto, unfolding(crate::specs::RowAnswers::lamp_text))]
-fn sum_lamp(h: u32, lamp: Lamp) -> u32
-    ensures { result ≡ summed h (lamp_text lamp) }
+#[tactic(auto, unfolding(crate::specs::RowAnswers::lamps_text))]
+fn all_lamps<S: Sink>(out: &mut S, lamps: &[Lamp])
+    ensures { out.new ≡ fold S.push out.old (lamps_text lamps.now) }
 {
-    let running = lamp.running;
-    let sum = sum_fields(h, lamp);
-    if running.is_running() {
-        return sum_text(sum, b" running\n");
+    for l in lamps {
+        lamp_line(out, *l);
     }
-    sum_text(sum, b" idle\n")
 }
 
-// How many places of a row have a lamp.
-fn places(count: u8) -> usize
-    ensures { result ≡ min count 32 }
+// Of the lamps at the row's places.
+#[tactic(auto, unfolding(crate::specs::RowAnswers::row_sum))]
+fn sum_of(row: Row) -> u32
+    ensures { result ≡ row_sum row }
 {
-    if count < MOST { count as usize } else { 32 }
-}
-
-fn sum_lamps(lamps: [Lamp; 32], count: u8) -> u32
-    ensures { result ≡ summed 0 (lamps_text (take count lamps)) }
-{
-    let n = places(count);
-    let mut sum: u32 = 0;
-    let mut i: usize = 0;
-    while i < n {
-        let lamp = lamps[i];
-        sum = sum_lamp(sum, lamp);
-        i += 1;
-    }
-    sum
+    let mut sum = Sum { value: 0 };
+    let placed = MOST.min(row.count) as usize;
+    all_lamps(&mut sum, &row.lamps[..placed]);
+    sum.value
 }
 
 // A row's count, word and sum.
-#[tactic(auto, unfolding(crate::specs::RowAnswers::row_text, crate::specs::RowAnswers::row_sum))]
-fn row_numbers(out: &mut [u8], at: usize, row: Row) -> usize
-    ensures { Written out.old at (row_text row) out.new result }
+#[tactic(auto, unfolding(crate::specs::RowAnswers::row_text))]
+fn row_numbers<S: Sink>(out: &mut S, row: Row)
+    ensures { out.new ≡ fold S.push out.old (row_text row) }
 {
-    let a = number(out, at, row.count as u64);
-    let b = number(out, a, row.running_mask as u64);
-    let lamps = row.lamps;
-    number(out, b, sum_lamps(lamps, row.count) as u64)
+    number(out, row.count as u64);
+    number(out, row.running_mask as u64);
+    number(out, sum_of(row) as u64);
 }
 
 // The row behind what was answered.
-fn then_row(out: &mut [u8], at: usize, row: Row) -> usize
-    ensures { Written out.old at (then_row row) out.new result }
+fn then_row<S: Sink>(out: &mut S, row: Row)
+    ensures { out.new ≡ fold S.push out.old (then_row row) }
 {
-    let a = bar(out, at);
-    row_numbers(out, a, row)
+    bar(out);
+    row_numbers(out, row);
 }
 
 // The row as it is: made, with another count, or to be seen.
-fn shown(row: Row, out: &mut [u8], at: usize) -> RowTurn
-    ensures { Turned (shown_row row) out.old at out.new result }
+fn shown<S: Sink>(row: Row, out: &mut S) -> RowTurn
+    ensures { Turned (shown_row row) S.push out.old out.new result }
 {
-    let a = text(out, at, b"ok");
-    let b = then_row(out, a, row);
+    text(out, b"ok");
+    then_row(out, row);
     RowTurn {
-        row: row,
+        row,
         task: GivenTask::Nothing,
-        at: b,
     }
 }
 
-fn error(row: Row, out: &mut [u8], at: usize) -> RowTurn
-    ensures { Turned (unread row) out.old at out.new result }
+fn error<S: Sink>(row: Row, out: &mut S) -> RowTurn
+    ensures { Turned (unread row) S.push out.old out.new result }
 {
-    let end = text(out, at, b"error");
+    text(out, b"error");
     RowTurn {
-        row: row,
+        row,
         task: GivenTask::Nothing,
-        at: end,
     }
 }
 
@@ -187,7 +117,7 @@ fn fresh_lamp() -> Lamp
     let bounds = Bounds { min: 153, max: 500 };
     Lamp {
         clock: 0,
-        bounds: bounds,
+        bounds,
         color: Color::new(31, bounds),
         looping: LoopSettings {
             active: false,
@@ -207,16 +137,14 @@ fn fresh_lamp() -> Lamp
 pub fn fresh_row(count: u8) -> Row
     ensures { result ≡ fresh_row count }
 {
-    let lamp = fresh_lamp();
-    let lamps = [lamp; 32];
-    Row::new(count, lamps)
+    Row::new(count, [fresh_lamp(); 32])
 }
 
 // `row`: a row of fresh lamps.
-pub fn make(count: u8, out: &mut [u8], at: usize) -> RowTurn
-    ensures { Turned (shown_row (fresh_row count)) out.old at out.new result }
+pub fn make<S: Sink>(count: u8, out: &mut S) -> RowTurn
+    ensures { Turned (shown_row (fresh_row count)) S.push out.old out.new result }
 {
-    shown(fresh_row(count), out, at)
+    shown(fresh_row(count), out)
 }
 
 // The row with another count, and the same word and lamps.
@@ -237,33 +165,32 @@ fn with_mask(row: Row, running_mask: u32) -> Row
 }
 
 // The lowest place that runs; `-` where none does.
-fn lowest(out: &mut [u8], at: usize, place: Lowest) -> usize
-    ensures { Written out.old at (lowest_text place) out.new result }
+fn lowest<S: Sink>(out: &mut S, place: Lowest)
+    ensures { out.new ≡ fold S.push out.old (lowest_text place) }
 {
     match place {
-        Lowest::Nothing => text(out, at, b" -"),
-        Lowest::At(k) => number(out, at, k as u64),
+        Lowest::Nothing => text(out, b" -"),
+        Lowest::At(k) => number(out, k as u64),
     }
 }
 
 // How many run, and the lowest place, from the word alone.
 #[tactic(auto, unfolding(crate::specs::RowAnswers::turning_text))]
-pub fn turning(mask: u32, out: &mut [u8], at: usize) -> usize
-    ensures { Written out.old at (turning_text mask) out.new result }
+pub fn turning<S: Sink>(mask: u32, out: &mut S)
+    ensures { out.new ≡ fold S.push out.old (turning_text mask) }
 {
-    let a = decimal(out, at, running_count(mask) as u64);
-    lowest(out, a, lowest_running(mask))
+    decimal(out, running_count(mask) as u64);
+    lowest(out, lowest_running(mask));
 }
 
 // The row's own.
-fn row_turning(row: Row, out: &mut [u8], at: usize) -> RowTurn
-    ensures { Turned (says row (turning_text row.running_mask)) out.old at out.new result }
+fn row_turning<S: Sink>(row: Row, out: &mut S) -> RowTurn
+    ensures { Turned (says row (turning_text row.running_mask)) S.push out.old out.new result }
 {
-    let end = turning(row.running_mask, out, at);
+    turning(row.running_mask, out);
     RowTurn {
-        row: row,
+        row,
         task: GivenTask::Nothing,
-        at: end,
     }
 }
 
@@ -277,10 +204,8 @@ fn byte_at(from: u8, i: usize) -> u8
 fn fill(bytes: &mut [u8], from: u8)
     ensures { bytes.new ≡ lent_bytes from (length bytes.old) }
 {
-    let mut i = 0;
-    while i < bytes.len() {
-        bytes[i] = byte_at(from, i);
-        i += 1;
+    for (i, b) in bytes.iter_mut().enumerate() {
+        *b = byte_at(from, i);
     }
 }
 
@@ -288,86 +213,75 @@ fn fill(bytes: &mut [u8], from: u8)
 fn is_filled(bytes: &[u8], from: u8) -> bool
     ensures { result ≡ same bytes.now (lent_bytes from (length bytes.now)) }
 {
-    let mut i = 0;
-    while i < bytes.len() {
-        if bytes[i] != byte_at(from, i) {
+    for (i, b) in bytes.iter().enumerate() {
+        if *b != byte_at(from, i) {
             return false;
         }
-        i += 1;
     }
     true
 }
 
 // The bytes of a slice; `-` where there is none.
 #[tactic(auto, unfolding(crate::specs::RowAnswers::slice_text))]
-fn slice(out: &mut [u8], at: usize, bytes: &[u8]) -> usize
-    ensures { Written out.old at (slice_text bytes.now) out.new result }
+fn slice<S: Sink>(out: &mut S, bytes: &[u8])
+    ensures { out.new ≡ fold S.push out.old (slice_text bytes.now) }
 {
     if bytes.len() == 0 {
-        return text(out, at, b" -");
+        return text(out, b" -");
     }
-    let a = text(out, at, b" ");
-    hex(out, a, bytes)
+    out.byte(b' ');
+    hex(out, bytes);
 }
 
 #[tactic(auto, unfolding(crate::specs::RowAnswers::kept_text))]
-fn kept(out: &mut [u8], at: usize, bytes: &[u8], from: u8) -> usize
-    ensures { Written out.old at (kept_text bytes.now from) out.new result }
+fn kept<S: Sink>(out: &mut S, bytes: &[u8], from: u8)
+    ensures { out.new ≡ fold S.push out.old (kept_text bytes.now from) }
 {
     if is_filled(bytes, from) {
-        return text(out, at, b" kept");
+        text(out, b" kept");
+    } else {
+        text(out, b" written");
     }
-    text(out, at, b" written")
 }
 
 // The wait, the slice, and whether it is as it was lent.
-fn lent(out: &mut [u8], at: usize, wait: u64, bytes: &[u8], from: u8) -> usize
-    ensures { Written out.old at (lent_text wait bytes.now from) out.new result }
+fn lent<S: Sink>(out: &mut S, wait: u64, bytes: &[u8], from: u8)
+    ensures { out.new ≡ fold S.push out.old (lent_text wait bytes.now from) }
 {
-    let a = bar(out, at);
-    let b = number(out, a, wait);
-    let c = bar(out, b);
-    let d = slice(out, c, bytes);
-    let e = bar(out, d);
-    kept(out, e, bytes, from)
+    bar(out);
+    number(out, wait);
+    bar(out);
+    slice(out, bytes);
+    bar(out);
+    kept(out, bytes, from);
 }
 
 // A row call with this slice.
-fn step_with(row: Row, bytes: &mut [u8], asked: RowStep, out: &mut [u8], at: usize) -> RowTurn
-    ensures { Turned (step_with row (length bytes.old) asked.fill asked.clock) out.old at out.new result }
+fn step_with<S: Sink>(row: Row, bytes: &mut [u8], asked: RowStep, out: &mut S) -> RowTurn
+    ensures { Turned (step_with row (length bytes.old) asked.fill asked.clock) S.push out.old out.new result }
 {
     fill(bytes, asked.fill);
     let stepped = row.step(bytes, asked.clock);
-    let next = stepped.row;
-    let a = status(out, at, stepped.number);
-    let b = then_row(out, a, next);
-    let end = lent(out, b, stepped.wait, bytes, asked.fill);
+    status(out, stepped.number);
+    then_row(out, stepped.row);
+    lent(out, stepped.wait, bytes, asked.fill);
     RowTurn {
-        row: next,
+        row: stepped.row,
         task: GivenTask::Nothing,
-        at: end,
     }
-}
-
-// Room for the longest slice; its length is what lending it needs.
-fn zeros() -> [u8; 1024]
-    ensures { 1024 ≡ length result }
-{
-    [0; 1024]
 }
 
 // A row call. A slice above 1,024 bytes is an error.
 #[tactic(auto, unfolding(crate::specs::RowAnswers::step_row))]
-fn step(row: Row, asked: RowStep, out: &mut [u8], at: usize) -> RowTurn
-    ensures { Turned (step_row row asked) out.old at out.new result }
+fn step<S: Sink>(row: Row, asked: RowStep, out: &mut S) -> RowTurn
+    ensures { Turned (step_row row asked) S.push out.old out.new result }
 {
     let size = asked.size as usize;
     if LONGEST < size {
-        return error(row, out, at);
+        return error(row, out);
     }
-    let mut space = zeros();
-    let bytes: &mut [u8] = &mut space;
-    step_with(row, &mut bytes[..size], asked, out, at)
+    let mut space = [0; LONGEST];
+    step_with(row, &mut space[..size], asked, out)
 }
 
 // A start of the task given last.
@@ -412,113 +326,101 @@ fn lamp_answer(answered: RowAnswer, place: u8) -> Answer
     requires { place < 32 }
     ensures { result ≡ lamp_answer answered place }
 {
-    let row = answered.row;
-    let i = place as usize;
-    let lamp = row.lamps[i];
-    let reported = answered.notices;
-    let task = answered.task;
     Answer {
         number: answered.number,
-        lamp: lamp,
-        notices: reported,
-        task: task,
+        lamp: answered.row.lamps[place as usize],
+        notices: answered.notices,
+        task: answered.task,
         wait: answered.wait,
     }
 }
 
 // A refusal with no lamp to show.
-fn without_lamp(out: &mut [u8], at: usize, number: u8) -> usize
-    ensures { Written out.old at (status_text number ++ ascii " | - | - | - | 0 | -") out.new result }
+fn without_lamp<S: Sink>(out: &mut S, number: u8)
+    ensures { out.new ≡ fold S.push out.old (status_text number ++ ascii " | - | - | - | 0 | -") }
 {
-    let a = status(out, at, number);
-    text(out, a, b" | - | - | - | 0 | -")
+    status(out, number);
+    text(out, b" | - | - | - | 0 | -");
 }
 
 // What the lamp at the place answers, of a row of so many.
-fn place_text(out: &mut [u8], at: usize, answered: RowAnswer, count: u8, place: u8) -> usize
-    ensures { Written out.old at (cond (lamp_hidden count place) (status_text answered.number ++ ascii " | - | - | - | 0 | -") (answer_text (lamp_answer answered place))) out.new result }
+fn place_text<S: Sink>(out: &mut S, answered: RowAnswer, count: u8, place: u8)
+    ensures { out.new ≡ fold S.push out.old (cond (lamp_hidden count place) (status_text answered.number ++ ascii " | - | - | - | 0 | -") (answer_text (lamp_answer answered place))) }
 {
-    if (MOST < count) | (count <= place) {
-        return without_lamp(out, at, answered.number);
+    if MOST < count || count <= place {
+        return without_lamp(out, answered.number);
     }
-    answer(out, at, lamp_answer(answered, place))
+    answer(out, lamp_answer(answered, place));
 }
 
 // A call of the lamp at a place.
 #[tactic(auto, unfolding(crate::specs::RowAnswers::called_at))]
-fn called(row: Row, place: u8, call: Call, out: &mut [u8], at: usize) -> RowTurn
-    ensures { Turned (called_at row place call) out.old at out.new result }
+fn called<S: Sink>(row: Row, place: u8, call: Call, out: &mut S) -> RowTurn
+    ensures { Turned (called_at row place call) S.push out.old out.new result }
 {
     let answered = row.call_at(place, call);
-    let next = answered.row;
-    let task = answered.task;
-    let a = place_text(out, at, answered, row.count, place);
-    let b = then_row(out, a, next);
+    place_text(out, answered, row.count, place);
+    then_row(out, answered.row);
     RowTurn {
-        row: next,
-        task: task,
-        at: b,
+        row: answered.row,
+        task: answered.task,
     }
 }
 
 // An edit's answer, and its lamp in the row.
 #[tactic(auto, unfolding(crate::specs::RowAnswers::edited_at))]
-fn edited(row: Row, place: u8, edit: Answer, out: &mut [u8], at: usize) -> RowTurn
-    ensures { Turned (edited_at row place edit) out.old at out.new result }
+fn edited<S: Sink>(row: Row, place: u8, edit: Answer, out: &mut S) -> RowTurn
+    ensures { Turned (edited_at row place edit) S.push out.old out.new result }
 {
-    if (row.count <= place) | (MOST <= place) {
-        return error(row, out, at);
+    if row.count <= place || MOST <= place {
+        return error(row, out);
     }
-    let lamp = edit.lamp;
-    let next = row.with_lamp(place, lamp);
-    let a = answer(out, at, edit);
-    let b = then_row(out, a, next);
+    let next = row.with_lamp(place, edit.lamp);
+    answer(out, edit);
+    then_row(out, next);
     RowTurn {
         row: next,
         task: GivenTask::Nothing,
-        at: b,
     }
 }
 
 // The same of what is done on the lamp there.
 #[tactic(auto, unfolding(crate::specs::RowAnswers::edited_at))]
-fn edited_on(row: Row, place: u8, what: OnLamp, out: &mut [u8], at: usize) -> RowTurn
-    ensures { Turned (edited_on row place what) out.old at out.new result }
+fn edited_on<S: Sink>(row: Row, place: u8, what: OnLamp, out: &mut S) -> RowTurn
+    ensures { Turned (edited_on row place what) S.push out.old out.new result }
 {
     if MOST <= place {
-        return error(row, out, at);
+        return error(row, out);
     }
-    let i = place as usize;
-    let lamp = row.lamps[i];
-    edited(row, place, lines::on_lamp(lamp, what), out, at)
+    let lamp = row.lamps[place as usize];
+    edited(row, place, lines::on_lamp(lamp, what), out)
 }
 
 // A line at a place, where the task given last is this.
 #[tactic(auto, unfolding(crate::specs::RowAnswers::answered_place))]
-fn at_place(row: Row, asked: AtPlace, last: GivenTask, out: &mut [u8], at: usize) -> RowTurn
-    ensures { Turned (answered_place row asked.place (asked_of asked.line last)) out.old at out.new result }
+fn at_place<S: Sink>(row: Row, asked: AtPlace, last: GivenTask, out: &mut S) -> RowTurn
+    ensures { Turned (answered_place row asked.place (asked_of asked.line last)) S.push out.old out.new result }
 {
-    let place = asked.place;
-    let line = asked.line;
+    let AtPlace { place, line } = asked;
     match asked_at(line, last) {
-        Asked::Call(call) => called(row, place, call, out, at),
-        Asked::Place(lamp) => edited(row, place, lines::shown(lamp), out, at),
-        Asked::Edit(what) => edited_on(row, place, what, out, at),
-        Asked::Nothing => error(row, out, at),
+        Asked::Call(call) => called(row, place, call, out),
+        Asked::Place(lamp) => edited(row, place, lines::shown(lamp), out),
+        Asked::Edit(what) => edited_on(row, place, what, out),
+        Asked::Nothing => error(row, out),
     }
 }
 
 // A line of the row, where the task given last is this.
 #[tactic(auto, unfolding(crate::specs::RowAnswers::on_row))]
-pub fn on_row(row: Row, what: OnRow, last: GivenTask, out: &mut [u8], at: usize) -> RowTurn
-    ensures { Turned (on_row row what last) out.old at out.new result }
+pub fn on_row<S: Sink>(row: Row, what: OnRow, last: GivenTask, out: &mut S) -> RowTurn
+    ensures { Turned (on_row row what last) S.push out.old out.new result }
 {
     match what {
-        OnRow::Count(count) => shown(with_count(row, count), out, at),
-        OnRow::Mask(mask) => shown(with_mask(row, mask), out, at),
-        OnRow::Show => shown(row, out, at),
-        OnRow::Step(asked) => step(row, asked, out, at),
-        OnRow::Turning => row_turning(row, out, at),
-        OnRow::At(asked) => at_place(row, asked, last, out, at),
+        OnRow::Count(count) => shown(with_count(row, count), out),
+        OnRow::Mask(mask) => shown(with_mask(row, mask), out),
+        OnRow::Show => shown(row, out),
+        OnRow::Step(asked) => step(row, asked, out),
+        OnRow::Turning => row_turning(row, out),
+        OnRow::At(asked) => at_place(row, asked, last, out),
     }
 }
