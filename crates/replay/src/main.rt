@@ -4,11 +4,10 @@
 mod kept;
 mod state;
 
-ghost use Rattle.std.specs.Prelude.{◌≡◌, min, length};
-
 use kept::Kept;
 use std::io::{Read, Write};
-use text::writer;
+use text::buffer;
+use text::buffer::Buffer;
 
 // A block of the input, and the room for answers.
 const BLOCK: usize = 65536;
@@ -19,128 +18,87 @@ const LINE: usize = 4096;
 // Past this place the answers are written out before the next, so that the longest answer has room.
 const NEARLY_FULL: usize = 61440;
 
-// What is kept from one block of input to the next: the lamp, the row and the task, how much of a line has come, the place after the answers
-// that are not yet written, and whether there may be more.
-#[derive(Clone, Copy)]
-struct Replay {
+// What is kept from one block of input to the next: the lamp, the row and the task; the line that is coming, and how much
+// of it has come; the answers that are not yet written, and the place after them.
+#[derive(Drop)]
+struct Replay<W> {
     kept: Kept,
+    line: [u8; LINE],
     len: usize,
+    out: [u8; BLOCK],
     at: usize,
-    more: bool,
+    to: W,
 }
 
-// A count clamped to a buffer.
-fn within(count: usize, buffer: &[u8]) -> usize
-    ensures { result ≡ min count (length buffer.now) }
-{
-    count.min(buffer.len())
-}
-
-// Answers that cannot be written are lost, and the calls behind them are answered all the same.
-fn write_out(to: &mut impl Write, out: &[u8], at: usize) {
-    let n = within(at, out);
-    let _ = to.write_all(&out[..n]);
-}
-
-// Answers the line that has come.
-fn end_line(replay: Replay, line: &[u8], out: &mut [u8], to: &mut impl Write) -> Replay {
-    let mut at = replay.at;
-    if NEARLY_FULL < at {
-        write_out(to, out, at);
-        at = 0;
+impl<W: Write> Replay<W> {
+    fn new(to: W) -> Replay<W> {
+        Replay {
+            kept: Kept::new(),
+            line: [0; LINE],
+            len: 0,
+            out: [0; BLOCK],
+            at: 0,
+            to,
+        }
     }
-    let n = within(replay.len, line);
-    let reply = kept::answer(replay.kept, &line[..n], out, at);
-    Replay {
-        kept: reply.kept,
-        len: 0,
-        at: reply.at,
-        more: replay.more,
-    }
-}
 
-// Adds a part to the line that is coming, and answers it where it ends there. What does not fit the line's room is left
-// out.
-fn take_part(
-    replay: Replay,
-    part: &[u8],
-    is_end: bool,
-    line: &mut [u8],
-    out: &mut [u8],
-    to: &mut impl Write,
-) -> Replay {
-    let mut longer = replay;
-    longer.len = writer::text(line, replay.len, part);
-    if is_end {
-        end_line(longer, line, out, to)
-    } else {
-        longer
+    // The answers are written out. Those that cannot be written are lost, and the calls behind them are answered all the
+    // same.
+    fn flush(&mut self) {
+        let n = self.at.min(BLOCK);
+        let _ = self.to.write_all(&self.out[..n]);
+        self.at = 0;
     }
-}
 
-// Answers the lines that end in a block.
-fn take_block(
-    start: Replay,
-    block: &[u8],
-    line: &mut [u8],
-    out: &mut [u8],
-    to: &mut impl Write,
-) -> Replay {
-    let mut replay = start;
-    for part in block.split_inclusive(|byte| *byte == b'\n') {
-        replay = match part.strip_suffix(b"\n") {
-            Some(end) => take_part(replay, end, true, line, out, to),
-            None => take_part(replay, part, false, line, out, to),
+    // Answers the line that has come.
+    fn end_line(&mut self) {
+        if NEARLY_FULL < self.at {
+            self.flush();
+        }
+        let n = self.len.min(LINE);
+        let mut out = Buffer {
+            out: &mut self.out,
+            at: self.at,
         };
+        self.kept.answer(&self.line[..n], &mut out);
+        self.at = out.at;
+        self.len = 0;
     }
-    replay
-}
 
-// The answers are written out.
-fn flush(replay: Replay, out: &[u8], to: &mut impl Write) -> Replay {
-    let mut written = replay;
-    write_out(to, out, replay.at);
-    written.at = 0;
-    written
-}
-
-// One block of the input: its answers are written out before more is waited for. At the end of the input, or where it
-// cannot be read, the line that has come, where there is one, is answered.
-fn next_block(
-    replay: Replay,
-    from: &mut impl Read,
-    block: &mut [u8],
-    line: &mut [u8],
-    out: &mut [u8],
-    to: &mut impl Write,
-) -> Replay {
-    let n = from.read(block).unwrap_or(0);
-    if n > 0 {
-        let next = take_block(replay, &block[..n], line, out, to);
-        return flush(next, out, to);
+    // A part of the line that is coming. What does not fit the line's room is left out.
+    fn take_part(&mut self, part: &[u8]) {
+        self.len = buffer::write(&mut self.line, self.len, part);
     }
-    let mut last = end_line(replay, line, out, to);
-    last.more = false;
-    flush(last, out, to)
+
+    // Answers the lines that end in a block.
+    fn take_block(&mut self, block: &[u8]) {
+        let mut parts = block.split(|b| *b == b'\n');
+        if let Some(part) = parts.next() {
+            self.take_part(part);
+        }
+        for part in parts {
+            self.end_line();
+            self.take_part(part);
+        }
+        self.flush();
+    }
 }
 
-// Nothing says that the input ends, so the blocks are counted, to a number that no run reaches.
+// Each block's answers are written out before more is waited for. At the end of the input, or where it cannot be read, the
+// line that has come, where there is one, is answered. Nothing says that the input ends, so the blocks are counted, to a
+// number that no run reaches.
 fn answer_all(from: &mut impl Read, to: &mut impl Write) {
     let mut block = [0u8; BLOCK];
-    let mut line = [0u8; LINE];
-    let mut out = [0u8; BLOCK];
-    let mut replay = Replay {
-        kept: kept::nothing_yet(),
-        len: 0,
-        at: 0,
-        more: true,
-    };
+    let mut replay = Replay::new(to);
     for _ in 0..u64::MAX {
-        if !replay.more {
+        let n = from.read(&mut block).unwrap_or(0);
+        if n == 0 {
             break;
         }
-        replay = next_block(replay, from, &mut block, &mut line, &mut out, to);
+        replay.take_block(&block[..n]);
     }
+    replay.end_line();
+    replay.flush();
 }
 
 fn main(rt: HostRuntime) {

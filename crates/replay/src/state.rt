@@ -1,52 +1,27 @@
 // The lamp that is kept from line to line, and the answer to a line of it. A call that cannot be read, or has no lamp to
 // act on, answers `error` and changes nothing. The newline behind an answer is the caller's.
-use call_lines::leaves::Leaf;
 use call_lines::lines::{Line, Making, OnLamp};
 use call_lines::{leaves, lines};
-use lamp::{Answer, Call, Lamp, };
+use lamp::{Answer, Call, Lamp, Made};
 use lamp_lines::answers;
-use text::writer;
-
-#[derive(Clone, Copy)]
-pub enum Held {
-    Nothing,
-    Lamp(Lamp),
-}
+use tasks::GivenTask;
+use text::writer::{Sink, text};
 
 // The lamp, where there is one, and the task that was given last.
 #[derive(Clone, Copy)]
 pub struct State {
-    pub held: Held,
-    pub task: Option<Task>,
+    pub lamp: Option<Lamp>,
+    pub task: GivenTask,
 }
 
-// The state after a line, and the place after its answer.
-#[derive(Clone, Copy)]
-pub struct Turn {
-    pub state: State,
-    pub at: usize,
-}
-
-pub(crate) fn nothing_yet() -> State {
-    State {
-        held: Held::Nothing,
-        task: None,
-    }
-}
-
-pub(crate) fn error(state: State, out: &mut [u8], at: usize) -> Turn {
-    let end = writer::text(out, at, b"error");
-    Turn {
-        state: state,
-        at: end,
-    }
+pub(crate) fn error(out: &mut impl Sink) {
+    text(out, b"error");
 }
 
 // The calls, one a line.
-fn help(state: State, out: &mut [u8], at: usize) -> Turn {
-    let end = writer::text(
+fn help(out: &mut impl Sink) {
+    text(
         out,
-        at,
         b"lamp <fields>\n\
           new <min> <max> <features> <options> <clock>\n\
           poke <fields>\n\
@@ -72,91 +47,74 @@ fn help(state: State, out: &mut [u8], at: usize) -> Turn {
           at <place> lamp|poke|record|show|cmd|start|startlast|step|halt ...\n\
           help",
     );
-    Turn {
-        state: state,
-        at: end,
-    }
 }
 
 // The task given last, after an answer.
-pub(crate) fn last_task(last: Option<Task>, given: Option<Task>) -> Option<Task> {
+fn last_task(last: GivenTask, given: GivenTask) -> GivenTask {
     match given {
-        None => last,
-        Some(task) => Some(task),
+        GivenTask::Nothing => last,
+        GivenTask::Given(task) => GivenTask::Given(task),
     }
 }
 
-// An answer is written, and its lamp kept.
-fn answered(last: Option<Task>, answer: Answer, out: &mut [u8], at: usize) -> Turn {
-    let lamp = answer.lamp;
-    let given = answer.task;
-    let task = last_task(last, given);
-    let end = answers::answer(out, at, answer);
-    Turn {
-        state: State {
-            held: Held::Lamp(lamp),
-            task: task,
-        },
-        at: end,
-    }
-}
-
-// Another lamp: the task that was given last is forgotten.
-fn placed(lamp: Lamp, out: &mut [u8], at: usize) -> Turn {
-    answered(None, lines::shown(lamp), out, at)
-}
-
-fn not_made(state: State, number: u8, out: &mut [u8], at: usize) -> Turn {
-    let end = answers::status(out, at, number);
-    Turn {
-        state: state,
-        at: end,
-    }
-}
-
-fn make(state: State, making: Making, out: &mut [u8], at: usize) -> Turn {
-    match lines::make(making) {
-        Ok(lamp) => placed(lamp, out, at),
-        Err(number) => not_made(state, number, out, at),
-    }
-}
-
-fn on_held(state: State, what: OnLamp, out: &mut [u8], at: usize) -> Turn {
-    let held = state.held;
-    let task = state.task;
-    match held {
-        Held::Nothing => error(state, out, at),
-        Held::Lamp(lamp) => answered(task, lines::on_lamp(lamp, what), out, at),
-    }
-}
-
-// A start of the task that was given last.
-fn start_last(state: State, clock: u64, out: &mut [u8], at: usize) -> Turn {
-    let last = state.task;
-    match last {
-        None => error(state, out, at),
-        Some(task) => {
-            on_held(state, OnLamp::Call(Call::Start { task, clock }), out, at)
+impl State {
+    pub(crate) fn new() -> State {
+        State {
+            lamp: None,
+            task: GivenTask::Nothing,
         }
     }
-}
 
-fn asked(state: State, leaf: Leaf, out: &mut [u8], at: usize) -> Turn {
-    let end = leaves::ask(leaf, out, at);
-    Turn {
-        state: state,
-        at: end,
+    // A task that was given is the last.
+    pub(crate) fn give(&mut self, given: GivenTask) {
+        self.task = last_task(self.task, given);
     }
-}
 
-// A line of the lamp.
-pub(crate) fn run(state: State, line: Line, out: &mut [u8], at: usize) -> Turn {
-    match line {
-        Line::Lamp(lamp) => placed(lamp, out, at),
-        Line::New(making) => make(state, making, out, at),
-        Line::OnLamp(what) => on_held(state, what, out, at),
-        Line::StartLast(clock) => start_last(state, clock, out, at),
-        Line::Ask(leaf) => asked(state, leaf, out, at),
-        Line::Help => help(state, out, at),
+    // An answer is written, and its lamp kept.
+    fn answer(&mut self, answer: Answer, out: &mut impl Sink) {
+        self.lamp = Some(answer.lamp);
+        self.give(answer.task);
+        answers::answer(out, answer);
+    }
+
+    // Another lamp: the task that was given last is forgotten.
+    fn place(&mut self, lamp: Lamp, out: &mut impl Sink) {
+        self.task = GivenTask::Nothing;
+        self.answer(lines::shown(lamp), out);
+    }
+
+    fn make(&mut self, making: Making, out: &mut impl Sink) {
+        match lines::make(making) {
+            Made::Lamp(lamp) => self.place(lamp, out),
+            Made::Refused(number) => answers::status(out, number),
+        }
+    }
+
+    fn on_lamp(&mut self, what: OnLamp, out: &mut impl Sink) {
+        match self.lamp {
+            Some(lamp) => self.answer(lines::on_lamp(lamp, what), out),
+            None => error(out),
+        }
+    }
+
+    // A start of the task that was given last.
+    fn start_last(&mut self, clock: u64, out: &mut impl Sink) {
+        match self.task {
+            GivenTask::Given(task) => self.on_lamp(OnLamp::Call(Call::Start { task, clock }), out),
+            GivenTask::Nothing => error(out),
+        }
+    }
+
+    // A line of the lamp.
+    pub(crate) fn run(&mut self, line: Line, out: &mut impl Sink) {
+        match line {
+            Line::Lamp(lamp) => self.place(lamp, out),
+            Line::New(making) => self.make(making, out),
+            Line::OnLamp(what) => self.on_lamp(what, out),
+            Line::StartLast(clock) => self.start_last(clock, out),
+            Line::Ask(leaf) => leaves::ask(leaf, out),
+            Line::Help => help(out),
+            Line::Unreadable => error(out),
+        }
     }
 }

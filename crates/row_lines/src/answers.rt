@@ -2,7 +2,7 @@
 ghost use Rattle.std.specs.Prelude.{◌≡◌, ◌++◌, cond, ◌+◌, ◌%◌, ◌<◌, min, length};
 ghost use Rattle.std.specs.List.{fold};
 ghost use Rattle.text.specs.Ascii.{ascii};
-ghost use Rattle.std.specs.Str.{bytes_eq};
+ghost use Rattle.text.specs.Words.{same};
 ghost use Rattle.lamp_lines.specs.Answers.{status_text, answer_text};
 ghost use Rattle.row_lines.specs.RowAnswers.{lamp_text, lamps_text, row_sum, row_text, then_row, Turned, shown_row, unread, fresh_place, fresh_row, with_count, with_mask, lowest_text, turning_text, says, lent_bytes, slice_text, kept_text, lent_text, step_with, step_row, last_start, on_lamp_asked, asked_of, lamp_answer, lamp_hidden, called_at, lamp_missing, edited_at, edited_on, answered_place, on_row};
 
@@ -15,8 +15,8 @@ use lamp::{Answer, Call, Lamp, LoopSettings};
 use lamp_lines::answers::{answer, bar, ending, lamp_numbers, number, numbers, status};
 use matter::{Bounds, ColorLoopDirectionEnum};
 use remaining_time::RemainingTime;
-use rows::{MOST, Row, RowAnswer, lowest_running, running_count};
-use tasks::{Running};
+use rows::{Lowest, MOST, Row, RowAnswer, lowest_running, running_count};
+use tasks::{GivenTask, Running};
 use text::writer::{Sink, decimal, hex, text};
 
 // The longest slice that is lent.
@@ -26,7 +26,7 @@ const LONGEST: usize = 1024;
 #[derive(Clone, Copy)]
 pub struct RowTurn {
     pub row: Row,
-    pub task: Option<Task>,
+    pub task: GivenTask,
 }
 
 // What a line at a place asks of the lamp there.
@@ -59,19 +59,14 @@ fn all_lamps<S: Sink>(out: &mut S, lamps: &[Lamp])
     }
 }
 
-// How many places of a row have a lamp.
-fn places(count: u8) -> usize
-    ensures { result ≡ min count 32 }
-{
-    if count < MOST { count as usize } else { 32 }
-}
-
+// Of the lamps at the row's places.
 #[tactic(auto, unfolding(crate::specs::RowAnswers::row_sum))]
 fn sum_of(row: Row) -> u32
     ensures { result ≡ row_sum row }
 {
     let mut sum = Sum { value: 0 };
-    all_lamps(&mut sum, &row.lamps[..places(row.count)]);
+    let placed = MOST.min(row.count) as usize;
+    all_lamps(&mut sum, &row.lamps[..placed]);
     sum.value
 }
 
@@ -101,7 +96,7 @@ fn shown<S: Sink>(row: Row, out: &mut S) -> RowTurn
     then_row(out, row);
     RowTurn {
         row,
-        task: None,
+        task: GivenTask::Nothing,
     }
 }
 
@@ -111,7 +106,7 @@ fn error<S: Sink>(row: Row, out: &mut S) -> RowTurn
     text(out, b"error");
     RowTurn {
         row,
-        task: None,
+        task: GivenTask::Nothing,
     }
 }
 
@@ -170,12 +165,12 @@ fn with_mask(row: Row, running_mask: u32) -> Row
 }
 
 // The lowest place that runs; `-` where none does.
-fn lowest<S: Sink>(out: &mut S, place: Option<u8>)
+fn lowest<S: Sink>(out: &mut S, place: Lowest)
     ensures { out.new ≡ fold S.push out.old (lowest_text place) }
 {
     match place {
-        None => text(out, b" -"),
-        Some(k) => number(out, k as u64),
+        Lowest::Nothing => text(out, b" -"),
+        Lowest::At(k) => number(out, k as u64),
     }
 }
 
@@ -195,7 +190,7 @@ fn row_turning<S: Sink>(row: Row, out: &mut S) -> RowTurn
     turning(row.running_mask, out);
     RowTurn {
         row,
-        task: None,
+        task: GivenTask::Nothing,
     }
 }
 
@@ -209,23 +204,19 @@ fn byte_at(from: u8, i: usize) -> u8
 fn fill(bytes: &mut [u8], from: u8)
     ensures { bytes.new ≡ lent_bytes from (length bytes.old) }
 {
-    let mut i = 0;
-    while i < bytes.len() {
-        bytes[i] = byte_at(from, i);
-        i += 1;
+    for (i, b) in bytes.iter_mut().enumerate() {
+        *b = byte_at(from, i);
     }
 }
 
 // Whether every byte is as it was lent.
 fn is_filled(bytes: &[u8], from: u8) -> bool
-    ensures { result ≡ bytes_eq bytes.now (lent_bytes from (length bytes.now)) }
+    ensures { result ≡ same bytes.now (lent_bytes from (length bytes.now)) }
 {
-    let mut i = 0;
-    while i < bytes.len() {
-        if bytes[i] != byte_at(from, i) {
+    for (i, b) in bytes.iter().enumerate() {
+        if *b != byte_at(from, i) {
             return false;
         }
-        i += 1;
     }
     true
 }
@@ -276,7 +267,7 @@ fn step_with<S: Sink>(row: Row, bytes: &mut [u8], asked: RowStep, out: &mut S) -
     lent(out, stepped.wait, bytes, asked.fill);
     RowTurn {
         row: stepped.row,
-        task: None,
+        task: GivenTask::Nothing,
     }
 }
 
@@ -294,12 +285,12 @@ fn step<S: Sink>(row: Row, asked: RowStep, out: &mut S) -> RowTurn
 }
 
 // A start of the task given last.
-fn start_of(last: Option<Task>, clock: u64) -> Asked
+fn start_of(last: GivenTask, clock: u64) -> Asked
     ensures { result ≡ last_start last clock }
 {
     match last {
-        None => Asked::Nothing,
-        Some(task) => Asked::Call(Call::Start { task, clock }),
+        GivenTask::Nothing => Asked::Nothing,
+        GivenTask::Given(task) => Asked::Call(Call::Start { task, clock }),
     }
 }
 
@@ -316,7 +307,7 @@ fn asked_of(what: OnLamp) -> Asked
 }
 
 // What a line asks of a lamp in a row, where the task given last is this.
-fn asked_at(line: Line, last: Option<Task>) -> Asked
+fn asked_at(line: Line, last: GivenTask) -> Asked
     ensures { result ≡ asked_of line last }
 {
     match line {
@@ -326,6 +317,7 @@ fn asked_at(line: Line, last: Option<Task>) -> Asked
         Line::New(_) => Asked::Nothing,
         Line::Ask(_) => Asked::Nothing,
         Line::Help => Asked::Nothing,
+        Line::Unreadable => Asked::Nothing,
     }
 }
 
@@ -334,19 +326,12 @@ fn lamp_answer(answered: RowAnswer, place: u8) -> Answer
     requires { place < 32 }
     ensures { result ≡ lamp_answer answered place }
 {
-    let RowAnswer {
-        number,
-        row,
-        notices,
-        task,
-        wait,
-    } = answered;
     Answer {
-        number,
-        lamp: row.lamps[place as usize],
-        notices,
-        task,
-        wait,
+        number: answered.number,
+        lamp: answered.row.lamps[place as usize],
+        notices: answered.notices,
+        task: answered.task,
+        wait: answered.wait,
     }
 }
 
@@ -395,7 +380,7 @@ fn edited<S: Sink>(row: Row, place: u8, edit: Answer, out: &mut S) -> RowTurn
     then_row(out, next);
     RowTurn {
         row: next,
-        task: None,
+        task: GivenTask::Nothing,
     }
 }
 
@@ -413,7 +398,7 @@ fn edited_on<S: Sink>(row: Row, place: u8, what: OnLamp, out: &mut S) -> RowTurn
 
 // A line at a place, where the task given last is this.
 #[tactic(auto, unfolding(crate::specs::RowAnswers::answered_place))]
-fn at_place<S: Sink>(row: Row, asked: AtPlace, last: Option<Task>, out: &mut S) -> RowTurn
+fn at_place<S: Sink>(row: Row, asked: AtPlace, last: GivenTask, out: &mut S) -> RowTurn
     ensures { Turned (answered_place row asked.place (asked_of asked.line last)) S.push out.old out.new result }
 {
     let AtPlace { place, line } = asked;
@@ -427,7 +412,7 @@ fn at_place<S: Sink>(row: Row, asked: AtPlace, last: Option<Task>, out: &mut S) 
 
 // A line of the row, where the task given last is this.
 #[tactic(auto, unfolding(crate::specs::RowAnswers::on_row))]
-pub fn on_row<S: Sink>(row: Row, what: OnRow, last: Option<Task>, out: &mut S) -> RowTurn
+pub fn on_row<S: Sink>(row: Row, what: OnRow, last: GivenTask, out: &mut S) -> RowTurn
     ensures { Turned (on_row row what last) S.push out.old out.new result }
 {
     match what {

@@ -8,7 +8,6 @@ loop-i-preserved c =
     let l = c.loop-i in
     let n = length c.args.bytes.now in
     let more : l.i < n = omega (arith, c.loop-i-test.true, l.invariant.same_length) in record {
-      in_range = omega arith;
       same_length = simp length-set l.invariant.same_length;
       whole = rw c.byte_at.ensures (lent-more l.bytes c.args.from n l.i more l.invariant.same_length l.invariant.whole);
     }

@@ -1,5 +1,5 @@
 -- What is put into the sum is summed, of no more lamps than there are.
-use Rattle.std.proofs.Common.{◌≡◌, length, rules}
+use Rattle.std.proofs.Common.{◌≡◌, min, length, rules, arith}
 use Rattle.row_lines.specs.RowAnswers.{row_sum}
 use Rattle.row_lines.proofs.Sums.{put_summed, take_places}
 use Rattle.row_lines.proofs.answers.sum_of.Goals as goal
@@ -7,5 +7,7 @@ use Rattle.row_lines.proofs.answers.sum_of.Goals as goal
 pub returns : goal.returns
 unfolding row_sum
 returns c =
-    let all : length c.args.row.lamps ≡ 32 = search rules in
-    rw (c.all_lamps.ensures, put_summed, c.places.ensures, take_places c.args.row.lamps c.args.row.count all)
+    let row = c.args.row in
+    let all : length row.lamps ≡ 32 = search rules in
+    let placed : c.min-placed.result ≡ min row.count 32 = omega arith in
+    rw (c.all_lamps.ensures, put_summed, placed, take_places row.lamps row.count all)
