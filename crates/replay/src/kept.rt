@@ -2,11 +2,9 @@
 // given last is of both.
 use crate::state;
 use crate::state::State;
-use call_lines::lines::Line;
 use row_lines::lines::{OnRow, RowLine};
 use row_lines::{answers, lines};
 use rows::Row;
-use tasks::GivenTask;
 use text::writer::Sink;
 
 // A line of more bytes is unreadable.
@@ -20,16 +18,16 @@ pub struct Kept {
 }
 
 // A line of more bytes than can be read is as one that cannot be.
-fn read(line: &[u8]) -> RowLine {
+fn read(line: &[u8]) -> Option<RowLine> {
     if LONGEST < line.len() {
-        return RowLine::Lamp(Line::Unreadable);
+        return None;
     }
     lines::read(line)
 }
 
 // An empty line, and one that begins with `#`, has no answer.
 fn is_silent(line: &[u8]) -> bool {
-    line.is_empty() || line[0] == b'#'
+    matches!(line, [] | [b'#', ..])
 }
 
 impl Kept {
@@ -44,7 +42,7 @@ impl Kept {
     fn make_row(&mut self, count: u8, out: &mut impl Sink) {
         let turn = answers::make(count, out);
         self.row = Some(turn.row);
-        self.state.task = GivenTask::Nothing;
+        self.state.task = None;
     }
 
     fn on_row(&mut self, what: OnRow, out: &mut impl Sink) {
@@ -58,12 +56,14 @@ impl Kept {
         }
     }
 
-    fn run(&mut self, line: RowLine, out: &mut impl Sink) {
+    // A line that asks for nothing is an error.
+    fn run(&mut self, line: Option<RowLine>, out: &mut impl Sink) {
         match line {
-            RowLine::Make(count) => self.make_row(count, out),
-            RowLine::OnRow(what) => self.on_row(what, out),
-            RowLine::Running(mask) => answers::turning(mask, out),
-            RowLine::Lamp(line) => self.state.run(line, out),
+            Some(RowLine::Make(count)) => self.make_row(count, out),
+            Some(RowLine::OnRow(what)) => self.on_row(what, out),
+            Some(RowLine::Running(mask)) => answers::turning(mask, out),
+            Some(RowLine::Lamp(line)) => self.state.run(line, out),
+            None => state::error(out),
         }
     }
 

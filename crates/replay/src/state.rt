@@ -2,16 +2,16 @@
 // act on, answers `error` and changes nothing. The newline behind an answer is the caller's.
 use call_lines::lines::{Line, Making, OnLamp};
 use call_lines::{leaves, lines};
-use lamp::{Answer, Call, Lamp, Made};
+use lamp::{Answer, Call, Lamp};
+use tasks::Task;
 use lamp_lines::answers;
-use tasks::GivenTask;
 use text::writer::{Sink, text};
 
 // The lamp, where there is one, and the task that was given last.
 #[derive(Clone, Copy)]
 pub struct State {
     pub lamp: Option<Lamp>,
-    pub task: GivenTask,
+    pub task: Option<Task>,
 }
 
 pub(crate) fn error(out: &mut impl Sink) {
@@ -49,25 +49,17 @@ fn help(out: &mut impl Sink) {
     );
 }
 
-// The task given last, after an answer.
-fn last_task(last: GivenTask, given: GivenTask) -> GivenTask {
-    match given {
-        GivenTask::Nothing => last,
-        GivenTask::Given(task) => GivenTask::Given(task),
-    }
-}
-
 impl State {
     pub(crate) fn new() -> State {
         State {
             lamp: None,
-            task: GivenTask::Nothing,
+            task: None,
         }
     }
 
     // A task that was given is the last.
-    pub(crate) fn give(&mut self, given: GivenTask) {
-        self.task = last_task(self.task, given);
+    pub(crate) fn give(&mut self, given: Option<Task>) {
+        self.task = given.or(self.task);
     }
 
     // An answer is written, and its lamp kept.
@@ -79,14 +71,14 @@ impl State {
 
     // Another lamp: the task that was given last is forgotten.
     fn place(&mut self, lamp: Lamp, out: &mut impl Sink) {
-        self.task = GivenTask::Nothing;
+        self.task = None;
         self.answer(lines::shown(lamp), out);
     }
 
     fn make(&mut self, making: Making, out: &mut impl Sink) {
         match lines::make(making) {
-            Made::Lamp(lamp) => self.place(lamp, out),
-            Made::Refused(number) => answers::status(out, number),
+            Ok(lamp) => self.place(lamp, out),
+            Err(refusal) => answers::status(out, Err(refusal)),
         }
     }
 
@@ -100,8 +92,8 @@ impl State {
     // A start of the task that was given last.
     fn start_last(&mut self, clock: u64, out: &mut impl Sink) {
         match self.task {
-            GivenTask::Given(task) => self.on_lamp(OnLamp::Call(Call::Start { task, clock }), out),
-            GivenTask::Nothing => error(out),
+            Some(task) => self.on_lamp(OnLamp::Call(Call::Start { task, clock }), out),
+            None => error(out),
         }
     }
 
@@ -114,7 +106,6 @@ impl State {
             Line::StartLast(clock) => self.start_last(clock, out),
             Line::Ask(leaf) => leaves::ask(leaf, out),
             Line::Help => help(out),
-            Line::Unreadable => error(out),
         }
     }
 }

@@ -20,7 +20,7 @@ use Rattle.row_lines.proofs.Lent.{lent_length}
 pub step-turn : (r : Row) (fill clock : ℕ) (given lent left : List ℕ) (stepped : RowStepped)
     → lent ≡ lent_bytes fill (length given) → stepped ≡ row_stepped r (length lent) clock → left ≡ row_bytes r lent clock
     → step_with r (length given) fill clock
-    ≡ says stepped.row (status_text stepped.number ++ then_row stepped.row ++ lent_text stepped.wait left fill)
+    ≡ says stepped.row (status_text stepped.verdict ++ then_row stepped.row ++ lent_text stepped.wait left fill)
 unfolding step_with
 step-turn r fill clock given lent left stepped e f g = rw (g, f, e, lent_length fill (length given))
 

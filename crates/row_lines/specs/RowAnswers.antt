@@ -1,11 +1,10 @@
 -- What the lines of a row come to, and the texts of their answers: document 02, A.1 and A.3; docs/PROTOCOL.md.
+use Rattle.std.specs.Prelude.{Option, Some, None}
 use Rattle.std.specs.Prelude.{ℕ, zero, suc, ◌+◌, ◌*◌, ◌%◌, Bool, cond, ◌||◌, List, [], ◌∷◌, ◌++◌, ◌≡◌, leb, ltb, eqb, length, drop, replicate}
-use Rattle.tasks.specs.declared.GivenTask.{GivenTask}
 use Rattle.lamp.specs.declared.Answer.{Answer}
 use Rattle.lamp.specs.declared.Call.{Call}
 use Rattle.lamp.specs.declared.Lamp.{Lamp}
 use Rattle.lamp.specs.Making.{fresh_lamp}
-use Rattle.rows.specs.declared.Lowest.{Lowest}
 use Rattle.rows.specs.declared.Row.{Row}
 use Rattle.rows.specs.declared.RowAnswer.{RowAnswer}
 use Rattle.rows.specs.declared.RowStepped.{RowStepped}
@@ -13,7 +12,7 @@ use Rattle.rows.specs.Rows.{row_of, placed, row_stepped, row_bytes, lamp_at, ans
 use Rattle.std.specs.List.{fold}
 use Rattle.text.specs.Ascii.{ascii}
 use Rattle.text.specs.Digits.{decimal, hex_text}
-use Rattle.text.specs.Words.{same}
+use Rattle.std.specs.Str.{bytes_eq}
 use Rattle.lamp_lines.specs.Answers.{number_text, numbers_text, lamp_numbers, running_text, status_text, answer_text}
 use Rattle.call_lines.specs.declared.lines.Line.{Line}
 use Rattle.call_lines.specs.declared.lines.OnLamp.{OnLamp}
@@ -55,7 +54,7 @@ then_row r = ascii " |" ++ row_text r
 -- the row after it, the task that a lamp gave, and the answer
 pub record Turn : Type 0 where
   pub row : Row
-  pub task : GivenTask
+  pub task : Option Task
   pub text : List ℕ
 
 -- what a function gives that puts its answer into a sink
@@ -64,7 +63,7 @@ Turned t push old new r = (r.row ≡ t.row) × (r.task ≡ t.task) × (new ≡ f
 
 -- the row, no task
 abbrev pub says : Row → List ℕ → Turn
-says r text = record { row = r; task = GivenTask.Nothing; text = text }
+says r text = record { row = r; task = None; text = text }
 
 -- ok | <row>
 abbrev pub shown_row : Row → Turn
@@ -94,9 +93,9 @@ with_mask r mask = record { count = r.count; running_mask = mask; lamps = r.lamp
 
 -- ---- how many are still turning, from the word alone
 
-abbrev pub lowest_text : Lowest → List ℕ
-lowest_text Lowest.Nothing = ascii " -"
-lowest_text (Lowest.At place) = number_text place
+abbrev pub lowest_text : Option ℕ → List ℕ
+lowest_text None = ascii " -"
+lowest_text (Some place) = number_text place
 
 -- "`<count> <lowest>`, or `0 -`"
 unfoldable pub turning_text : ℕ → List ℕ
@@ -115,7 +114,7 @@ slice_text bytes = cond (eqb (length bytes) 0) (ascii " -") (ascii " " ++ hex_te
 
 -- "`kept`: byte for byte what was lent; `written`: not"
 unfoldable pub kept_text : List ℕ → ℕ → List ℕ
-kept_text bytes fill = cond (same bytes (lent_bytes fill (length bytes))) (ascii " kept") (ascii " written")
+kept_text bytes fill = cond (bytes_eq bytes (lent_bytes fill (length bytes))) (ascii " kept") (ascii " written")
 
 -- | <wait> | <slice> | kept or written
 abbrev pub lent_text : ℕ → List ℕ → ℕ → List ℕ
@@ -127,7 +126,7 @@ unfoldable pub step_with : Row → ℕ → ℕ → ℕ → Turn
 step_with r size fill clock =
     let stepped : RowStepped = row_stepped r size clock in
     says stepped.row
-    (status_text stepped.number ++ then_row stepped.row
+    (status_text stepped.verdict ++ then_row stepped.row
     ++ lent_text stepped.wait (row_bytes r (lent_bytes fill size) clock) fill)
 
 -- "at most 1024 (above: `error`)"
@@ -137,9 +136,9 @@ step_row r s = cond (ltb 1024 s.size) (unread r) (step_with r s.size s.fill s.cl
 -- ---- lines at a place
 
 -- "`startlast` where no task was given" is an error
-abbrev pub last_start : GivenTask → ℕ → Asked
-last_start GivenTask.Nothing clock = Asked.Nothing
-last_start (GivenTask.Given task) clock = Asked.Call (Call.Start task clock)
+abbrev pub last_start : Option Task → ℕ → Asked
+last_start None clock = Asked.Nothing
+last_start (Some task) clock = Asked.Call (Call.Start task clock)
 
 -- single calls; "edits and looks from outside"; "`at <place> set`, `new`, `drive`, `leaf`: `error`"
 abbrev pub on_lamp_asked : OnLamp → Asked
@@ -149,20 +148,19 @@ on_lamp_asked (OnLamp.Record running) = Asked.Edit (OnLamp.Record running)
 on_lamp_asked OnLamp.Show = Asked.Edit OnLamp.Show
 on_lamp_asked (OnLamp.Set setting) = Asked.Nothing
 
-abbrev pub asked_of : Line → GivenTask → Asked
+abbrev pub asked_of : Line → Option Task → Asked
 asked_of (Line.Lamp l) last = Asked.Place l
 asked_of (Line.OnLamp what) last = on_lamp_asked what
 asked_of (Line.StartLast clock) last = last_start last clock
 asked_of (Line.New making) last = Asked.Nothing
 asked_of (Line.Ask leaf) last = Asked.Nothing
 asked_of Line.Help last = Asked.Nothing
-asked_of Line.Unreadable last = Asked.Nothing
 
 -- the answer of the lamp at the place, from the row's
 abbrev pub lamp_answer : RowAnswer → ℕ → Answer
 lamp_answer a place =
     record {
-      number = a.number;
+      verdict = a.verdict;
       lamp = lamp_at a.row place;
       notices = a.notices;
       task = a.task;
@@ -181,7 +179,7 @@ called_at r place call =
       row = a.row;
       task = a.task;
       text =
-          cond (lamp_hidden r.count place) (status_text a.number ++ ascii " | - | - | - | 0 | -")
+          cond (lamp_hidden r.count place) (status_text a.verdict ++ ascii " | - | - | - | 0 | -")
           (answer_text (lamp_answer a place))
           ++ then_row a.row;
     }
@@ -208,7 +206,7 @@ answered_place r place Asked.Nothing = unread r
 
 -- ---- the lines of the row that there is, where this task was given last
 
-unfoldable pub on_row : Row → OnRow → GivenTask → Turn
+unfoldable pub on_row : Row → OnRow → Option Task → Turn
 on_row r (OnRow.Count count) last = shown_row (with_count r count)
 on_row r (OnRow.Mask mask) last = shown_row (with_mask r mask)
 on_row r OnRow.Show last = shown_row r

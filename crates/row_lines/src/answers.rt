@@ -2,7 +2,7 @@
 ghost use Rattle.std.specs.Prelude.{◌≡◌, ◌++◌, cond, ◌+◌, ◌%◌, ◌<◌, min, length};
 ghost use Rattle.std.specs.List.{fold};
 ghost use Rattle.text.specs.Ascii.{ascii};
-ghost use Rattle.text.specs.Words.{same};
+ghost use Rattle.std.specs.Str.{bytes_eq};
 ghost use Rattle.lamp_lines.specs.Answers.{status_text, answer_text};
 ghost use Rattle.row_lines.specs.RowAnswers.{lamp_text, lamps_text, row_sum, row_text, then_row, Turned, shown_row, unread, fresh_place, fresh_row, with_count, with_mask, lowest_text, turning_text, says, lent_bytes, slice_text, kept_text, lent_text, step_with, step_row, last_start, on_lamp_asked, asked_of, lamp_answer, lamp_hidden, called_at, lamp_missing, edited_at, edited_on, answered_place, on_row};
 
@@ -13,10 +13,10 @@ use call_lines::lines::{Line, OnLamp};
 use color::Color;
 use lamp::{Answer, Call, Lamp, LoopSettings};
 use lamp_lines::answers::{answer, bar, ending, lamp_numbers, number, numbers, status};
-use matter::{Bounds, ColorLoopDirectionEnum};
+use matter::{Bounds, ColorLoopDirectionEnum, Refusal};
 use remaining_time::RemainingTime;
-use rows::{Lowest, MOST, Row, RowAnswer, lowest_running, running_count};
-use tasks::{GivenTask, Running};
+use rows::{MOST, Row, RowAnswer, lowest_running, running_count};
+use tasks::{Running, Task};
 use text::writer::{Sink, decimal, hex, text};
 
 // The longest slice that is lent.
@@ -26,7 +26,7 @@ const LONGEST: usize = 1024;
 #[derive(Clone, Copy)]
 pub struct RowTurn {
     pub row: Row,
-    pub task: GivenTask,
+    pub task: Option<Task>,
 }
 
 // What a line at a place asks of the lamp there.
@@ -96,7 +96,7 @@ fn shown<S: Sink>(row: Row, out: &mut S) -> RowTurn
     then_row(out, row);
     RowTurn {
         row,
-        task: GivenTask::Nothing,
+        task: None,
     }
 }
 
@@ -106,7 +106,7 @@ fn error<S: Sink>(row: Row, out: &mut S) -> RowTurn
     text(out, b"error");
     RowTurn {
         row,
-        task: GivenTask::Nothing,
+        task: None,
     }
 }
 
@@ -165,12 +165,12 @@ fn with_mask(row: Row, running_mask: u32) -> Row
 }
 
 // The lowest place that runs; `-` where none does.
-fn lowest<S: Sink>(out: &mut S, place: Lowest)
+fn lowest<S: Sink>(out: &mut S, place: Option<u8>)
     ensures { out.new ≡ fold S.push out.old (lowest_text place) }
 {
     match place {
-        Lowest::Nothing => text(out, b" -"),
-        Lowest::At(k) => number(out, k as u64),
+        None => text(out, b" -"),
+        Some(k) => number(out, k as u64),
     }
 }
 
@@ -190,7 +190,7 @@ fn row_turning<S: Sink>(row: Row, out: &mut S) -> RowTurn
     turning(row.running_mask, out);
     RowTurn {
         row,
-        task: GivenTask::Nothing,
+        task: None,
     }
 }
 
@@ -211,7 +211,7 @@ fn fill(bytes: &mut [u8], from: u8)
 
 // Whether every byte is as it was lent.
 fn is_filled(bytes: &[u8], from: u8) -> bool
-    ensures { result ≡ same bytes.now (lent_bytes from (length bytes.now)) }
+    ensures { result ≡ bytes_eq bytes.now (lent_bytes from (length bytes.now)) }
 {
     for (i, b) in bytes.iter().enumerate() {
         if *b != byte_at(from, i) {
@@ -262,12 +262,12 @@ fn step_with<S: Sink>(row: Row, bytes: &mut [u8], asked: RowStep, out: &mut S) -
 {
     fill(bytes, asked.fill);
     let stepped = row.step(bytes, asked.clock);
-    status(out, stepped.number);
+    status(out, stepped.verdict);
     then_row(out, stepped.row);
     lent(out, stepped.wait, bytes, asked.fill);
     RowTurn {
         row: stepped.row,
-        task: GivenTask::Nothing,
+        task: None,
     }
 }
 
@@ -285,12 +285,12 @@ fn step<S: Sink>(row: Row, asked: RowStep, out: &mut S) -> RowTurn
 }
 
 // A start of the task given last.
-fn start_of(last: GivenTask, clock: u64) -> Asked
+fn start_of(last: Option<Task>, clock: u64) -> Asked
     ensures { result ≡ last_start last clock }
 {
     match last {
-        GivenTask::Nothing => Asked::Nothing,
-        GivenTask::Given(task) => Asked::Call(Call::Start { task, clock }),
+        None => Asked::Nothing,
+        Some(task) => Asked::Call(Call::Start { task, clock }),
     }
 }
 
@@ -307,7 +307,7 @@ fn asked_of(what: OnLamp) -> Asked
 }
 
 // What a line asks of a lamp in a row, where the task given last is this.
-fn asked_at(line: Line, last: GivenTask) -> Asked
+fn asked_at(line: Line, last: Option<Task>) -> Asked
     ensures { result ≡ asked_of line last }
 {
     match line {
@@ -317,7 +317,6 @@ fn asked_at(line: Line, last: GivenTask) -> Asked
         Line::New(_) => Asked::Nothing,
         Line::Ask(_) => Asked::Nothing,
         Line::Help => Asked::Nothing,
-        Line::Unreadable => Asked::Nothing,
     }
 }
 
@@ -327,7 +326,7 @@ fn lamp_answer(answered: RowAnswer, place: u8) -> Answer
     ensures { result ≡ lamp_answer answered place }
 {
     Answer {
-        number: answered.number,
+        verdict: answered.verdict,
         lamp: answered.row.lamps[place as usize],
         notices: answered.notices,
         task: answered.task,
@@ -336,19 +335,19 @@ fn lamp_answer(answered: RowAnswer, place: u8) -> Answer
 }
 
 // A refusal with no lamp to show.
-fn without_lamp<S: Sink>(out: &mut S, number: u8)
-    ensures { out.new ≡ fold S.push out.old (status_text number ++ ascii " | - | - | - | 0 | -") }
+fn without_lamp<S: Sink>(out: &mut S, verdict: Result<(), Refusal>)
+    ensures { out.new ≡ fold S.push out.old (status_text verdict ++ ascii " | - | - | - | 0 | -") }
 {
-    status(out, number);
+    status(out, verdict);
     text(out, b" | - | - | - | 0 | -");
 }
 
 // What the lamp at the place answers, of a row of so many.
 fn place_text<S: Sink>(out: &mut S, answered: RowAnswer, count: u8, place: u8)
-    ensures { out.new ≡ fold S.push out.old (cond (lamp_hidden count place) (status_text answered.number ++ ascii " | - | - | - | 0 | -") (answer_text (lamp_answer answered place))) }
+    ensures { out.new ≡ fold S.push out.old (cond (lamp_hidden count place) (status_text answered.verdict ++ ascii " | - | - | - | 0 | -") (answer_text (lamp_answer answered place))) }
 {
     if MOST < count || count <= place {
-        return without_lamp(out, answered.number);
+        return without_lamp(out, answered.verdict);
     }
     answer(out, lamp_answer(answered, place));
 }
@@ -380,7 +379,7 @@ fn edited<S: Sink>(row: Row, place: u8, edit: Answer, out: &mut S) -> RowTurn
     then_row(out, next);
     RowTurn {
         row: next,
-        task: GivenTask::Nothing,
+        task: None,
     }
 }
 
@@ -398,7 +397,7 @@ fn edited_on<S: Sink>(row: Row, place: u8, what: OnLamp, out: &mut S) -> RowTurn
 
 // A line at a place, where the task given last is this.
 #[tactic(auto, unfolding(crate::specs::RowAnswers::answered_place))]
-fn at_place<S: Sink>(row: Row, asked: AtPlace, last: GivenTask, out: &mut S) -> RowTurn
+fn at_place<S: Sink>(row: Row, asked: AtPlace, last: Option<Task>, out: &mut S) -> RowTurn
     ensures { Turned (answered_place row asked.place (asked_of asked.line last)) S.push out.old out.new result }
 {
     let AtPlace { place, line } = asked;
@@ -412,7 +411,7 @@ fn at_place<S: Sink>(row: Row, asked: AtPlace, last: GivenTask, out: &mut S) -> 
 
 // A line of the row, where the task given last is this.
 #[tactic(auto, unfolding(crate::specs::RowAnswers::on_row))]
-pub fn on_row<S: Sink>(row: Row, what: OnRow, last: GivenTask, out: &mut S) -> RowTurn
+pub fn on_row<S: Sink>(row: Row, what: OnRow, last: Option<Task>, out: &mut S) -> RowTurn
     ensures { Turned (on_row row what last) S.push out.old out.new result }
 {
     match what {

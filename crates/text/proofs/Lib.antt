@@ -4,3 +4,4 @@ pub mod WordLaws
 pub mod NumberLaws
 pub mod PairLaws
 pub mod Places
+pub mod BufferLaws

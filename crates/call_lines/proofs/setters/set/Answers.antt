@@ -8,4 +8,4 @@ unfolding setting_answer
 returns c =
     let value = c.args.setting in
     rw
-    (← c.first_cause-number.ensures, c.if-number-ne-ACCEPTED.false, c.notices.ensures, c.cons-reported.ensures, c.new.ensures, c.at_clock-now.ensures, c.set_color-set.ensures, setting-placed c.args.lamp.color value.value value.is_end value.clock c.args.lamp.looping.active)
+    (← c.first_cause.ensures, c.notices.ensures, c.cons_change-reported.ensures, c.new.ensures, c.at_clock-now.ensures, c.set_color-set.ensures, setting-placed c.args.lamp.color value.value value.is_end value.clock c.args.lamp.looping.active)
