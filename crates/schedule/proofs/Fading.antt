@@ -1,5 +1,5 @@
 -- A lamp that fades as the schedule says: what holds between the two, over one call and at the start.
-use Rattle.std.specs.Prelude.{Option, Some, None}
+use Rattle.std.specs.Prelude.{Some}
 use Prim.Native.Nat.{ℕ, ◌-◌, ◌≤◌, ◌<◌, min}
 use mathlib.Core.Bool.{Bool, true, false, not, ◌&&◌, ◌||◌, and-true, or-false}
 use mathlib.Core.Logic.{inl, inr}

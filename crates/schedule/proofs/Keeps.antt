@@ -1,5 +1,5 @@
 -- The claim, proved: a move to a hue gives its task, and once that is started keeps its schedule, over every list of calls.
-use Rattle.std.specs.Prelude.{Option, Some, None}
+use Rattle.std.specs.Prelude.{Some}
 use Prim.Native.Nat.{ℕ, ◌+◌, ◌-◌, ◌%◌, ◌≤◌, ◌<◌}
 use mathlib.Core.Bool.{not, ◌&&◌, true}
 use mathlib.Core.List.{List, ◌∷◌, ◌++◌}
