@@ -1,6 +1,7 @@
 -- The port's bounds of a move or a step of mireds are the text's, a started move runs between them, and a target is brought to
 -- the closest mireds.
-use Rattle.std.specs.Prelude.{Option, Some, None}
+use Rattle.matter.specs.Causes.{accepted}
+use Rattle.std.specs.Prelude.{Some}
 use Prim.Native.Nat.{ℕ, zero, suc, ◌≤◌, ◌<◌}
 use mathlib.Core.Bool.{Bool, true, false, cond, true≢false}
 use mathlib.Core.Path.{◌≡◌, refl, sym, ap, ◌∙◌}
@@ -95,14 +96,14 @@ Answered l x task = (answer l x).task ≡ Some task
 module _ (l : Lamp) (mode : MoveModeEnum) (rate minimum maximum : ℕ) (options : CommandOptions) (on_off : OnOff)
     (first : ℕ) (task : Task)
     (given : Answered l (Call.Command (request (Command.MoveColorTemperature mode rate minimum maximum) options) on_off first) task)
-    (m : Lamp) (same : m.bounds ≡ l.bounds) (clock : ℕ) (accepted : cause m (Call.Start task clock) ≡ 0) where
+    (m : Lamp) (same : m.bounds ≡ l.bounds) (clock : ℕ) (taken : cause m (Call.Start task clock) ≡ accepted) where
   abbrev asks : ColorTemperatureMove
   asks = record { rate = signed mode rate; min = asked l.bounds.min minimum; max = asked l.bounds.max maximum }
 
   -- the task that a command gives is the Stop task or this one, and a Stop is not started
   stop-refused : task ≡ Task.Stop → ⊥
   unfolding cause task_valid
-  stop-refused e = true≢false (sym (start-ready m clock task accepted).1 ∙ ap task_valid e)
+  stop-refused e = true≢false (sym (start-ready m clock task taken).1 ∙ ap task_valid e)
 
   abbrev Gives : CommandEffect → Type 0
   Gives e = e.task ≡ Some task → task ≡ Task.ColorTemperatureMove asks
@@ -127,7 +128,7 @@ module _ (l : Lamp) (mode : MoveModeEnum) (rate minimum maximum : ℕ) (options 
   start_is : answer m (Call.Start task clock) ≡ done (temperature_start (at_clock m clock) asks)
   unfolding started
   start_is =
-      granted-is m (Call.Start task clock) accepted ∙ ap (λ (t : Task). done (started (at_clock m clock) t)) task-is
+      granted-is m (Call.Start task clock) taken ∙ ap (λ (t : Task). done (started (at_clock m clock) t)) task-is
 
   low-is : lower m.bounds asks.min ≡ lo l.bounds minimum
   low-is = ap (λ (b : Bounds). lower b asks.min) same

@@ -1,5 +1,7 @@
 -- The remaining time is reported exactly where the text has it reportable, for all numbers; a colour attribute is reported of a change
 -- exactly where the text allows it, by its setter and in every accepted step. Where the port reports more, or less.
+use Rattle.matter.specs.Causes.{accepted}
+use Rattle.notices.specs.declared.Notice.{Notice}
 use Rattle.std.specs.Prelude.{Option, Some, None}
 use Prim.Native.Nat.{ℕ, zero, suc, ◌+◌, ◌-◌, ◌<◌}
 use mathlib.Core.Bool.{Bool, true, false, not, cond, ◌&&◌, true≢false, ◌||◌, or-true, or-false, or_assoc, and-true, and-false}
@@ -14,7 +16,7 @@ use Rattle.matter.specs.declared.enums.ColorModeEnum.{ColorModeEnum}
 use Rattle.matter.specs.Limits.{saturation_limit}
 use Rattle.matter.proofs.Laws.{and_left, and_right, or_left, or_right, cond_both}
 use Rattle.notices.specs.Notices.{only, filled}
-use Rattle.notices.specs.Names.{CurrentHue, EnhancedCurrentHue, CurrentSaturation, ColorTemperatureMireds, ColorMode, EnhancedColorMode, RemainingTime, marked_dirty, scenes_notified, device_hue_saturation, device_mireds}
+use Rattle.notices.specs.Names.{CurrentHue, EnhancedCurrentHue, CurrentSaturation, ColorTemperatureMireds, ColorMode, EnhancedColorMode, RemainingTime, marked_dirty, scenes_notified, device_hue_saturation, device_mireds, notice_number}
 use Rattle.color.specs.declared.Color.{Color}
 use Rattle.color.specs.Setters.{due, same, change_reported, change_of, hue_set, hue_reported, saturation_set, saturation_reported, mireds_set, mireds_reported}
 use Rattle.progress.specs.Progress.{permille_of, tenths_of, delta_at_rate, clamped_sum, loop_delta}
@@ -126,9 +128,9 @@ but-for : (n : ℕ) (reported rest : List ℕ) → reports n rest ≡ false → 
 but-for n reported rest none = reports-both n reported rest ∙ rw none (or-false (reports n reported))
 
 -- of a change, its attributes and the modes are reported exactly where the change is due
-module _ (n attribute : ℕ) (enhanced : Bool) (other : reports n (marked_dirty ∷ scenes_notified ∷ []) ≡ false) where
+module _ (n : ℕ) (attribute : Notice) (enhanced : Bool) (other : reports n (marked_dirty ∷ scenes_notified ∷ []) ≡ false) where
   abbrev noticed : List ℕ
-  noticed = (attribute ∷ only enhanced EnhancedCurrentHue) ++ (ColorMode ∷ EnhancedColorMode ∷ [])
+  noticed = (notice_number attribute ∷ only enhanced EnhancedCurrentHue) ++ (ColorMode ∷ EnhancedColorMode ∷ [])
 
   last-by : (d : Bool) → reports n (cond d noticed [] ++ (scenes_notified ∷ [])) ≡ d && reports n noticed
   last-by true = but-for n noticed (scenes_notified ∷ []) (or_right (eqb n marked_dirty) (reports n (scenes_notified ∷ [])) other)
@@ -152,9 +154,9 @@ pub data HueNotice : ℕ → Bool → Type 0 where
   of_enhanced_current_hue : HueNotice EnhancedCurrentHue true
 
 hue-by : {n : ℕ} {enhanced : Bool} → HueNotice n enhanced → (s a d : Bool) →
-    reports n (change_reported (change_of s d CurrentHue enhanced) a) ≡ not s && d
-hue-by (of_current_hue enhanced) = change-by CurrentHue CurrentHue enhanced refl refl
-hue-by of_enhanced_current_hue = change-by EnhancedCurrentHue CurrentHue true refl refl
+    reports n (change_reported (change_of s d Notice.CurrentHue enhanced) a) ≡ not s && d
+hue-by (of_current_hue enhanced) = change-by CurrentHue Notice.CurrentHue enhanced refl refl
+hue-by of_enhanced_current_hue = change-by EnhancedCurrentHue Notice.CurrentHue true refl refl
 
 -- a notice of a number that becomes another is one that may be reported, and of a change each that may be is reported
 pub record ReportedAs (notice : ℕ) (reported : List ℕ) (old new stamp clock : ℕ) (end : Bool) : Type 0 where
@@ -180,11 +182,11 @@ module _ (c : Color) (new : ℕ) (end : Bool) (clock : ℕ) (active : Bool) wher
 
   saturation-change-reported : ReportedWhere CurrentSaturation (saturation_reported c new end clock active) c.saturation new
       c.stamps.saturation clock end
-  saturation-change-reported = change-by CurrentSaturation CurrentSaturation false refl refl (same c.saturation new end) active (due end c.stamps.saturation clock)
+  saturation-change-reported = change-by CurrentSaturation Notice.CurrentSaturation false refl refl (same c.saturation new end) active (due end c.stamps.saturation clock)
 
   mireds-change-reported : ReportedWhere ColorTemperatureMireds (mireds_reported c new end clock active) c.mireds new
       c.stamps.mireds clock end
-  mireds-change-reported = change-by ColorTemperatureMireds ColorTemperatureMireds false refl refl (same c.mireds new end) active (due end c.stamps.mireds clock)
+  mireds-change-reported = change-by ColorTemperatureMireds Notice.ColorTemperatureMireds false refl refl (same c.mireds new end) active (due end c.stamps.mireds clock)
 
   pub hue-reported : {n : ℕ} {enhanced : Bool} → HueNotice n enhanced →
       ReportedAs n (hue_reported c new end enhanced clock active) c.hue new c.stamps.hue clock end
@@ -241,9 +243,9 @@ module _ (c : Color) (clock later : ℕ) (soon : later < clock + 1000) (end : Bo
 
 -- ---- where the port reports more, or less
 
-mode-by : (s a d e : Bool) → reports ColorMode (change_reported (change_of s d CurrentHue e) a) ≡ not s && d
-mode-by s a d true = change-by ColorMode CurrentHue true refl refl s a d
-mode-by s a d false = change-by ColorMode CurrentHue false refl refl s a d
+mode-by : (s a d e : Bool) → reports ColorMode (change_reported (change_of s d Notice.CurrentHue e) a) ≡ not s && d
+mode-by s a d true = change-by ColorMode Notice.CurrentHue true refl refl s a d
+mode-by s a d false = change-by ColorMode Notice.CurrentHue false refl refl s a d
 
 module _ (c : Color) (clock : ℕ) (active : Bool) where
   -- more: at an end the number is reported though it is the old one, where the text speaks of changes. Smallest: hue 0 to 0
@@ -262,7 +264,7 @@ module _ (c : Color) (clock : ℕ) (active : Bool) where
   -- less: a plain move reports no EnhancedCurrentHue, which it changes
   pub enhanced-unreported : (new : ℕ) (end : Bool) → reports EnhancedCurrentHue (hue_reported c new end false clock active) ≡ false
   enhanced-unreported new end =
-      no-change-by EnhancedCurrentHue CurrentHue false refl refl (same c.hue new end) active (due end c.stamps.hue clock)
+      no-change-by EnhancedCurrentHue Notice.CurrentHue false refl refl (same c.hue new end) active (due end c.stamps.hue clock)
 
 -- ---- over calls: an accepted step reports an attribute exactly where it may be reported, whatever moves it
 
@@ -306,7 +308,7 @@ no-saturation : (n : ℕ) → reports n (CurrentSaturation ∷ ColorMode ∷ Enh
     reports n (change_reported (saturation_moved c t first p clock).change active) ≡ false
 no-saturation n none other c None first p clock active = refl
 no-saturation n none other c (Some target) first p clock active =
-    no-change-by n CurrentSaturation false other none
+    no-change-by n Notice.CurrentSaturation false other none
     (same c.saturation (saturation_now first target p) (at_end p)) active (due (at_end p) c.stamps.saturation clock)
 
 -- nor is CurrentSaturation of a hue, which leaves its number and stamp
@@ -320,7 +322,7 @@ no-hue : (c : Color) (d : Option ℤ) (first p : ℕ) (enhanced : Bool) (clock :
     reports CurrentSaturation (change_reported (hue_moved c d first p enhanced clock).change active) ≡ false
 no-hue c None first p enhanced clock active = refl
 no-hue c (Some way) first p enhanced clock active =
-    no-change-by CurrentSaturation CurrentHue enhanced refl (no-hue-by enhanced)
+    no-change-by CurrentSaturation Notice.CurrentHue enhanced refl (no-hue-by enhanced)
     (same c.hue (hue_now first way p) (at_end p)) active (due (at_end p) c.stamps.hue clock)
 
 hue-leaves-stamp : (c : Color) (d : Option ℤ) (first p : ℕ) (enhanced : Bool) (clock : ℕ) →
@@ -335,12 +337,12 @@ hue-leaves-stamp c (Some way) first p enhanced clock =
           (λ (x : Color). x.stamps.saturation ≡ c.stamps.saturation) t c _ (λ e. refl) (λ e. refl),
     )
 
-module _ (l : Lamp) (clock : ℕ) (accepted : cause l (Call.Step clock) ≡ 0) where
+module _ (l : Lamp) (clock : ℕ) (taken : cause l (Call.Step clock) ≡ accepted) where
   abbrev on : Lamp
   on = at_clock l clock
 
   answer-is : (r : Running) → l.running ≡ r → answer l (Call.Step clock) ≡ done (stepped on r)
-  answer-is r e = granted-is l (Call.Step clock) accepted ∙ ap (λ (x : Running). done (stepped on x)) e
+  answer-is r e = granted-is l (Call.Step clock) taken ∙ ap (λ (x : Running). done (stepped on x)) e
 
   -- a pass whose notices report the number so
   reported-by : (n : ℕ) (number stamp : Color → ℕ) (new : ℕ) (end : Bool) (e : Effect) →
@@ -379,7 +381,7 @@ module _ (l : Lamp) (clock : ℕ) (accepted : cause l (Call.Step clock) ≡ 0) w
       let (z, device, time, others, dirty) = apart_from h in
       reported-by n (λ c. c.hue) (λ c. c.stamps.hue) (hue_now run.hue way p) (at_end p)
       (stepped on (Running.HueSaturationMoveTo run)) is
-      (sym (ap (λ (a : Answer). a.lamp.color.hue) is) ∙ (rw d at (step-shows l clock accepted run e).hue))
+      (sym (ap (λ (a : Answer). a.lamp.color.hue) is) ∙ (rw d at (step-shows l clock taken run e).hue))
       (ended_by (at_end p) (Running.HueSaturationMoveTo run) refl) z
       (but-for n (change_reported passed.first active) (reported_behind passed active)
       (but-for n (saturations ++ (device_hue_saturation ∷ [])) (only passed.time RemainingTime) (no-time n time passed.time)

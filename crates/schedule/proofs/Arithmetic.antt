@@ -1,5 +1,6 @@
 -- The arithmetic of a fade: the way travelled, read off a hue, is the size of the part; the end is permille 1000; the remaining
 -- time fits its sixteen bits.
+use Rattle.std.proofs.lemmas.Bool.{cases_Bool}
 use Prim.Native.Nat.{ℕ, suc, ◌*◌, ◌-◌, ◌/◌, ◌≤◌, ◌<◌}
 use mathlib.Core.Bool.{cond}
 use mathlib.Core.Logic.{inl, inr}
@@ -17,7 +18,6 @@ use Rattle.hue.proofs.Laws.{moved-small, moved_up, moved_down, distance_is, way-
 use Rattle.progress.specs.Progress.{permille_of, part_of, tenths_of}
 use Rattle.progress.proofs.Laws.{permille-full, permille-short, part-down, part-whole, part-size, part-within}
 use Rattle.remaining_time.specs.RemainingTime.{new_tenths}
-use Rattle.schedule.proofs.Tests.{either}
 
 -- ---- the way travelled, read off a hue
 
@@ -60,7 +60,7 @@ module _ (found target : ℕ) (d : DirectionEnum) (hf : found < 65536) (ht : tar
 -- permille is 1000 exactly from the time on
 pub at-end : (e t : ℕ) → leb 1000 (permille_of e t) ≡ leb t e
 at-end e t =
-    elim (either (leb t e)) [
+    elim (cases_Bool (leb t e)) [
       | inl k ↦ le-leb 1000 (permille_of e t) (omega (arith, permille-full e t (leb-true t e k))) ∙ sym k
       | inr k ↦ lt-leb 1000 (permille_of e t) (permille-short e t (leb-false t e k)) ∙ sym k
     ]

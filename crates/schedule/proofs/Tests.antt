@@ -1,15 +1,12 @@
 -- Tests taken apart: by cases with the equation kept, a disjunction that does not hold, and two orders with one test.
+use Rattle.std.proofs.lemmas.Bool.{cases_Bool}
 use Prim.Native.Nat.{ℕ, ◌≤◌, ◌<◌}
 use mathlib.Core.Bool.{Bool, true, false, not, true≢false}
-use mathlib.Core.Logic.{◌⊎◌, inl, inr}
-use mathlib.Core.Path.{◌≡◌, refl, sym, ◌∙◌}
+use mathlib.Core.Logic.{inl, inr}
+use mathlib.Core.Path.{◌≡◌, sym, ◌∙◌}
 use native.Mathlib.Omega.{arith}
 use lib.Dec.{leb, ltb, eqb}
 use borrow.Author.Tests.{leb-true, leb-false, le-leb, lt-ltb, le-ltb, eqb-false}
-
-pub either : (b : Bool) → (b ≡ true) ⊎ (b ≡ false)
-either true = inl refl
-either false = inr refl
 
 pub never : {A : Type 0} {b : Bool} → b ≡ true → b ≡ false → A
 never t f = absurd (true≢false (sym t ∙ f))
@@ -20,10 +17,10 @@ positive n e = omega (arith, eqb-false n 0 e)
 -- two orders that hold together have one test
 pub leb-same : (a b c d : ℕ) → (a ≤ b → c ≤ d) → (c ≤ d → a ≤ b) → leb a b ≡ leb c d
 leb-same a b c d f g =
-    elim (either (leb a b)) [
+    elim (cases_Bool (leb a b)) [
       | inl e ↦ e ∙ sym (le-leb c d (f (leb-true a b e)))
       | inr e ↦
-          elim (either (leb c d)) [
+          elim (cases_Bool (leb c d)) [
             | inl k ↦ never (le-leb a b (g (leb-true c d k))) e
             | inr k ↦ e ∙ sym k
           ]
@@ -31,4 +28,4 @@ leb-same a b c d f g =
 
 -- below is not at least
 pub below-is : (a b : ℕ) → ltb a b ≡ not (leb b a)
-below-is a b = elim (either (leb b a)) [ inl e ↦ rw e (le-ltb a b (leb-true b a e)) | inr e ↦ rw e (lt-ltb a b (leb-false b a e)) ]
+below-is a b = elim (cases_Bool (leb b a)) [ inl e ↦ rw e (le-ltb a b (leb-true b a e)) | inr e ↦ rw e (lt-ltb a b (leb-false b a e)) ]
