@@ -1,7 +1,8 @@
 -- A lamp carried in words: from one that was made, through any list of calls, the words are those of the lamp that the
 -- lamp's own definitions leave, and no call finds them to be no lamp. Whatever the words of a call are, and whether its
 -- answer has room or not; a call's clock is a word of 64 bits.
-use Rattle.std.specs.Prelude.{Option, Some, None}
+use Rattle.std.specs.Prelude.{Some, None}
+use Rattle.matter.specs.Causes.{number_of}
 use Prim.Native.Nat.{ℕ, zero, suc, ◌%◌, ◌^◌, ◌<◌, ◌≤◌}
 use mathlib.Core.Bool.{Bool, true, false, ◌&&◌}
 use mathlib.Core.List.{List, [], ◌∷◌}
@@ -19,23 +20,23 @@ use Rattle.matter.specs.InRange.{Byte, Clock, InRangeBounds, InRangeCommand, InR
 use Rattle.tasks.specs.declared.Task.{Task}
 use Rattle.tasks.specs.InRange.{Signed64, InRangeDelta, InRangeTarget, InRangeTask}
 use Rattle.lamp.specs.declared.Lamp.{Lamp}
-use Rattle.lamp.specs.declared.Answer.{Answer}
-use Rattle.lamp.specs.Answers.{refusal}
 use Rattle.lamp.proofs.Laws.{fresh-valid}
 use Rattle.lamp.specs.Making.{fresh_lamp, making}
 use Rattle.lamp.specs.InRange.{InRangeCall}
 use Rattle.lamp.proofs.InRangeKept.{in-range-of}
-use Rattle.commands.specs.Answers.{answer}
-use Rattle.commands.proofs.Kept.{number-is-cause, valid-kept, in-range-kept}
+use Rattle.commands.specs.Answers as C
 use Rattle.commands.proofs.Table.{cause-small}
+use Rattle.lamp.specs.declared.Call.{Call}
+use Rattle.commands.proofs.Kept.{number-is-cause, valid-kept, in-range-kept}
 use Rattle.exports.specs.declared.moves.TaskNumbers.{TaskNumbers}
 use Rattle.exports.specs.declared.calls.CommandNumbers.{CommandNumbers}
 use Rattle.exports.specs.Kinds as K
 use Rattle.exports.specs.Words.{at, signed}
 use Rattle.exports.specs.Moves.{delta_of, target_of, move_to_of, hue_move_of, saturation_move_of, mireds_to_of, mireds_move_of, color_loop_of, task_of}
 use Rattle.exports.specs.Lamps.{lamp_words}
-use Rattle.exports.specs.Calls.{hue_command, saturation_command, enhanced_command, mireds_command, loop_command, command_of, request_of, command_numbers, start_numbers, call_of, unreadable, call_known, sent}
-use Rattle.exports.specs.Exported.{Answered, unreadable_lamp, made, answered}
+use Rattle.exports.specs.Calls.{hue_command, saturation_command, enhanced_command, mireds_command, loop_command, command_of, request_of, command_numbers, start_numbers, call_of, call_known}
+use Rattle.exports.specs.Failures.{unreadable_lamp}
+use Rattle.exports.specs.Exported.{Answered, made, answered}
 use Rattle.exports.specs.RoundTrips.{Good, replied, left, Sending, words_after, lamp_after, Clocks, RoundTrips}
 use Rattle.exports.proofs.Laws.{lamp-back}
 
@@ -119,11 +120,8 @@ call-in-range call clock =
 
 -- ---- the number of an answer to a call that is read
 
-sent-small : (l : Lamp) (call : List ℕ) → (sent l call).number ≤ 100
-unfolding sent
-sent-small l call =
-    cond_both (λ (r : Answer). r.number ≤ 100) (ltb K.halt (at call 0)) (refusal l unreadable) (answer l (call_of call)) (λ e. omega arith)
-    (λ e. omega (arith, number-is-cause l (call_of call), cause-small l (call_of call)))
+answer-small : (l : Lamp) (x : Call) → number_of (C.answer l x).verdict ≤ 8
+answer-small l x = rw (number-is-cause l x) (cause-small l x)
 
 -- ---- one call
 
@@ -145,11 +143,10 @@ module _ (l : Lamp) (good : Good l) (call answer : List ℕ) where
 
   -- which is a valid lamp in range again
   pub good_left : Clock (at call 1) → Good (left l call answer)
-  unfolding left sent
+  unfolding left
   good_left clock =
       cond_both Good (eqb (length answer) 25 && call_known call) _ l
-      (λ e. cond_both (λ (r : Answer). Good r.lamp) (ltb K.halt (at call 0)) _ _ (λ e. good)
-      (λ e. record { validity = valid-kept l (call_of call) good.validity; in_range = in-range-kept l (call_of call) good.validity good.in_range (call-in-range call clock) }))
+      (λ e. record { validity = valid-kept l (call_of call) good.validity; in_range = in-range-kept l (call_of call) good.validity good.in_range (call-in-range call clock) })
       (λ e. good)
 
   -- it is not answered as one to no lamp
@@ -158,7 +155,7 @@ module _ (l : Lamp) (good : Good l) (call answer : List ℕ) where
   readable z = by_tests (eqb (length answer) 25) (call_known call) refl refl (sym (ap (λ (r : Answered). r.number) answered-is) ∙ z)
     where
       by_tests : (p q : Bool) → eqb (length answer) 25 ≡ p → call_known call ≡ q → (replied l call answer).number ≡ 101 → ⊥
-      by_tests true true e f z = omega (arith, simp (e, f) at z, sent-small l call)
+      by_tests true true e f z = omega (arith, simp (e, f) at z, answer-small l (call_of call))
       by_tests true false e f z = omega (arith, simp (e, f) at z)
       by_tests false q e f z = omega (arith, simp e at z)
 

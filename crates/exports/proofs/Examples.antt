@@ -1,5 +1,6 @@
 -- The words for C, literally: what docs/WORDS.md and examples/yemkruos.h say of each kind, in numbers.
-use Rattle.std.specs.Prelude.{Option, Some, None}
+use Rattle.std.specs.Prelude.{Option, Some, None, Err}
+use Rattle.matter.specs.declared.refusals.Refusal.{Refusal}
 use Prim.Native.Nat.{ℕ}
 use mathlib.Core.Bool.{true, false}
 use mathlib.Core.List.{List, [], ◌∷◌, map}
@@ -23,7 +24,7 @@ use Rattle.tasks.specs.declared.Task.{Task}
 use Rattle.lamp.specs.declared.Answer.{Answer}
 use Rattle.lamp.specs.declared.Lamp.{Lamp}
 use Rattle.lamp.specs.declared.Call.{Call}
-use Rattle.exports.specs.Enums.{direction_read, move_mode_read, step_mode_read, loop_action_read, loop_direction_read, color_mode_read, enhanced_mode_read, on_off_read, direction_known, move_mode_known, step_mode_known, loop_action_known, loop_direction_known, color_mode_known, enhanced_mode_known, on_off_known}
+use Rattle.exports.specs.Enums.{read_of, known_of, direction_read, move_mode_read, step_mode_read, loop_action_read, loop_direction_read, color_mode_read, enhanced_mode_read, on_off_read, direction_known, move_mode_known, step_mode_known, loop_action_known, loop_direction_known, color_mode_known, enhanced_mode_known, on_off_known}
 use Rattle.exports.specs.Moves.{record_numbers, delta_of, target_of, move_to_of, hue_move_of, saturation_move_of, mireds_to_of, mireds_move_of, color_loop_of, task_of, task_fits, task_known, record_known, task_numbers, given_numbers}
 use Rattle.exports.specs.Lamps.{record_words, lamp_words, lamp_fits, lamp_known}
 use Rattle.exports.specs.Calls.{call_of, call_known, hue_command, saturation_command, enhanced_command, mireds_command, loop_command, command_of, request_of, command_fits, command_known}
@@ -252,7 +253,7 @@ pub record LampWords : Type 0 where
 abbrev pub replying : Option Task → Answer
 replying task =
     record {
-      number = 6;
+      verdict = Err Refusal.InvalidTask;
       lamp = busy;
       notices = record { places = 13 ∷ 2 ∷ 17 ∷ replicate 13 0; len = 3 };
       task = task;
@@ -286,7 +287,7 @@ pub record NumbersReturned : Type 0 where
 -- ---- by computation
 
 pub enum-words : EnumWords
-unfolding direction_read move_mode_read step_mode_read loop_action_read loop_direction_read color_mode_read enhanced_mode_read on_off_read direction_known move_mode_known step_mode_known loop_action_known loop_direction_known color_mode_known enhanced_mode_known on_off_known
+unfolding read_of known_of
 enum-words =
     record {
       on-off = refl;
@@ -308,7 +309,7 @@ enum-words =
     }
 
 pub command-words : CommandWords
-unfolding flag direction_read move_mode_read step_mode_read loop_action_read loop_direction_read on_off_read direction_known move_mode_known step_mode_known loop_action_known loop_direction_known on_off_known hue_command saturation_command enhanced_command mireds_command loop_command command_of request_of command_fits command_known call_of call_known
+unfolding flag hue_command saturation_command enhanced_command mireds_command loop_command command_of request_of command_fits command_known call_of call_known read_of known_of
 command-words =
     record {
       move-to-hue = (refl, refl);
@@ -329,7 +330,7 @@ command-words =
     }
 
 pub start-words : StartWords
-unfolding flag signed move_mode_read loop_direction_read move_mode_known loop_direction_known delta_of target_of move_to_of hue_move_of saturation_move_of mireds_to_of mireds_move_of color_loop_of task_of task_fits task_known call_of call_known
+unfolding flag signed delta_of target_of move_to_of hue_move_of saturation_move_of mireds_to_of mireds_move_of color_loop_of task_of task_fits task_known call_of call_known read_of known_of
 start-words =
     record {
       move-to = (refl, refl);
@@ -363,7 +364,7 @@ unfolding sign_of task_numbers given_numbers
 answer-words = record { given = refl; stopping = refl; nothing = refl }
 
 pub numbers-returned : NumbersReturned
-unfolding making made answered lamp_fits lamp_known color_mode_known enhanced_mode_known loop_direction_known on_off_known direction_known record_known command_fits command_known call_known
+unfolding making made answered lamp_fits lamp_known record_known command_fits command_known call_known known_of
 numbers-returned =
     record {
       new-short = refl;

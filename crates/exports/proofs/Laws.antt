@@ -1,7 +1,8 @@
 -- Reading inverts writing: what is written of an enum, a task, a running record or a lamp is known, and is read as what it
 -- was. Of a lamp this asks that its numbers are within their types and that it is valid, which bounds its ways: the
 -- smallest number of 64 bits with a sign has a size that no field takes.
-use Rattle.std.specs.Prelude.{Option, Some, None}
+use Rattle.std.specs.Prelude.{List, Option, Some, None, Ok, is_ok}
+use Rattle.std.specs.Result.{result_unwrap_or}
 use Prim.Native.Nat.{ℕ, suc, ◌%◌, ◌^◌, ◌<◌}
 use mathlib.Core.Bool.{Bool, true, false, not}
 use mathlib.Core.Path.{◌≡◌, refl, ap}
@@ -22,7 +23,7 @@ use Rattle.matter.specs.declared.enums.OnOff.{OnOff}
 use Rattle.matter.specs.declared.limits.Bounds.{Bounds}
 use Rattle.matter.proofs.Laws.{and_left, and_right, each}
 use Rattle.matter.proofs.Laws as by_number
-use Rattle.matter.specs.Numbers.{direction_number, move_mode_number, step_mode_number, loop_action_number, loop_direction_number, color_mode_number, enhanced_color_mode_number, on_off_number}
+use Rattle.matter.specs.Numbers.{found_in, direction_number, directions, move_mode_number, move_modes, step_mode_number, step_modes, loop_action_number, loop_actions, loop_direction_number, loop_directions, color_mode_number, color_modes, enhanced_color_mode_number, enhanced_color_modes, on_off_number, on_offs}
 use Rattle.tasks.specs.declared.Task.{Task}
 use Rattle.tasks.specs.declared.Running.{Running}
 use Rattle.tasks.specs.Valid.{small, delta_valid, rate_valid, move_to_valid, running_valid}
@@ -32,7 +33,7 @@ use Rattle.lamp.specs.Valid.{lamp_valid}
 use Rattle.lamp.proofs.Kept.{valid-running}
 use Rattle.lamp.specs.InRange.{InRangeLamp}
 use Rattle.exports.specs.Words.{flag, flag_number, signed, sign_of, size_of}
-use Rattle.exports.specs.Enums.{direction_case, move_mode_case, step_mode_case, loop_action_case, loop_direction_case, color_mode_case, enhanced_mode_case, on_off_case, direction_has, move_mode_has, step_mode_has, loop_action_has, loop_direction_has, color_mode_has, enhanced_mode_has, on_off_has, direction_read, move_mode_read, step_mode_read, loop_action_read, loop_direction_read, color_mode_read, enhanced_mode_read, on_off_read, direction_known, move_mode_known, step_mode_known, loop_action_known, loop_direction_known, color_mode_known, enhanced_mode_known, on_off_known}
+use Rattle.exports.specs.Enums.{read_of, known_of, direction_read, direction_known, move_mode_read, move_mode_known, step_mode_read, step_mode_known, loop_action_read, loop_action_known, loop_direction_read, loop_direction_known, color_mode_read, color_mode_known, enhanced_mode_read, enhanced_mode_known, on_off_read, on_off_known}
 use Rattle.exports.specs.Moves.{delta_of, target_of, move_to_of, hue_move_of, saturation_move_of, mireds_to_of, mireds_move_of, color_loop_of, task_of, running_of, task_fits, task_known, record_known, none, delta_sign, delta_size, target_given, target_number, task_numbers, record_numbers}
 use Rattle.exports.specs.RoundTrips.{Back}
 use Rattle.exports.specs.Lamps.{record_of, lamp_of, lamp_fits, lamp_known, lamp_words}
@@ -48,37 +49,34 @@ unfolding flag
 flag-back true = record { same = refl; taken = refl }
 flag-back false = record { same = refl; taken = refl }
 
+-- an enum's case, which is found by its number
+back-of : {E : Type 0} (number : E → ℕ) (cases : List E) (reserved x : E) → found_in number cases (number x) ≡ Ok x → Back (read_of number cases reserved) (known_of number cases) (number x) x
+unfolding read_of known_of
+back-of number cases reserved x e = record { same = ap (λ r. result_unwrap_or r reserved) e; taken = ap is_ok e }
+
 pub direction-back : (d : DirectionEnum) → Back direction_read direction_known (direction_number d) d
-unfolding direction_read direction_known
-direction-back d = record { same = ap direction_case (by_number.direction-back d); taken = ap direction_has (by_number.direction-back d) }
+direction-back d = back-of direction_number directions DirectionEnum.Shortest d (by_number.direction-back d)
 
 pub move-mode-back : (m : MoveModeEnum) → Back move_mode_read move_mode_known (move_mode_number m) m
-unfolding move_mode_read move_mode_known
-move-mode-back m = record { same = ap move_mode_case (by_number.move-mode-back m); taken = ap move_mode_has (by_number.move-mode-back m) }
+move-mode-back m = back-of move_mode_number move_modes MoveModeEnum.Stop m (by_number.move-mode-back m)
 
 pub step-mode-back : (m : StepModeEnum) → Back step_mode_read step_mode_known (step_mode_number m) m
-unfolding step_mode_read step_mode_known
-step-mode-back m = record { same = ap step_mode_case (by_number.step-mode-back m); taken = ap step_mode_has (by_number.step-mode-back m) }
+step-mode-back m = back-of step_mode_number step_modes StepModeEnum.Down m (by_number.step-mode-back m)
 
 pub loop-action-back : (a : ColorLoopActionEnum) → Back loop_action_read loop_action_known (loop_action_number a) a
-unfolding loop_action_read loop_action_known
-loop-action-back a = record { same = ap loop_action_case (by_number.loop-action-back a); taken = ap loop_action_has (by_number.loop-action-back a) }
+loop-action-back a = back-of loop_action_number loop_actions ColorLoopActionEnum.Deactivate a (by_number.loop-action-back a)
 
 pub loop-direction-back : (d : ColorLoopDirectionEnum) → Back loop_direction_read loop_direction_known (loop_direction_number d) d
-unfolding loop_direction_read loop_direction_known
-loop-direction-back d = record { same = ap loop_direction_case (by_number.loop-direction-back d); taken = ap loop_direction_has (by_number.loop-direction-back d) }
+loop-direction-back d = back-of loop_direction_number loop_directions ColorLoopDirectionEnum.Decrement d (by_number.loop-direction-back d)
 
 pub color-mode-back : (m : ColorModeEnum) → Back color_mode_read color_mode_known (color_mode_number m) m
-unfolding color_mode_read color_mode_known
-color-mode-back m = record { same = ap color_mode_case (by_number.color-mode-back m); taken = ap color_mode_has (by_number.color-mode-back m) }
+color-mode-back m = back-of color_mode_number color_modes ColorModeEnum.CurrentHueAndCurrentSaturation m (by_number.color-mode-back m)
 
 pub enhanced-mode-back : (m : EnhancedColorModeEnum) → Back enhanced_mode_read enhanced_mode_known (enhanced_color_mode_number m) m
-unfolding enhanced_mode_read enhanced_mode_known
-enhanced-mode-back m = record { same = ap enhanced_mode_case (by_number.enhanced-color-mode-back m); taken = ap enhanced_mode_has (by_number.enhanced-color-mode-back m) }
+enhanced-mode-back m = back-of enhanced_color_mode_number enhanced_color_modes EnhancedColorModeEnum.CurrentHueAndCurrentSaturation m (by_number.enhanced-color-mode-back m)
 
 pub on-off-back : (o : OnOff) → Back on_off_read on_off_known (on_off_number o) o
-unfolding on_off_read on_off_known
-on-off-back o = record { same = ap on_off_case (by_number.on-off-back o); taken = ap on_off_has (by_number.on-off-back o) }
+on-off-back o = back-of on_off_number on_offs OnOff.Off o (by_number.on-off-back o)
 
 -- ---- signed numbers
 

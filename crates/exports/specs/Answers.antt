@@ -1,5 +1,6 @@
 -- An answer in 25 words: its number, the sixteen notices, the task it gives and the wait.
 use Rattle.std.specs.Prelude.{ℕ, cond, List, [], ◌∷◌, ◌++◌, ltb}
+use Rattle.matter.specs.Causes.{number_of}
 use Rattle.notices.specs.declared.Notices.{Notices}
 use Rattle.lamp.specs.declared.Answer.{Answer}
 use Rattle.exports.specs.Words.{at}
@@ -19,4 +20,4 @@ place_words n =
     ∷ place p 10 ∷ place p 11 ∷ place p 12 ∷ place p 13 ∷ place p 14 ∷ place p 15 ∷ []
 
 abbrev pub answer_words : Answer → List ℕ
-answer_words r = (r.number ∷ []) ++ place_words r.notices ++ task_words (given_numbers r.task) ++ (r.wait ∷ [])
+answer_words r = (number_of r.verdict ∷ []) ++ place_words r.notices ++ task_words (given_numbers r.task) ++ (r.wait ∷ [])

@@ -1,12 +1,11 @@
 -- A call in ten words: its kind, the clock, the on/off number; then a command's mask, override and five arguments, or a
 -- task's kind and six numbers.
-use Rattle.std.specs.Prelude.{ℕ, Bool, cond, not, ◌&&◌, ◌||◌, List, leb, ltb, eqb, length}
+use Rattle.std.specs.Prelude.{ℕ, Option, Some, None, Bool, cond, not, ◌&&◌, ◌||◌, List, leb, ltb, eqb, length}
 use Rattle.matter.specs.declared.commands.Command.{Command}
 use Rattle.matter.specs.declared.commands.Request.{Request}
 use Rattle.matter.specs.Requests.{request, options}
 use Rattle.lamp.specs.declared.Lamp.{Lamp}
 use Rattle.lamp.specs.declared.Answer.{Answer}
-use Rattle.lamp.specs.Answers.{refusal}
 use Rattle.lamp.specs.declared.Call.{Call}
 use Rattle.commands.specs.Answers.{answer}
 use Rattle.exports.specs.declared.moves.TaskNumbers.{TaskNumbers}
@@ -17,10 +16,6 @@ use Rattle.exports.specs.Enums.{direction_read, move_mode_read, step_mode_read, 
 use Rattle.exports.specs.Enums.{on_off_read, direction_known, move_mode_known, step_mode_known, loop_action_known}
 use Rattle.exports.specs.Enums.{loop_direction_known, on_off_known}
 use Rattle.exports.specs.Moves.{task_of, task_known}
-
--- the number of an answer to words that are no call
-abbrev pub unreadable : ℕ
-unreadable = 100
 
 -- ---- commands
 
@@ -130,5 +125,5 @@ call_known w =
     || (command_known (command_numbers w) && on_off_known (at w 2)))
 
 -- the answer to a call in words; a kind past the last one is no call
-unfoldable pub sent : Lamp → List ℕ → Answer
-sent l w = cond (ltb K.halt (at w 0)) (refusal l unreadable) (answer l (call_of w))
+unfoldable pub sent : Lamp → List ℕ → Option Answer
+sent l w = cond (ltb K.halt (at w 0)) None (Some (answer l (call_of w)))

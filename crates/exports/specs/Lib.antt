@@ -1,5 +1,6 @@
 pub mod Words
 pub mod Enums
+pub mod Failures
 pub mod Moves
 pub mod Lamps
 pub mod Kinds

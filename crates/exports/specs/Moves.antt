@@ -1,8 +1,7 @@
 -- Tasks and running records as numbers: a kind and its numbers in the protocol's order, unused places 0.
 -- Kinds: 0 no task, or an idle lamp; 1 HueSaturationMoveTo; 2 HueMove; 3 SaturationMove; 4 ColorTemperatureMoveTo;
 -- 5 ColorTemperatureMove; 6 ColorLoop; 7 Stop.
-use Rattle.std.specs.Prelude.{Option, Some, None}
-use Rattle.std.specs.Prelude.{ℕ, Bool, cond, not, ◌&&◌, ◌||◌, eqb, leb}
+use Rattle.std.specs.Prelude.{ℤ, Option, Some, None, ℕ, Bool, cond, not, ◌&&◌, ◌||◌, eqb, leb}
 use Rattle.matter.specs.Numbers.{move_mode_number, loop_direction_number}
 use Rattle.tasks.specs.declared.HueSaturationMoveTo.{HueSaturationMoveTo}
 use Rattle.tasks.specs.declared.HueMove.{HueMove}

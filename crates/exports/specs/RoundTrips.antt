@@ -7,8 +7,10 @@ use Rattle.lamp.specs.Valid.{lamp_valid}
 use Rattle.lamp.specs.InRange.{InRangeLamp}
 use Rattle.exports.specs.Words.{at}
 use Rattle.exports.specs.Lamps.{lamp_of, lamp_known, lamp_words}
-use Rattle.exports.specs.Calls.{unreadable, call_known, sent}
-use Rattle.exports.specs.Exported.{Answered, unreadable_lamp, no_room, made, taken, away, answered}
+use Rattle.commands.specs.Answers as C
+use Rattle.exports.specs.Failures.{unreadable, unreadable_lamp, no_room}
+use Rattle.exports.specs.Calls.{call_of, call_known}
+use Rattle.exports.specs.Exported.{Answered, made, taken, away, answered}
 
 -- what is written of a thing is known, and is read as the thing
 pub record Back {A N : Type 0} (read : N → A) (known : N → Bool) (written : N) (thing : A) : Type 0 where
@@ -24,10 +26,10 @@ pub record Good (l : Lamp) : Type 0 where
 unfoldable pub replied : Lamp → List ℕ → List ℕ → Answered
 replied l call answer =
     cond (not (eqb (length answer) 25)) (away no_room (lamp_words l) answer)
-    (cond (not (call_known call)) (away unreadable (lamp_words l) answer) (taken (sent l call)))
+    (cond (not (call_known call)) (away unreadable (lamp_words l) answer) (taken (C.answer l (call_of call))))
 
 unfoldable pub left : Lamp → List ℕ → List ℕ → Lamp
-left l call answer = cond (eqb (length answer) 25 && call_known call) (sent l call).lamp l
+left l call answer = cond (eqb (length answer) 25 && call_known call) (C.answer l (call_of call)).lamp l
 
 -- a call's words, and those that stand where its answer is to go
 pub record Sending : Type 0 where

@@ -3,8 +3,9 @@ ghost use Rattle.std.specs.Prelude.{◌≡◌};
 ghost use Rattle.exports.specs.Answers as S;
 ghost use Rattle.exports.specs.Answers.{answer_words};
 
-use crate::moves;
+use crate::moves::TaskNumbers;
 use lamp::Answer;
+use matter::number_of;
 
 pub const ANSWER_WORDS: usize = 25;
 
@@ -15,15 +16,14 @@ pub fn place(p: [u8; 16], i: usize) -> u64
     if i < 16 { p[i] as u64 } else { 0 }
 }
 
+// Place by place, as C reads them: a loop would need an invariant, and hide the layout.
 pub(crate) fn answer_words(answer: Answer) -> [u64; 25]
     ensures { result ≡ answer_words answer }
 {
-    let notices = answer.notices;
-    let p = notices.places;
-    let given = answer.task;
-    let task = moves::of_given(given);
+    let p = answer.notices.places;
+    let task = TaskNumbers::from(answer.task);
     [
-        answer.number as u64,
+        number_of(answer.verdict) as u64,
         place(p, 0),
         place(p, 1),
         place(p, 2),

@@ -8,7 +8,10 @@ use crate::moves::TaskNumbers;
 use crate::words::at;
 use crate::{enums, words};
 use lamp::{Answer, Call, Lamp};
-use matter::{Command, CommandOptions, Request};
+use matter::{
+    ColorLoopActionEnum, ColorLoopDirectionEnum, Command, CommandOptions, DirectionEnum,
+    MoveModeEnum, OnOff, Request, StepModeEnum,
+};
 
 pub const CALL_WORDS: usize = 10;
 
@@ -49,9 +52,6 @@ pub const STEP: u64 = 257;
 
 pub const HALT: u64 = 258;
 
-// The number of a call that cannot be read.
-pub const UNREADABLE: u8 = 100;
-
 // A command's number, options and arguments.
 #[derive(Clone, Copy)]
 pub struct CommandNumbers {
@@ -70,24 +70,22 @@ impl CommandNumbers {
     fn hue_command(self) -> Command
         ensures { result ≡ hue_command self }
     {
-        if self.kind == MOVE_TO_HUE {
-            return Command::MoveToHue {
+        match self.kind {
+            MOVE_TO_HUE => Command::MoveToHue {
                 hue: words::byte(self.a),
-                direction: enums::direction(self.b),
+                direction: enums::read(self.b),
                 time: words::short(self.c),
-            };
-        }
-        if self.kind == MOVE_HUE {
-            return Command::MoveHue {
-                mode: enums::move_mode(self.a),
+            },
+            MOVE_HUE => Command::MoveHue {
+                mode: enums::read(self.a),
                 rate: words::byte(self.b),
                 enhanced: words::flag(self.c),
-            };
-        }
-        Command::StepHue {
-            mode: enums::step_mode(self.a),
-            size: words::byte(self.b),
-            time: words::short(self.c),
+            },
+            _ => Command::StepHue {
+                mode: enums::read(self.a),
+                size: words::byte(self.b),
+                time: words::short(self.c),
+            },
         }
     }
 
@@ -95,31 +93,27 @@ impl CommandNumbers {
     fn saturation_command(self) -> Command
         ensures { result ≡ saturation_command self }
     {
-        if self.kind == MOVE_TO_SATURATION {
-            return Command::MoveToSaturation {
+        match self.kind {
+            MOVE_TO_SATURATION => Command::MoveToSaturation {
                 saturation: words::byte(self.a),
                 time: words::short(self.b),
-            };
-        }
-        if self.kind == MOVE_SATURATION {
-            return Command::MoveSaturation {
-                mode: enums::move_mode(self.a),
+            },
+            MOVE_SATURATION => Command::MoveSaturation {
+                mode: enums::read(self.a),
                 rate: words::byte(self.b),
-            };
-        }
-        if self.kind == STEP_SATURATION {
-            return Command::StepSaturation {
-                mode: enums::step_mode(self.a),
+            },
+            STEP_SATURATION => Command::StepSaturation {
+                mode: enums::read(self.a),
                 size: words::byte(self.b),
                 time: words::short(self.c),
-            };
-        }
-        Command::MoveToHueAndSaturation {
-            hue: words::byte(self.a),
-            saturation: words::byte(self.b),
-            time: words::short(self.c),
-            enhanced: words::flag(self.d),
-            enhanced_hue: words::short(self.e),
+            },
+            _ => Command::MoveToHueAndSaturation {
+                hue: words::byte(self.a),
+                saturation: words::byte(self.b),
+                time: words::short(self.c),
+                enhanced: words::flag(self.d),
+                enhanced_hue: words::short(self.e),
+            },
         }
     }
 
@@ -127,23 +121,21 @@ impl CommandNumbers {
     fn enhanced_command(self) -> Command
         ensures { result ≡ enhanced_command self }
     {
-        if self.kind == ENHANCED_MOVE_TO_HUE {
-            return Command::EnhancedMoveToHue {
+        match self.kind {
+            ENHANCED_MOVE_TO_HUE => Command::EnhancedMoveToHue {
                 hue: words::short(self.a),
-                direction: enums::direction(self.b),
+                direction: enums::read(self.b),
                 time: words::short(self.c),
-            };
-        }
-        if self.kind == ENHANCED_MOVE_HUE {
-            return Command::EnhancedMoveHue {
-                mode: enums::move_mode(self.a),
+            },
+            ENHANCED_MOVE_HUE => Command::EnhancedMoveHue {
+                mode: enums::read(self.a),
                 rate: words::short(self.b),
-            };
-        }
-        Command::EnhancedStepHue {
-            mode: enums::step_mode(self.a),
-            size: words::short(self.b),
-            time: words::short(self.c),
+            },
+            _ => Command::EnhancedStepHue {
+                mode: enums::read(self.a),
+                size: words::short(self.b),
+                time: words::short(self.c),
+            },
         }
     }
 
@@ -151,26 +143,24 @@ impl CommandNumbers {
     fn mireds_command(self) -> Command
         ensures { result ≡ mireds_command self }
     {
-        if self.kind == MOVE_TO_COLOR_TEMPERATURE {
-            return Command::MoveToColorTemperature {
+        match self.kind {
+            MOVE_TO_COLOR_TEMPERATURE => Command::MoveToColorTemperature {
                 mireds: words::short(self.a),
                 time: words::short(self.b),
-            };
-        }
-        if self.kind == MOVE_COLOR_TEMPERATURE {
-            return Command::MoveColorTemperature {
-                mode: enums::move_mode(self.a),
+            },
+            MOVE_COLOR_TEMPERATURE => Command::MoveColorTemperature {
+                mode: enums::read(self.a),
                 rate: words::short(self.b),
                 min: words::short(self.c),
                 max: words::short(self.d),
-            };
-        }
-        Command::StepColorTemperature {
-            mode: enums::step_mode(self.a),
-            size: words::short(self.b),
-            time: words::short(self.c),
-            min: words::short(self.d),
-            max: words::short(self.e),
+            },
+            _ => Command::StepColorTemperature {
+                mode: enums::read(self.a),
+                size: words::short(self.b),
+                time: words::short(self.c),
+                min: words::short(self.d),
+                max: words::short(self.e),
+            },
         }
     }
 
@@ -180,8 +170,8 @@ impl CommandNumbers {
     {
         Command::ColorLoopSet {
             flags: words::byte(self.a),
-            action: enums::loop_action(self.b),
-            direction: enums::loop_direction(self.c),
+            action: enums::read(self.b),
+            direction: enums::read(self.c),
             time: words::short(self.d),
             start_hue: words::short(self.e),
         }
@@ -191,22 +181,14 @@ impl CommandNumbers {
     fn command(self) -> Command
         ensures { result ≡ command_of self }
     {
-        if self.kind <= STEP_HUE {
-            return self.hue_command();
+        match self.kind {
+            MOVE_TO_HUE..=STEP_HUE => self.hue_command(),
+            MOVE_TO_SATURATION..=MOVE_TO_HUE_AND_SATURATION => self.saturation_command(),
+            COLOR_LOOP_SET => self.loop_command(),
+            STOP_MOVE_STEP => Command::StopMoveStep,
+            ENHANCED_MOVE_TO_HUE..=ENHANCED_STEP_HUE => self.enhanced_command(),
+            _ => self.mireds_command(),
         }
-        if self.kind <= MOVE_TO_HUE_AND_SATURATION {
-            return self.saturation_command();
-        }
-        if self.kind == COLOR_LOOP_SET {
-            return self.loop_command();
-        }
-        if self.kind == STOP_MOVE_STEP {
-            return Command::StopMoveStep;
-        }
-        if (ENHANCED_MOVE_TO_HUE <= self.kind) & (self.kind <= ENHANCED_STEP_HUE) {
-            return self.enhanced_command();
-        }
-        self.mireds_command()
     }
 
     #[tactic(auto, unfolding(crate::specs::Calls::request_of))]
@@ -227,7 +209,6 @@ impl CommandNumbers {
     fn fits(self) -> bool
         ensures { result ≡ command_fits self }
     {
-        let k = self.kind;
         (self.mask <= 255)
             & (self.overrides <= 255)
             & (self.a <= 65535)
@@ -235,19 +216,13 @@ impl CommandNumbers {
             & (self.c <= 65535)
             & (self.d <= 65535)
             & (self.e <= 65535)
-            & (!((k == MOVE_TO_HUE)
-                | (k == MOVE_TO_SATURATION)
-                | (k == MOVE_TO_HUE_AND_SATURATION)
-                | (k == COLOR_LOOP_SET))
-                | (self.a <= 255))
-            & (!((k == MOVE_HUE)
-                | (k == STEP_HUE)
-                | (k == MOVE_SATURATION)
-                | (k == STEP_SATURATION)
-                | (k == MOVE_TO_HUE_AND_SATURATION))
-                | (self.b <= 255))
-            & (!(k == MOVE_HUE) | (self.c <= 1))
-            & (!(k == MOVE_TO_HUE_AND_SATURATION) | (self.d <= 1))
+            & match self.kind {
+                MOVE_TO_HUE | MOVE_TO_SATURATION | COLOR_LOOP_SET => self.a <= 255,
+                MOVE_HUE => (self.b <= 255) & (self.c <= 1),
+                STEP_HUE | MOVE_SATURATION | STEP_SATURATION => self.b <= 255,
+                MOVE_TO_HUE_AND_SATURATION => { (self.a <= 255) & (self.b <= 255) & (self.d <= 1) }
+                _ => true,
+            }
     }
 
     // Whether the kind and the enums' numbers exist, and each argument is within its field.
@@ -255,26 +230,25 @@ impl CommandNumbers {
     fn known(self) -> bool
         ensures { result ≡ command_known self }
     {
-        let k = self.kind;
         self.fits()
-            & ((((k == MOVE_TO_HUE) | (k == ENHANCED_MOVE_TO_HUE)) & enums::direction_known(self.b))
-                | (((k == MOVE_HUE)
-                    | (k == MOVE_SATURATION)
-                    | (k == ENHANCED_MOVE_HUE)
-                    | (k == MOVE_COLOR_TEMPERATURE))
-                    & enums::move_mode_known(self.a))
-                | (((k == STEP_HUE)
-                    | (k == STEP_SATURATION)
-                    | (k == ENHANCED_STEP_HUE)
-                    | (k == STEP_COLOR_TEMPERATURE))
-                    & enums::step_mode_known(self.a))
-                | (k == MOVE_TO_SATURATION)
-                | (k == MOVE_TO_HUE_AND_SATURATION)
-                | (k == MOVE_TO_COLOR_TEMPERATURE)
-                | (k == STOP_MOVE_STEP)
-                | ((k == COLOR_LOOP_SET)
-                    & enums::loop_action_known(self.b)
-                    & enums::loop_direction_known(self.c)))
+            & match self.kind {
+                MOVE_TO_HUE | ENHANCED_MOVE_TO_HUE => enums::is_known::<DirectionEnum>(self.b),
+                MOVE_HUE | MOVE_SATURATION | ENHANCED_MOVE_HUE | MOVE_COLOR_TEMPERATURE => {
+                    enums::is_known::<MoveModeEnum>(self.a)
+                }
+                STEP_HUE | STEP_SATURATION | ENHANCED_STEP_HUE | STEP_COLOR_TEMPERATURE => {
+                    enums::is_known::<StepModeEnum>(self.a)
+                }
+                MOVE_TO_SATURATION
+                | MOVE_TO_HUE_AND_SATURATION
+                | MOVE_TO_COLOR_TEMPERATURE
+                | STOP_MOVE_STEP => true,
+                COLOR_LOOP_SET => {
+                    enums::is_known::<ColorLoopActionEnum>(self.b)
+                        & enums::is_known::<ColorLoopDirectionEnum>(self.c)
+                }
+                _ => false,
+            }
     }
 }
 
@@ -319,7 +293,7 @@ pub(crate) fn call_known(w: &[u64]) -> bool
         & (((kind == START) & task.known())
             | (kind == STEP)
             | (kind == HALT)
-            | (command.known() & enums::on_off_known(at(w, 2))))
+            | (command.known() & enums::is_known::<OnOff>(at(w, 2))))
 }
 
 // The call that the words mean; `call_known` says whether they are one.
@@ -327,34 +301,30 @@ pub(crate) fn call_known(w: &[u64]) -> bool
 pub fn call_of(w: &[u64]) -> Call
     ensures { result ≡ call_of w.now }
 {
-    let kind = at(w, 0);
     let clock = at(w, 1);
-    if kind == STEP {
-        return Call::Step { clock };
-    }
-    if kind == START {
-        let task = task_numbers(w).task();
-        return Call::Start { task, clock };
-    }
-    if kind == HALT {
-        return Call::Halt { clock };
-    }
-    let request = command_numbers(w).request();
-    let on_off = enums::on_off(at(w, 2));
-    Call::Command {
-        request,
-        on_off,
-        clock,
+    match at(w, 0) {
+        STEP => Call::Step { clock },
+        START => Call::Start {
+            task: task_numbers(w).task(),
+            clock,
+        },
+        HALT => Call::Halt { clock },
+        _ => Call::Command {
+            request: command_numbers(w).request(),
+            on_off: enums::read(at(w, 2)),
+            clock,
+        },
     }
 }
 
-// Sends a call to the lamp. A kind past the last one is no call.
+// The answer to a call. A kind past the last one is no call.
 #[tactic(auto, unfolding(crate::specs::Calls::sent))]
-pub fn sent(lamp: Lamp, w: &[u64]) -> Answer
+pub fn sent(lamp: Lamp, w: &[u64]) -> Option<Answer>
     ensures { result ≡ C.sent lamp w.now }
 {
     if HALT < at(w, 0) {
-        return lamp.refused(UNREADABLE);
+        None
+    } else {
+        Some(commands::call(lamp, call_of(w)))
     }
-    commands::call(lamp, call_of(w))
 }

@@ -1,173 +1,162 @@
-// The cluster's enums by their numbers, which `matter` states. A number that no case has is read as the case that the
-// line of `Reserved` has here.
-ghost use Rattle.std.specs.Prelude.{◌≡◌};
-ghost use Rattle.exports.specs.Enums.{direction_read, move_mode_read, step_mode_read, loop_action_read, loop_direction_read, color_mode_read, enhanced_mode_read, on_off_read, direction_known, move_mode_known, step_mode_known, loop_action_known, loop_direction_known, color_mode_known, enhanced_mode_known, on_off_known};
+// The cluster's enums by their numbers, which `matter` states. A number that no case has is read as the enum's case
+// `RESERVED`.
+ghost use Rattle.std.specs.Prelude.{◌≡◌, ℕ, Bool, true, List, Result, refl};
+ghost use Rattle.matter.specs.declared.enums.Reserved.{Reserved};
+ghost use Rattle.matter.specs.declared.enums.DirectionEnum.{DirectionEnum};
+ghost use Rattle.matter.specs.declared.enums.MoveModeEnum.{MoveModeEnum};
+ghost use Rattle.matter.specs.declared.enums.StepModeEnum.{StepModeEnum};
+ghost use Rattle.matter.specs.declared.enums.ColorLoopActionEnum.{ColorLoopActionEnum};
+ghost use Rattle.matter.specs.declared.enums.ColorLoopDirectionEnum.{ColorLoopDirectionEnum};
+ghost use Rattle.matter.specs.declared.enums.ColorModeEnum.{ColorModeEnum};
+ghost use Rattle.matter.specs.declared.enums.EnhancedColorModeEnum.{EnhancedColorModeEnum};
+ghost use Rattle.matter.specs.declared.enums.OnOff.{OnOff};
+ghost use Rattle.matter.specs.Numbers.{found_in, direction_number, directions, move_mode_number, move_modes, step_mode_number, step_modes, loop_action_number, loop_actions, loop_direction_number, loop_directions, color_mode_number, color_modes, enhanced_color_mode_number, enhanced_color_modes, on_off_number, on_offs};
+ghost use Rattle.exports.specs.Enums.{read_of, known_of, below};
 
 use crate::words;
 use matter::{
-    ColorLoopActionEnum, ColorLoopActionFound, ColorLoopDirectionEnum, ColorLoopDirectionFound,
-    ColorModeEnum, ColorModeFound, DirectionEnum, DirectionFound, EnhancedColorModeEnum,
-    EnhancedColorModeFound, MoveModeEnum, MoveModeFound, OnOff, OnOffFound, StepModeEnum,
-    StepModeFound,
+    ColorLoopActionEnum, ColorLoopDirectionEnum, ColorModeEnum, DirectionEnum,
+    EnhancedColorModeEnum, MoveModeEnum, OnOff, Reserved, StepModeEnum,
 };
 
-#[tactic(auto, using(crate::proofs::Found::capped_test), unfolding(crate::specs::Enums::direction_read))]
-pub(crate) fn direction(n: u64) -> DirectionEnum
-    ensures { result ≡ direction_read n }
-{
-    match DirectionEnum::of_number(words::capped(n)) {
-        DirectionFound::Known(direction) => direction,
-        DirectionFound::Reserved => DirectionEnum::Shortest,
-    }
+// An enum whose cases are found by their numbers, all of them below 255, which a number past eight bits is read as.
+pub(crate) trait Numbered: TryFrom<u8, Error = Reserved> + Copy {
+    // The case that a number is read as which none has.
+    ghost RESERVED: { Self };
+
+    const RESERVED: Self;
+
+    ghost number: { Self → ℕ };
+
+    ghost cases: { List Self };
+
+    ghost finds: { (n : ℕ) (r : Result Self Reserved) → Self.try_from_gives n r → r ≡ found_in number cases n };
+
+    ghost ends: { below number cases ≡ true };
 }
 
-#[tactic(auto, using(crate::proofs::Found::capped_test), unfolding(crate::specs::Enums::move_mode_read))]
-pub(crate) fn move_mode(n: u64) -> MoveModeEnum
-    ensures { result ≡ move_mode_read n }
-{
-    match MoveModeEnum::of_number(words::capped(n)) {
-        MoveModeFound::Known(mode) => mode,
-        MoveModeFound::Reserved => MoveModeEnum::Stop,
-    }
+impl Numbered for DirectionEnum {
+    ghost RESERVED = { DirectionEnum.Shortest };
+
+    const RESERVED: DirectionEnum = DirectionEnum::Shortest;
+
+    ghost number = { direction_number };
+
+    ghost cases = { directions };
+
+    ghost finds = { λ _ _ e. e };
+
+    ghost ends = { refl };
 }
 
-#[tactic(auto, using(crate::proofs::Found::capped_test), unfolding(crate::specs::Enums::step_mode_read))]
-pub(crate) fn step_mode(n: u64) -> StepModeEnum
-    ensures { result ≡ step_mode_read n }
-{
-    match StepModeEnum::of_number(words::capped(n)) {
-        StepModeFound::Known(mode) => mode,
-        StepModeFound::Reserved => StepModeEnum::Down,
-    }
+impl Numbered for MoveModeEnum {
+    ghost RESERVED = { MoveModeEnum.Stop };
+
+    const RESERVED: MoveModeEnum = MoveModeEnum::Stop;
+
+    ghost number = { move_mode_number };
+
+    ghost cases = { move_modes };
+
+    ghost finds = { λ _ _ e. e };
+
+    ghost ends = { refl };
 }
 
-#[tactic(auto, using(crate::proofs::Found::capped_test), unfolding(crate::specs::Enums::loop_action_read))]
-pub(crate) fn loop_action(n: u64) -> ColorLoopActionEnum
-    ensures { result ≡ loop_action_read n }
-{
-    match ColorLoopActionEnum::of_number(words::capped(n)) {
-        ColorLoopActionFound::Known(action) => action,
-        ColorLoopActionFound::Reserved => ColorLoopActionEnum::Deactivate,
-    }
+impl Numbered for StepModeEnum {
+    ghost RESERVED = { StepModeEnum.Down };
+
+    const RESERVED: StepModeEnum = StepModeEnum::Down;
+
+    ghost number = { step_mode_number };
+
+    ghost cases = { step_modes };
+
+    ghost finds = { λ _ _ e. e };
+
+    ghost ends = { refl };
 }
 
-#[tactic(auto, using(crate::proofs::Found::capped_test), unfolding(crate::specs::Enums::loop_direction_read))]
-pub(crate) fn loop_direction(n: u64) -> ColorLoopDirectionEnum
-    ensures { result ≡ loop_direction_read n }
-{
-    match ColorLoopDirectionEnum::of_number(words::capped(n)) {
-        ColorLoopDirectionFound::Known(direction) => direction,
-        ColorLoopDirectionFound::Reserved => ColorLoopDirectionEnum::Decrement,
-    }
+impl Numbered for ColorLoopActionEnum {
+    ghost RESERVED = { ColorLoopActionEnum.Deactivate };
+
+    const RESERVED: ColorLoopActionEnum = ColorLoopActionEnum::Deactivate;
+
+    ghost number = { loop_action_number };
+
+    ghost cases = { loop_actions };
+
+    ghost finds = { λ _ _ e. e };
+
+    ghost ends = { refl };
 }
 
-#[tactic(auto, using(crate::proofs::Found::capped_test), unfolding(crate::specs::Enums::color_mode_read))]
-pub(crate) fn color_mode(n: u64) -> ColorModeEnum
-    ensures { result ≡ color_mode_read n }
-{
-    match ColorModeEnum::of_number(words::capped(n)) {
-        ColorModeFound::Known(mode) => mode,
-        ColorModeFound::Reserved => ColorModeEnum::CurrentHueAndCurrentSaturation,
-    }
+impl Numbered for ColorLoopDirectionEnum {
+    ghost RESERVED = { ColorLoopDirectionEnum.Decrement };
+
+    const RESERVED: ColorLoopDirectionEnum = ColorLoopDirectionEnum::Decrement;
+
+    ghost number = { loop_direction_number };
+
+    ghost cases = { loop_directions };
+
+    ghost finds = { λ _ _ e. e };
+
+    ghost ends = { refl };
 }
 
-#[tactic(auto, using(crate::proofs::Found::capped_test), unfolding(crate::specs::Enums::enhanced_mode_read))]
-pub(crate) fn enhanced_mode(n: u64) -> EnhancedColorModeEnum
-    ensures { result ≡ enhanced_mode_read n }
-{
-    match EnhancedColorModeEnum::of_number(words::capped(n)) {
-        EnhancedColorModeFound::Known(mode) => mode,
-        EnhancedColorModeFound::Reserved => EnhancedColorModeEnum::CurrentHueAndCurrentSaturation,
-    }
+impl Numbered for ColorModeEnum {
+    ghost RESERVED = { ColorModeEnum.CurrentHueAndCurrentSaturation };
+
+    const RESERVED: ColorModeEnum = ColorModeEnum::CurrentHueAndCurrentSaturation;
+
+    ghost number = { color_mode_number };
+
+    ghost cases = { color_modes };
+
+    ghost finds = { λ _ _ e. e };
+
+    ghost ends = { refl };
 }
 
-#[tactic(auto, using(crate::proofs::Found::capped_test), unfolding(crate::specs::Enums::on_off_read))]
-pub(crate) fn on_off(n: u64) -> OnOff
-    ensures { result ≡ on_off_read n }
+impl Numbered for EnhancedColorModeEnum {
+    ghost RESERVED = { EnhancedColorModeEnum.CurrentHueAndCurrentSaturation };
+
+    const RESERVED: EnhancedColorModeEnum = EnhancedColorModeEnum::CurrentHueAndCurrentSaturation;
+
+    ghost number = { enhanced_color_mode_number };
+
+    ghost cases = { enhanced_color_modes };
+
+    ghost finds = { λ _ _ e. e };
+
+    ghost ends = { refl };
+}
+
+impl Numbered for OnOff {
+    ghost RESERVED = { OnOff.Off };
+
+    const RESERVED: OnOff = OnOff::Off;
+
+    ghost number = { on_off_number };
+
+    ghost cases = { on_offs };
+
+    ghost finds = { λ _ _ e. e };
+
+    ghost ends = { refl };
+}
+
+// The case that the number has.
+pub(crate) fn read<E: Numbered>(n: u64) -> E
+    ensures { result ≡ read_of E.number E.cases E.RESERVED n }
 {
-    match OnOff::of_number(words::capped(n)) {
-        OnOffFound::Known(state) => state,
-        OnOffFound::Reserved => OnOff::Off,
-    }
+    E::try_from(words::capped(n)).unwrap_or(E::RESERVED)
 }
 
 // Whether a case has the number.
-#[tactic(auto, using(crate::proofs::Found::capped_test), unfolding(crate::specs::Enums::direction_known))]
-pub(crate) fn direction_known(number: u64) -> bool
-    ensures { result ≡ direction_known number }
+pub(crate) fn is_known<E: Numbered>(n: u64) -> bool
+    ensures { result ≡ known_of E.number E.cases n }
 {
-    match DirectionEnum::of_number(words::capped(number)) {
-        DirectionFound::Known(_) => true,
-        DirectionFound::Reserved => false,
-    }
-}
-
-#[tactic(auto, using(crate::proofs::Found::capped_test), unfolding(crate::specs::Enums::move_mode_known))]
-pub(crate) fn move_mode_known(number: u64) -> bool
-    ensures { result ≡ move_mode_known number }
-{
-    match MoveModeEnum::of_number(words::capped(number)) {
-        MoveModeFound::Known(_) => true,
-        MoveModeFound::Reserved => false,
-    }
-}
-
-#[tactic(auto, using(crate::proofs::Found::capped_test), unfolding(crate::specs::Enums::step_mode_known))]
-pub(crate) fn step_mode_known(number: u64) -> bool
-    ensures { result ≡ step_mode_known number }
-{
-    match StepModeEnum::of_number(words::capped(number)) {
-        StepModeFound::Known(_) => true,
-        StepModeFound::Reserved => false,
-    }
-}
-
-#[tactic(auto, using(crate::proofs::Found::capped_test), unfolding(crate::specs::Enums::loop_action_known))]
-pub(crate) fn loop_action_known(number: u64) -> bool
-    ensures { result ≡ loop_action_known number }
-{
-    match ColorLoopActionEnum::of_number(words::capped(number)) {
-        ColorLoopActionFound::Known(_) => true,
-        ColorLoopActionFound::Reserved => false,
-    }
-}
-
-#[tactic(auto, using(crate::proofs::Found::capped_test), unfolding(crate::specs::Enums::loop_direction_known))]
-pub(crate) fn loop_direction_known(number: u64) -> bool
-    ensures { result ≡ loop_direction_known number }
-{
-    match ColorLoopDirectionEnum::of_number(words::capped(number)) {
-        ColorLoopDirectionFound::Known(_) => true,
-        ColorLoopDirectionFound::Reserved => false,
-    }
-}
-
-#[tactic(auto, using(crate::proofs::Found::capped_test), unfolding(crate::specs::Enums::color_mode_known))]
-pub(crate) fn color_mode_known(number: u64) -> bool
-    ensures { result ≡ color_mode_known number }
-{
-    match ColorModeEnum::of_number(words::capped(number)) {
-        ColorModeFound::Known(_) => true,
-        ColorModeFound::Reserved => false,
-    }
-}
-
-#[tactic(auto, using(crate::proofs::Found::capped_test), unfolding(crate::specs::Enums::enhanced_mode_known))]
-pub(crate) fn enhanced_mode_known(number: u64) -> bool
-    ensures { result ≡ enhanced_mode_known number }
-{
-    match EnhancedColorModeEnum::of_number(words::capped(number)) {
-        EnhancedColorModeFound::Known(_) => true,
-        EnhancedColorModeFound::Reserved => false,
-    }
-}
-
-#[tactic(auto, using(crate::proofs::Found::capped_test), unfolding(crate::specs::Enums::on_off_known))]
-pub(crate) fn on_off_known(number: u64) -> bool
-    ensures { result ≡ on_off_known number }
-{
-    match OnOff::of_number(words::capped(number)) {
-        OnOffFound::Known(_) => true,
-        OnOffFound::Reserved => false,
-    }
+    E::try_from(words::capped(n)).is_ok()
 }

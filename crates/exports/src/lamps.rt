@@ -6,10 +6,10 @@ ghost use Rattle.exports.specs.Lamps.{color_of, looping_of, record_of, lamp_of, 
 
 use crate::moves::{RecordNumbers, TaskNumbers};
 use crate::words::at;
-use crate::{enums, moves, words};
+use crate::{enums, words};
 use color::{Color, Stamps};
 use lamp::{Lamp, LoopSettings};
-use matter::Bounds;
+use matter::{Bounds, ColorLoopDirectionEnum, ColorModeEnum, EnhancedColorModeEnum};
 use remaining_time::RemainingTime;
 
 pub const LAMP_WORDS: usize = 28;
@@ -30,8 +30,8 @@ fn color(w: &[u64]) -> Color
         hue: words::short(at(w, 8)),
         saturation: words::byte(at(w, 9)),
         mireds: words::short(at(w, 10)),
-        mode: enums::color_mode(at(w, 11)),
-        emode: enums::enhanced_mode(at(w, 12)),
+        mode: enums::read(at(w, 11)),
+        emode: enums::read(at(w, 12)),
         stamps: Stamps {
             hue: at(w, 5),
             saturation: at(w, 6),
@@ -45,7 +45,7 @@ fn looping(w: &[u64]) -> LoopSettings
 {
     LoopSettings {
         active: words::flag(at(w, 13)),
-        direction: enums::loop_direction(at(w, 14)),
+        direction: enums::read(at(w, 14)),
         time: words::short(at(w, 15)),
         start: words::short(at(w, 16)),
         stored: words::short(at(w, 17)),
@@ -116,9 +116,9 @@ pub(crate) fn lamp_known(w: &[u64]) -> bool
     let emode = at(w, 12);
     let direction = at(w, 14);
     lamp_fits(w)
-        & enums::color_mode_known(mode)
-        & enums::enhanced_mode_known(emode)
-        & enums::loop_direction_known(direction)
+        & enums::is_known::<ColorModeEnum>(mode)
+        & enums::is_known::<EnhancedColorModeEnum>(emode)
+        & enums::is_known::<ColorLoopDirectionEnum>(direction)
         & record.known()
 }
 
@@ -127,13 +127,9 @@ pub(crate) fn lamp_words(lamp: Lamp) -> [u64; 28]
 {
     let color = lamp.color;
     let stamps = color.stamps;
-    let mode = color.mode;
-    let emode = color.emode;
     let looping = lamp.looping;
-    let direction = looping.direction;
     let remaining = lamp.remaining;
-    let running = lamp.running;
-    let record = moves::of_running(running);
+    let record = RecordNumbers::from(lamp.running);
     let task = record.task;
     [
         lamp.bounds.min as u64,
@@ -147,10 +143,10 @@ pub(crate) fn lamp_words(lamp: Lamp) -> [u64; 28]
         color.hue as u64,
         color.saturation as u64,
         color.mireds as u64,
-        mode.number() as u64,
-        emode.number() as u64,
+        u8::from(color.mode) as u64,
+        u8::from(color.emode) as u64,
         words::of_flag(looping.active),
-        direction.number() as u64,
+        u8::from(looping.direction) as u64,
         looping.time as u64,
         looping.start as u64,
         looping.stored as u64,

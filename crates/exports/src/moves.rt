@@ -2,13 +2,14 @@
 ghost use Rattle.std.specs.Prelude.{◌≡◌};
 ghost use Rattle.exports.specs.Words.{short};
 ghost use Rattle.exports.specs.Moves as M;
-ghost use Rattle.exports.specs.Moves.{delta_of, target_of, move_to_of, hue_move_of, saturation_move_of, mireds_to_of, mireds_move_of, color_loop_of, task_of, running_of, task_fits, task_known, record_known, delta_sign, delta_size, target_given, target_number, move_to_numbers, hue_move_numbers, saturation_move_numbers, mireds_to_numbers, mireds_move_numbers, color_loop_numbers, task_numbers, given_numbers, found, record_numbers};
+ghost use Rattle.exports.specs.Moves.{delta_of, target_of, move_to_of, hue_move_of, saturation_move_of, mireds_to_of, mireds_move_of, color_loop_of, task_of, running_of, task_fits, task_known, record_known, move_to_numbers, hue_move_numbers, saturation_move_numbers, mireds_to_numbers, mireds_move_numbers, color_loop_numbers, task_numbers, given_numbers, found, record_numbers};
 
 use crate::{enums, words};
+use matter::{ColorLoopDirectionEnum, MoveModeEnum};
 use tasks::{
     ColorLoop, ColorTemperatureMove, ColorTemperatureMoveTo, ColorTemperatureRun,
-    ColorTemperatureToRun, HueMove, HueRun, HueSaturationMoveTo,
-    HueSaturationRun, Running, SaturationMove, SaturationRun, Task,
+    ColorTemperatureToRun, HueMove, HueRun, HueSaturationMoveTo, HueSaturationRun, Running,
+    SaturationMove, SaturationRun, Task,
 };
 
 // The kinds of tasks and records. 0 is no task, and an idle lamp.
@@ -90,7 +91,7 @@ impl TaskNumbers {
         ensures { result ≡ hue_move_of self }
     {
         HueMove {
-            direction: enums::move_mode(self.a),
+            direction: enums::read(self.a),
             rate: words::long(self.b),
             enhanced: words::flag(self.c),
         }
@@ -101,7 +102,7 @@ impl TaskNumbers {
         ensures { result ≡ saturation_move_of self }
     {
         SaturationMove {
-            direction: enums::move_mode(self.a),
+            direction: enums::read(self.a),
             rate: words::long(self.b),
         }
     }
@@ -132,7 +133,7 @@ impl TaskNumbers {
         ensures { result ≡ color_loop_of self }
     {
         ColorLoop {
-            direction: enums::loop_direction(self.a),
+            direction: enums::read::<ColorLoopDirectionEnum>(self.a),
             seconds: words::short(self.b),
         }
     }
@@ -142,18 +143,21 @@ impl TaskNumbers {
     fn fits(self) -> bool
         ensures { result ≡ task_fits self }
     {
-        let k = self.kind;
-        (!(k == MOVE_TO)
-            | ((self.b <= LARGEST)
-                & (self.c <= 1)
-                & (self.d <= 255)
-                & (self.e <= 4294967295)
-                & (self.f <= 1)))
-            & (!(k == HUE_MOVE) | ((self.b <= 4294967295) & (self.c <= 1)))
-            & (!(k == SATURATION_MOVE) | (self.b <= 4294967295))
-            & (!(k == MIREDS_TO) | ((self.a <= 65535) & (self.b <= 4294967295)))
-            & (!(k == MIREDS_MOVE) | ((self.b <= LARGEST) & (self.c <= 65535) & (self.d <= 65535)))
-            & (!(k == LOOP) | (self.b <= 65535))
+        match self.kind {
+            MOVE_TO => {
+                (self.b <= LARGEST)
+                    & (self.c <= 1)
+                    & (self.d <= 255)
+                    & (self.e <= 4294967295)
+                    & (self.f <= 1)
+            }
+            HUE_MOVE => (self.b <= 4294967295) & (self.c <= 1),
+            SATURATION_MOVE => self.b <= 4294967295,
+            MIREDS_TO => (self.a <= 65535) & (self.b <= 4294967295),
+            MIREDS_MOVE => (self.b <= LARGEST) & (self.c <= 65535) & (self.d <= 65535),
+            LOOP => self.b <= 65535,
+            _ => true,
+        }
     }
 
     // Whether the kind and the enums' numbers exist, and each number is within its field.
@@ -162,38 +166,28 @@ impl TaskNumbers {
         ensures { result ≡ task_known self }
     {
         self.fits()
-            & (((self.kind == MOVE_TO) & (self.a <= 2))
-                | (((self.kind == HUE_MOVE) | (self.kind == SATURATION_MOVE))
-                    & enums::move_mode_known(self.a))
-                | (self.kind == MIREDS_TO)
-                | ((self.kind == MIREDS_MOVE) & (self.a <= 2))
-                | ((self.kind == LOOP) & enums::loop_direction_known(self.a))
-                | (self.kind == STOP))
+            & match self.kind {
+                MOVE_TO | MIREDS_MOVE => self.a <= 2,
+                HUE_MOVE | SATURATION_MOVE => enums::is_known::<MoveModeEnum>(self.a),
+                LOOP => enums::is_known::<ColorLoopDirectionEnum>(self.a),
+                MIREDS_TO | STOP => true,
+                _ => false,
+            }
     }
 
     #[tactic(auto, unfolding(crate::specs::Moves::task_of))]
     pub(crate) fn task(self) -> Task
         ensures { result ≡ task_of self }
     {
-        if self.kind == MOVE_TO {
-            return Task::HueSaturationMoveTo(self.move_to());
+        match self.kind {
+            MOVE_TO => Task::HueSaturationMoveTo(self.move_to()),
+            HUE_MOVE => Task::HueMove(self.hue_move()),
+            SATURATION_MOVE => Task::SaturationMove(self.saturation_move()),
+            MIREDS_TO => Task::ColorTemperatureMoveTo(self.mireds_to()),
+            MIREDS_MOVE => Task::ColorTemperatureMove(self.mireds_move()),
+            LOOP => Task::ColorLoop(self.color_loop()),
+            _ => Task::Stop,
         }
-        if self.kind == HUE_MOVE {
-            return Task::HueMove(self.hue_move());
-        }
-        if self.kind == SATURATION_MOVE {
-            return Task::SaturationMove(self.saturation_move());
-        }
-        if self.kind == MIREDS_TO {
-            return Task::ColorTemperatureMoveTo(self.mireds_to());
-        }
-        if self.kind == MIREDS_MOVE {
-            return Task::ColorTemperatureMove(self.mireds_move());
-        }
-        if self.kind == LOOP {
-            return Task::ColorLoop(self.color_loop());
-        }
-        Task::Stop
     }
 }
 
@@ -225,9 +219,7 @@ impl RecordNumbers {
     pub(crate) fn running(self) -> Running
         ensures { result ≡ running_of self }
     {
-        let numbers = self.task;
-        let task = numbers.task();
-        match task {
+        match self.task.task() {
             Task::HueSaturationMoveTo(t) => Running::HueSaturationMoveTo(HueSaturationRun {
                 start: self.start,
                 hue: words::short(self.x),
@@ -252,15 +244,12 @@ impl RecordNumbers {
                 })
             }
             Task::ColorTemperatureMove(t) => Running::ColorTemperatureMove(self.mireds_run(t)),
-            Task::ColorLoop(t) => {
-                let direction = t.direction;
-                Running::ColorLoop {
-                    direction: direction,
-                    hue: words::short(self.x),
-                    seconds: t.seconds,
-                    start: self.start,
-                }
-            }
+            Task::ColorLoop(t) => Running::ColorLoop {
+                direction: t.direction,
+                hue: words::short(self.x),
+                seconds: t.seconds,
+                start: self.start,
+            },
             Task::Stop => Running::Idle,
         }
     }
@@ -270,220 +259,181 @@ fn numbers(kind: u64, a: u64, b: u64, c: u64, d: u64, e: u64, f: u64) -> TaskNum
     ensures { result ≡ M.numbers kind a b c d e f }
 {
     TaskNumbers {
-        kind: kind,
-        a: a,
-        b: b,
-        c: c,
-        d: d,
-        e: e,
-        f: f,
+        kind,
+        a,
+        b,
+        c,
+        d,
+        e,
+        f,
     }
 }
 
-fn delta_sign(delta: Option<i64>) -> u64
-    ensures { result ≡ delta_sign delta }
-{
-    match delta {
-        None => 0,
-        Some(way) => words::sign_of(way),
+impl From<HueSaturationMoveTo> for TaskNumbers {
+    ghost from_gives = { λ x n. n ≡ move_to_numbers x };
+
+    fn from(t: HueSaturationMoveTo) -> TaskNumbers {
+        numbers(
+            MOVE_TO,
+            t.delta.map_or(0, words::sign_of),
+            t.delta.map_or(0, words::size_of),
+            words::of_flag(t.saturation.is_some()),
+            t.saturation.map_or(0, u64::from),
+            t.ms as u64,
+            words::of_flag(t.enhanced),
+        )
     }
 }
 
-fn delta_size(delta: Option<i64>) -> u64
-    ensures { result ≡ delta_size delta }
-{
-    match delta {
-        None => 0,
-        Some(way) => words::size_of(way),
+impl From<HueMove> for TaskNumbers {
+    ghost from_gives = { λ x n. n ≡ hue_move_numbers x };
+
+    fn from(t: HueMove) -> TaskNumbers {
+        numbers(
+            HUE_MOVE,
+            u8::from(t.direction) as u64,
+            t.rate as u64,
+            words::of_flag(t.enhanced),
+            0,
+            0,
+            0,
+        )
     }
 }
 
-fn target_given(target: Option<u8>) -> u64
-    ensures { result ≡ target_given target }
-{
-    match target {
-        None => 0,
-        Some(_) => 1,
+impl From<SaturationMove> for TaskNumbers {
+    ghost from_gives = { λ x n. n ≡ saturation_move_numbers x };
+
+    fn from(t: SaturationMove) -> TaskNumbers {
+        numbers(
+            SATURATION_MOVE,
+            u8::from(t.direction) as u64,
+            t.rate as u64,
+            0,
+            0,
+            0,
+            0,
+        )
     }
 }
 
-fn target_saturation(target: Option<u8>) -> u64
-    ensures { result ≡ target_number target }
-{
-    match target {
-        None => 0,
-        Some(saturation) => saturation as u64,
+impl From<ColorTemperatureMoveTo> for TaskNumbers {
+    ghost from_gives = { λ x n. n ≡ mireds_to_numbers x };
+
+    fn from(t: ColorTemperatureMoveTo) -> TaskNumbers {
+        numbers(MIREDS_TO, t.target as u64, t.ms as u64, 0, 0, 0, 0)
     }
 }
 
-fn of_move_to(t: HueSaturationMoveTo) -> TaskNumbers
-    ensures { result ≡ move_to_numbers t }
-{
-    let delta = t.delta;
-    let target = t.saturation;
-    numbers(
-        MOVE_TO,
-        delta_sign(delta),
-        delta_size(delta),
-        target_given(target),
-        target_saturation(target),
-        t.ms as u64,
-        words::of_flag(t.enhanced),
-    )
-}
+impl From<ColorTemperatureMove> for TaskNumbers {
+    ghost from_gives = { λ x n. n ≡ mireds_move_numbers x };
 
-fn of_hue_move(t: HueMove) -> TaskNumbers
-    ensures { result ≡ hue_move_numbers t }
-{
-    let direction = t.direction;
-    numbers(
-        HUE_MOVE,
-        direction.number() as u64,
-        t.rate as u64,
-        words::of_flag(t.enhanced),
-        0,
-        0,
-        0,
-    )
-}
-
-fn of_saturation_move(t: SaturationMove) -> TaskNumbers
-    ensures { result ≡ saturation_move_numbers t }
-{
-    let direction = t.direction;
-    numbers(
-        SATURATION_MOVE,
-        direction.number() as u64,
-        t.rate as u64,
-        0,
-        0,
-        0,
-        0,
-    )
-}
-
-fn of_mireds_to(t: ColorTemperatureMoveTo) -> TaskNumbers
-    ensures { result ≡ mireds_to_numbers t }
-{
-    numbers(MIREDS_TO, t.target as u64, t.ms as u64, 0, 0, 0, 0)
-}
-
-fn of_mireds_move(t: ColorTemperatureMove) -> TaskNumbers
-    ensures { result ≡ mireds_move_numbers t }
-{
-    numbers(
-        MIREDS_MOVE,
-        words::sign_of(t.rate),
-        words::size_of(t.rate),
-        t.min as u64,
-        t.max as u64,
-        0,
-        0,
-    )
-}
-
-fn of_color_loop(t: ColorLoop) -> TaskNumbers
-    ensures { result ≡ color_loop_numbers t }
-{
-    let direction = t.direction;
-    numbers(
-        LOOP,
-        direction.number() as u64,
-        t.seconds as u64,
-        0,
-        0,
-        0,
-        0,
-    )
-}
-
-#[tactic(auto, unfolding(crate::specs::Moves::task_numbers))]
-pub(crate) fn of_task(task: Task) -> TaskNumbers
-    ensures { result ≡ task_numbers task }
-{
-    match task {
-        Task::HueSaturationMoveTo(t) => of_move_to(t),
-        Task::HueMove(t) => of_hue_move(t),
-        Task::SaturationMove(t) => of_saturation_move(t),
-        Task::ColorTemperatureMoveTo(t) => of_mireds_to(t),
-        Task::ColorTemperatureMove(t) => of_mireds_move(t),
-        Task::ColorLoop(t) => of_color_loop(t),
-        Task::Stop => numbers(STOP, 0, 0, 0, 0, 0, 0),
+    fn from(t: ColorTemperatureMove) -> TaskNumbers {
+        numbers(
+            MIREDS_MOVE,
+            words::sign_of(t.rate),
+            words::size_of(t.rate),
+            t.min as u64,
+            t.max as u64,
+            0,
+            0,
+        )
     }
 }
 
-#[tactic(auto, unfolding(crate::specs::Moves::given_numbers))]
-pub fn of_given(task: Option<Task>) -> TaskNumbers
-    ensures { result ≡ given_numbers task }
-{
-    match task {
-        None => numbers(0, 0, 0, 0, 0, 0, 0),
-        Some(t) => of_task(t),
+impl From<ColorLoop> for TaskNumbers {
+    ghost from_gives = { λ x n. n ≡ color_loop_numbers x };
+
+    fn from(t: ColorLoop) -> TaskNumbers {
+        numbers(
+            LOOP,
+            u8::from(t.direction) as u64,
+            t.seconds as u64,
+            0,
+            0,
+            0,
+            0,
+        )
+    }
+}
+
+impl From<Task> for TaskNumbers {
+    ghost from_gives = { λ x n. n ≡ task_numbers x };
+
+    #[tactic(auto, unfolding(crate::specs::Moves::task_numbers))]
+    fn from(task: Task) -> TaskNumbers {
+        match task {
+            Task::HueSaturationMoveTo(t) => TaskNumbers::from(t),
+            Task::HueMove(t) => TaskNumbers::from(t),
+            Task::SaturationMove(t) => TaskNumbers::from(t),
+            Task::ColorTemperatureMoveTo(t) => TaskNumbers::from(t),
+            Task::ColorTemperatureMove(t) => TaskNumbers::from(t),
+            Task::ColorLoop(t) => TaskNumbers::from(t),
+            Task::Stop => numbers(STOP, 0, 0, 0, 0, 0, 0),
+        }
+    }
+}
+
+impl From<Option<Task>> for TaskNumbers {
+    ghost from_gives = { λ x n. n ≡ given_numbers x };
+
+    #[tactic(auto, unfolding(crate::specs::Moves::given_numbers))]
+    fn from(task: Option<Task>) -> TaskNumbers {
+        match task {
+            None => numbers(0, 0, 0, 0, 0, 0, 0),
+            Some(t) => TaskNumbers::from(t),
+        }
     }
 }
 
 fn record(start: u64, x: u64, y: u64, task: TaskNumbers) -> RecordNumbers
     ensures { result ≡ found start x y task }
 {
-    RecordNumbers {
-        start: start,
-        x: x,
-        y: y,
-        task: task,
-    }
+    RecordNumbers { start, x, y, task }
 }
 
-#[tactic(auto, unfolding(crate::specs::Moves::record_numbers))]
-pub fn of_running(running: Running) -> RecordNumbers
-    ensures { result ≡ record_numbers running }
-{
-    match running {
-        Running::Idle => record(0, 0, 0, numbers(0, 0, 0, 0, 0, 0, 0)),
-        Running::HueSaturationMoveTo(run) => {
-            let task = run.task;
-            record(
+impl From<Running> for RecordNumbers {
+    ghost from_gives = { λ x n. n ≡ record_numbers x };
+
+    #[tactic(auto, unfolding(crate::specs::Moves::record_numbers))]
+    fn from(running: Running) -> RecordNumbers {
+        match running {
+            Running::Idle => record(0, 0, 0, numbers(0, 0, 0, 0, 0, 0, 0)),
+            Running::HueSaturationMoveTo(run) => record(
                 run.start,
                 run.hue as u64,
                 run.saturation as u64,
-                of_move_to(task),
-            )
-        }
-        Running::HueMove(run) => {
-            let task = run.task;
-            record(run.start, run.hue as u64, 0, of_hue_move(task))
-        }
-        Running::SaturationMove(run) => {
-            let task = run.task;
-            record(
+                TaskNumbers::from(run.task),
+            ),
+            Running::HueMove(run) => {
+                record(run.start, run.hue as u64, 0, TaskNumbers::from(run.task))
+            }
+            Running::SaturationMove(run) => record(
                 run.start,
                 run.saturation as u64,
                 0,
-                of_saturation_move(task),
-            )
-        }
-        Running::ColorTemperatureMoveTo(run) => {
-            let task = run.task;
-            record(run.start, run.mireds as u64, 0, of_mireds_to(task))
-        }
-        Running::ColorTemperatureMove(run) => {
-            let task = ColorTemperatureMove {
-                rate: run.rate,
-                min: run.lo,
-                max: run.hi,
-            };
-            record(run.start, run.mireds as u64, 0, of_mireds_move(task))
-        }
-        Running::ColorLoop {
-            direction,
-            hue,
-            seconds,
-            start,
-        } => {
-            let task = ColorLoop {
-                direction: direction,
-                seconds: seconds,
-            };
-            record(start, hue as u64, 0, of_color_loop(task))
+                TaskNumbers::from(run.task),
+            ),
+            Running::ColorTemperatureMoveTo(run) => {
+                record(run.start, run.mireds as u64, 0, TaskNumbers::from(run.task))
+            }
+            Running::ColorTemperatureMove(run) => {
+                let task = ColorTemperatureMove {
+                    rate: run.rate,
+                    min: run.lo,
+                    max: run.hi,
+                };
+                record(run.start, run.mireds as u64, 0, TaskNumbers::from(task))
+            }
+            Running::ColorLoop {
+                direction,
+                hue,
+                seconds,
+                start,
+            } => {
+                let task = ColorLoop { direction, seconds };
+                record(start, hue as u64, 0, TaskNumbers::from(task))
+            }
         }
     }
 }

@@ -7,7 +7,7 @@ ghost use Rattle.exports.specs.Words as W;
 pub(crate) fn at(words: &[u64], i: usize) -> u64
     ensures { result ≡ W.at words.now i }
 {
-    if i < words.len() { words[i] } else { 0 }
+    words.get(i).copied().unwrap_or(0)
 }
 
 pub(crate) fn byte(x: u64) -> u8
@@ -33,7 +33,7 @@ pub(crate) fn long(x: u64) -> u32
 pub(crate) fn capped(x: u64) -> u8
     ensures { result ≡ W.capped x }
 {
-    if x <= 255 { x as u8 } else { 255 }
+    u8::try_from(x).unwrap_or(255)
 }
 
 #[tactic(auto, unfolding(crate::specs::Words::flag))]
@@ -63,17 +63,11 @@ pub(crate) fn sign_of(n: i64) -> u64
 pub(crate) fn size_of(n: i64) -> u64
     ensures { result ≡ W.size_of n }
 {
-    if n < -9223372036854775807 {
-        return 9223372036854775808;
-    }
-    if n < 0 {
-        return (-n) as u64;
-    }
-    n as u64
+    n.unsigned_abs()
 }
 
 pub fn of_flag(b: bool) -> u64
     ensures { result ≡ W.flag_number b }
 {
-    if b { 1 } else { 0 }
+    u64::from(b)
 }

@@ -1,0 +1,26 @@
+-- Why words from C are not taken, or what they ask is refused, each with the number that C reads.
+use Rattle.std.specs.Prelude.{ℕ, Result, Ok, Err}
+use Rattle.matter.specs.Causes.{refusal_number}
+use Rattle.exports.specs.declared.failures.WordsError.{WordsError}
+
+-- the number of an answer to words that are no call
+abbrev pub unreadable : ℕ
+unreadable = 100
+
+-- the numbers of a lamp that is no lamp, and of an answer that has not its room
+abbrev pub unreadable_lamp : ℕ
+unreadable_lamp = 101
+
+abbrev pub no_room : ℕ
+no_room = 102
+
+abbrev pub error_number : WordsError → ℕ
+error_number WordsError.UnreadableCall = unreadable
+error_number WordsError.UnreadableLamp = unreadable_lamp
+error_number WordsError.NoRoom = no_room
+error_number (WordsError.Refused refusal) = refusal_number refusal
+
+-- 0, or the failure's
+abbrev pub number_left : Result Unit WordsError → ℕ
+number_left (Ok u) = 0
+number_left (Err error) = error_number error
