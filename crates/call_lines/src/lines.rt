@@ -7,9 +7,9 @@ ghost use Rattle.call_lines.specs.Lines.{making_at, line_at, line_read, made, sh
 use crate::leaves::Leaf;
 use crate::setters::Setting;
 use crate::{invocations, leaves, setters};
-use lamp::{Answer, Call, Lamp, };
+use lamp::{Answer, Call, Lamp};
 use lamp_lines::{fields, records};
-use matter::Bounds;
+use matter::{Bounds, Refusal};
 use tasks::Running;
 use text::words::Words;
 
