@@ -2,7 +2,7 @@
 // so it is read a byte at a time, and what has been read is kept in a few numbers.
 ghost use Rattle.std.specs.Prelude.{◌≡◌};
 ghost use Rattle.fade_line.specs.Line.{known, wanted, asked_by};
-ghost use Rattle.fade_line.specs.Reading.{fresh, unless_spoilt, next_word, next_digit, settled, open_byte, read_byte, read_all, asked_of, line_read};
+ghost use Rattle.fade_line.specs.Reading.{fresh, unless_spoilt, next_word, next_digit, settled, read_byte, read_all, asked_of, line_read};
 
 use matter::{DirectionEnum, DirectionFound};
 use text::digits::with_digit;
