@@ -1,5 +1,4 @@
 // Reading a call of the lamp: a command, a start, a step or a halt.
-ghost use Rattle.std.specs.Prelude.{◌≡◌};
 ghost use Rattle.text.specs.Readers.{Reads};
 ghost use Rattle.call_lines.specs.Commands.{move_to_hue_at, move_hue_at, step_hue_at, enhanced_move_to_hue_at, enhanced_move_hue_at, enhanced_step_hue_at, move_to_hue_and_saturation_at, move_to_saturation_at, move_saturation_at, step_saturation_at, move_to_color_temperature_at, move_color_temperature_at, step_color_temperature_at, color_loop_set_at, options_at, command_at};
 ghost use Rattle.call_lines.specs.Calls.{invoke_at, begin_at, step_at, halt_at};

@@ -1,5 +1,4 @@
 // Reading a lamp's fields, in their order on a line.
-ghost use Rattle.std.specs.Prelude.{◌≡◌};
 ghost use Rattle.text.specs.Readers.{Reads};
 ghost use Rattle.lamp_lines.specs.Fields.{bounds_at, stamps_at, color_at, loop_settings_at, idle_lamp_at};
 

@@ -1,6 +1,5 @@
 // Reading a task: by its name, what it asks for. A record has the same numbers after its initial values.
-ghost use Rattle.std.specs.Prelude.{◌≡◌, option_map, Some, None};
-ghost use Rattle.text.specs.Readers.{Reads, by_word, or_dash};
+ghost use Rattle.text.specs.Readers.{Reads};
 ghost use Rattle.lamp_lines.specs.Moves.{dashed, delta_at, target_at, move_to_at, hue_move_at, saturation_move_at, mireds_to_at, mireds_move_at, color_loop_at, task_at};
 
 use crate::enums::enumerated;

@@ -1,5 +1,5 @@
 // What a word says: a number within its width, or a flag.
-ghost use Rattle.std.specs.Prelude.{◌≡◌, ◌≤◌, ℕ, List, Option, option_map, IfSome, pos};
+ghost use Rattle.std.specs.Prelude.{◌≡◌, ◌≤◌, ℕ, List, Option, IfSome};
 ghost use Rattle.text.specs.Numbers.{number_of, flag_of, signed_of, negated};
 
 use crate::digits::with_digit;
