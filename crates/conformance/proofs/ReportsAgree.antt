@@ -8,10 +8,11 @@ use mathlib.Core.Bool.{Bool, true, false, not, cond, ◌&&◌, true≢false, ◌
 use mathlib.Core.List.{List, [], ◌∷◌, ◌++◌}
 use mathlib.Core.Path.{◌≡◌, refl, sym, ap, subst, ◌∙◌}
 use native.Mathlib.Omega.{arith}
+use Rattle.std.proofs.lemmas.Bool.Decides.{nat_tests}
 use lib.Dec.{ltb, eqb}
 use lib.IntN.{ℤ}
 use lib.ListN.{length, replicate}
-use borrow.Author.Tests.{leb-true, le-leb, lt-leb, ltb-true, ltb-false, lt-ltb, le-ltb, eqb-true, eqb-false, ne_eqb, not-true}
+use borrow.Author.Tests.{leb-true, le-leb, lt-leb, ltb-true, ltb-false, eqb-true, eqb-false, ne_eqb, not-true}
 use Rattle.matter.specs.declared.enums.ColorModeEnum.{ColorModeEnum}
 use Rattle.matter.specs.Limits.{saturation_limit}
 use Rattle.matter.proofs.Laws.{and_left, and_right, or_left, or_right, cond_both}
@@ -49,18 +50,13 @@ use Rattle.conformance.specs.Reports.{RemainingTimeIs, Reportable, from_zero, ri
 pub remaining-agrees : (ms : ℕ) → RemainingTimeIs ms (tenths_of ms)
 remaining-agrees ms = record { enough = omega arith; fewest = λ n h. omega arith }
 
-third : (a b : Bool) {c : Bool} → c ≡ true → (a || b || c) ≡ true
-third true b e = refl
-third false true e = refl
-third false false e = e
-
 -- what is reportable is reported
 pub reportable-is-reported : {old new : ℕ} {start : Bool} → Reportable old new start → reported old new start ≡ true
 unfolding reported
-reportable-is-reported (from_zero new start h) = rw (ne_eqb new 0 (λ e. omega arith), lt-ltb 10 new h)
-reportable-is-reported (risen old new h) = third (eqb new 0 && not (eqb old 0)) (eqb old 0 && ltb 10 new) (rw (lt-ltb 10 (apart new old) (omega arith)))
-reportable-is-reported (fallen old new h) = third (eqb new 0 && not (eqb old 0)) (eqb old 0 && ltb 10 new) (rw (lt-ltb 10 (apart new old) (omega arith)))
-reportable-is-reported (to_zero old start h) = rw (ne_eqb old 0 (λ e. omega arith))
+reportable-is-reported (from_zero new start h) = grind (arith, nat_tests)
+reportable-is-reported (risen old new h) = grind (arith, nat_tests)
+reportable-is-reported (fallen old new h) = grind (arith, nat_tests)
+reportable-is-reported (to_zero old start h) = grind (arith, nat_tests)
 
 -- what is reported is reportable
 module _ (old new : ℕ) where
@@ -95,11 +91,7 @@ module _ (old new : ℕ) where
 -- the sentence on times below a second: the start of such a fade from rest is silent, as it asks
 pub short-start : (time : ℕ) → hushed time → reported 0 time true ≡ false
 unfolding reported
-short-start time h = rw (le-ltb 10 time (omega arith), le-ltb 10 (apart time 0) (omega arith)) (silent (eqb time 0))
-  where
-    silent : (a : Bool) → ((a && not true) || (true && false) || (false && true)) ≡ false
-    silent true = refl
-    silent false = refl
+short-start time h = grind (arith, nat_tests)
 
 -- and its end is reported, where it asks for silence: the smallest is a fade of a tenth
 pub short-end-differs : hushed 1 × (reported 1 0 false ≡ true)
