@@ -217,14 +217,12 @@ pub record RunsOn (time elapsed : ℕ) (run : Running) (after : Lamp) : Type 0 w
   pub ends : time ≤ elapsed → after.running ≡ Running.Idle
   pub goes_on : elapsed < time → after.running ≡ run
 
-over : (e t : ℕ) → leb 1000 (permille_of e t) ≡ true → t ≤ e
-over e t h = grind (arith, nat_tests, permille-short e t)
-
-left_by : (e t : ℕ) (b : Bool) → leb 1000 (permille_of e t) ≡ b → t ≤ 6553500 →
-    RemainingTimeIs (t - e) (new_tenths (cond b 0 (t - e)))
-left_by e t true f h =
-    let k : t ≤ e = over e t f in record { enough = omega arith; fewest = λ n m. omega arith }
-left_by e t false f h = record { enough = omega arith; fewest = λ n m. omega arith }
+left_by : (e t : ℕ) → t ≤ 6553500 → RemainingTimeIs (t - e) (new_tenths (cond (leb 1000 (permille_of e t)) 0 (t - e)))
+left_by e t h =
+    record {
+      enough = grind (arith, nat_tests, permille-short e t);
+      fewest = λ n m. grind (arith, nat_tests, permille-short e t);
+    }
 
 -- a time valid is at most 6,553,500
 time-valid : (ms : ℕ) → time_valid ms ≡ true → ms ≤ 6553500
@@ -236,7 +234,7 @@ runs_on : (time elapsed : ℕ) (run : Running) (after : Lamp) → time_valid tim
 runs_on time elapsed run after validity left runs =
     record {
       remaining =
-          rw left (left_by elapsed time (leb 1000 (permille_of elapsed time)) refl (time-valid time validity));
+          rw left (left_by elapsed time (time-valid time validity));
       ends = λ h. runs ∙ rw (permille-full elapsed time h);
       goes_on = λ h. runs ∙ rw (lt-leb 1000 (permille_of elapsed time) (permille-short elapsed time h));
     }

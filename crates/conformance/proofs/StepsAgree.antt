@@ -5,10 +5,11 @@ use mathlib.Core.Bool.{Bool, true, false, cond, true≢false}
 use mathlib.Core.Path.{◌≡◌, refl, sym, ap, ◌∙◌}
 use native.Mathlib.Nat.{mul_assoc, mul_right_comm}
 use native.Mathlib.Omega.{arith}
+use Rattle.std.proofs.lemmas.Int.{ints}
 use Rattle.std.proofs.lemmas.Bool.Decides.{nat_tests}
-use lib.Dec.{leb, ltb, eqb}
+use lib.Dec.{leb, eqb}
 use lib.IntN.{pos, negsuc, neg_ℤ, ◌+ℤ◌}
-use borrow.Author.Tests.{leb-true, leb-false, ltb-true, eqb-true, ne_eqb}
+use borrow.Author.Tests.{leb-true, leb-false, eqb-true, ne_eqb}
 use Rattle.integers.proofs.Signs.{neg-mul, neg-quot}
 use Rattle.matter.specs.declared.enums.MoveModeEnum.{MoveModeEnum}
 use Rattle.matter.specs.declared.enums.StepModeEnum.{StepModeEnum}
@@ -78,14 +79,9 @@ pub within-up : (lo hi n k : ℕ) → lo ≤ n → clamped_sum lo hi n (pos k) �
 unfolding clamp
 within-up lo hi n k h = grind (arith, nat_tests)
 
-less_by : (lo hi n k : ℕ) (b : Bool) → ltb n (suc k) ≡ b → lo ≤ n → n ≤ hi → clamp lo hi (cond b (negsuc (suc k - suc n)) (pos (n - suc k))) ≡ max lo (n - suc k)
-unfolding clamp
-less_by lo hi n k true e h g = omega (arith, ltb-true n (suc k) e)
-less_by lo hi n k false e h g = grind (arith, nat_tests)
-
 pub within-down : (lo hi n k : ℕ) → lo ≤ n → n ≤ hi → clamped_sum lo hi n (neg_ℤ (pos k)) ≡ max lo (n - k)
-within-down lo hi n zero h g = within-up lo hi n 0 h ∙ omega arith
-within-down lo hi n (suc k) h g = less_by lo hi n k (ltb n (suc k)) refl h g
+unfolding clamp
+within-down lo hi n k h g = grind (arith, nat_tests, ints)
 
 -- ---- steps
 
