@@ -1,12 +1,12 @@
 -- The port refuses with ConstraintError exactly the commands whose fields are out of the text's constraints, where times and
 -- mireds are within the text's; and with InvalidCommand exactly the text's invalid ones, for every command.
 use Rattle.matter.specs.Causes.{accepted, Verdict, number_of, constraint_error, invalid_command}
-use Prim.Native.Nat.{ℕ, zero, suc, ◌≤◌}
+use Prim.Native.Nat.{ℕ, ◌≤◌}
 use mathlib.Core.Bool.{Bool, true, false, not, cond, ◌&&◌, ◌||◌}
 use mathlib.Core.Path.{◌≡◌, refl, ◌∙◌}
 use native.Mathlib.Omega.{arith}
+use Rattle.std.proofs.lemmas.Bool.Decides.{nat_tests}
 use lib.Dec.{leb, ltb, eqb}
-use borrow.Author.Tests.{leb-true, leb-false, le-leb, lt-ltb, le-ltb, ne_eqb}
 use Rattle.matter.specs.declared.commands.Command.{Command}
 use Rattle.matter.specs.declared.commands.Request.{Request}
 use Rattle.matter.specs.declared.commands.CommandOptions.{CommandOptions}
@@ -38,20 +38,15 @@ Roomy (Command.ColorLoopSet flags action direction time start_hue) = (flags ≤ 
 Roomy Command.StopMoveStep = Unit
 
 within : (most n : ℕ) → n ≤ most → (leb 0 n && leb n most) ≡ true
-within most n h = rw (le-leb 0 n (omega arith), le-leb n most h)
+within most n h = grind (arith, nat_tests)
 
 -- above 254, or not
 above : (n : ℕ) → (leb 0 n && leb n 254) ≡ not (ltb 254 n)
-above n = by (leb n 254) refl
-  where
-    by : (t : Bool) → leb n 254 ≡ t → (leb 0 n && leb n 254) ≡ not (ltb 254 n)
-    by true t = rw (le-leb 0 n (omega arith), t, le-ltb 254 n (leb-true n 254 t))
-    by false t = rw (le-leb 0 n (omega arith), t, lt-ltb 254 n (leb-false n 254 t))
+above n = grind (arith, nat_tests)
 
 -- at least 1, or 0
 some : (n : ℕ) → n ≤ 65279 → (leb 1 n && leb n 65279) ≡ not (eqb n 0)
-some zero h = refl
-some (suc n) h = rw (le-leb 1 (suc n) (omega arith), le-leb (suc n) 65279 h, ne_eqb (suc n) 0 (λ e. omega arith))
+some n h = grind (arith, nat_tests)
 
 -- one field that is checked, and two
 refused-by : (b : Bool) → eqb (number_of (cause_if b constraint_error)) 1 ≡ not (not b && true)

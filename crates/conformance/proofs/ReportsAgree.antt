@@ -4,14 +4,17 @@ use Rattle.matter.specs.Causes.{accepted}
 use Rattle.notices.specs.declared.Notice.{Notice}
 use Rattle.std.specs.Prelude.{Option, Some, None}
 use Prim.Native.Nat.{ℕ, zero, suc, ◌+◌, ◌-◌, ◌<◌}
-use mathlib.Core.Bool.{Bool, true, false, not, cond, ◌&&◌, true≢false, ◌||◌, or-true, or-false, or_assoc, and-true, and-false}
+use mathlib.Core.Bool.{Bool, true, false, not, cond, ◌&&◌, ◌||◌, or-true, or-false, or_assoc, and-true, and-false}
 use mathlib.Core.List.{List, [], ◌∷◌, ◌++◌}
 use mathlib.Core.Path.{◌≡◌, refl, sym, ap, subst, ◌∙◌}
 use native.Mathlib.Omega.{arith}
-use lib.Dec.{ltb, eqb}
+use mathlib.Core.Logic.{⊎_elim}
+use Rattle.std.proofs.lemmas.Bool.{cases_lt, cases_eq}
+use Rattle.std.proofs.lemmas.Bool.Decides.{nat_tests}
+use lib.Dec.{eqb}
 use lib.IntN.{ℤ}
 use lib.ListN.{length, replicate}
-use borrow.Author.Tests.{leb-true, le-leb, lt-leb, ltb-true, ltb-false, lt-ltb, le-ltb, eqb-true, eqb-false, ne_eqb, not-true}
+use borrow.Author.Tests.{leb-true, le-leb, lt-leb, ne_eqb, not-true}
 use Rattle.matter.specs.declared.enums.ColorModeEnum.{ColorModeEnum}
 use Rattle.matter.specs.Limits.{saturation_limit}
 use Rattle.matter.proofs.Laws.{and_left, and_right, or_left, or_right, cond_both}
@@ -49,57 +52,45 @@ use Rattle.conformance.specs.Reports.{RemainingTimeIs, Reportable, from_zero, ri
 pub remaining-agrees : (ms : ℕ) → RemainingTimeIs ms (tenths_of ms)
 remaining-agrees ms = record { enough = omega arith; fewest = λ n h. omega arith }
 
-third : (a b : Bool) {c : Bool} → c ≡ true → (a || b || c) ≡ true
-third true b e = refl
-third false true e = refl
-third false false e = e
-
 -- what is reportable is reported
 pub reportable-is-reported : {old new : ℕ} {start : Bool} → Reportable old new start → reported old new start ≡ true
 unfolding reported
-reportable-is-reported (from_zero new start h) = rw (ne_eqb new 0 (λ e. omega arith), lt-ltb 10 new h)
-reportable-is-reported (risen old new h) = third (eqb new 0 && not (eqb old 0)) (eqb old 0 && ltb 10 new) (rw (lt-ltb 10 (apart new old) (omega arith)))
-reportable-is-reported (fallen old new h) = third (eqb new 0 && not (eqb old 0)) (eqb old 0 && ltb 10 new) (rw (lt-ltb 10 (apart new old) (omega arith)))
-reportable-is-reported (to_zero old start h) = rw (ne_eqb old 0 (λ e. omega arith))
+reportable-is-reported (from_zero new start h) = grind (arith, nat_tests)
+reportable-is-reported (risen old new h) = grind (arith, nat_tests)
+reportable-is-reported (fallen old new h) = grind (arith, nat_tests)
+reportable-is-reported (to_zero old start h) = grind (arith, nat_tests)
 
 -- what is reported is reportable
 module _ (old new : ℕ) where
-  changed-by : (t : Bool) → ltb old new ≡ t → 10 < apart new old → Reportable old new true
-  changed-by true e h = risen old new (omega (arith, ltb-true old new e))
-  changed-by false e h = fallen old new (omega (arith, ltb-false old new e))
+  from-0 : (start : Bool) → reported 0 new start ≡ true → (new ≡ 0 → ⊥) → 10 < new
+  unfolding reported
+  from-0 start e z = grind (arith, nat_tests)
 
-  to-zero : eqb new 0 ≡ true → eqb old 0 ≡ false → (start : Bool) → Reportable old new start
-  to-zero a b start = rw (eqb-true new 0 a) (to_zero old start (omega (arith, eqb-false old 0 b)))
+  to-0 : (start : Bool) → reported old 0 start ≡ true → 0 < old
+  unfolding reported
+  to-0 start e = grind (arith, nat_tests)
 
-  from-zero : eqb old 0 ≡ true → ltb 10 new ≡ true → (start : Bool) → Reportable old new start
-  from-zero b c start = rw (eqb-true old 0 b) (from_zero new start (ltb-true 10 new c))
+  -- from a number to another, neither of them 0
+  by : (start : Bool) → reported old new start ≡ true → (old ≡ 0 → ⊥) → (new ≡ 0 → ⊥) → (start ≡ true) × (10 < apart new old)
+  unfolding reported
+  by true e y z = (refl, grind (arith, nat_tests))
+  by false e y z = absurd (grind (arith, nat_tests))
 
-  by : (a b c d start : Bool) → eqb new 0 ≡ a → eqb old 0 ≡ b → ltb 10 new ≡ c → ltb 10 (apart new old) ≡ d → ((a && not b) || (b && c) || (d && start)) ≡ true → Reportable old new start
-  by true false c d start ea eb ec ed e = to-zero ea eb start
-  by true true true d start ea eb ec ed e = from-zero eb ec start
-  by true true false true true ea eb ec ed e = changed-by (ltb old new) refl (ltb-true 10 (apart new old) ed)
-  by true true false true false ea eb ec ed e = absurd (true≢false (sym e))
-  by true true false false start ea eb ec ed e = absurd (true≢false (sym e))
-  by false true true d start ea eb ec ed e = from-zero eb ec start
-  by false true false true true ea eb ec ed e = changed-by (ltb old new) refl (ltb-true 10 (apart new old) ed)
-  by false true false true false ea eb ec ed e = absurd (true≢false (sym e))
-  by false true false false start ea eb ec ed e = absurd (true≢false (sym e))
-  by false false c true true ea eb ec ed e = changed-by (ltb old new) refl (ltb-true 10 (apart new old) ed)
-  by false false c true false ea eb ec ed e = absurd (true≢false (sym e))
-  by false false c false start ea eb ec ed e = absurd (true≢false (sym e))
+  changed : (start : Bool) → start ≡ true → 10 < apart new old → Reportable old new start
+  changed start s h =
+      rw s (⊎_elim (λ l. risen old new (omega arith)) (λ l. fallen old new (omega arith)) (cases_lt old new))
 
   pub reported-is-reportable : (start : Bool) → reported old new start ≡ true → Reportable old new start
-  unfolding reported
-  reported-is-reportable start e = by (eqb new 0) (eqb old 0) (ltb 10 new) (ltb 10 (apart new old)) start refl refl refl refl e
+  reported-is-reportable start e =
+      ⊎_elim (λ z. rw z (to_zero old start (to-0 start (rw z at e))))
+      (λ z. ⊎_elim (λ y. rw y (from_zero new start (from-0 start (rw y at e) z)))
+      (λ y. let c = by start e y z in changed start c.0 c.1) (cases_eq old 0))
+      (cases_eq new 0)
 
 -- the sentence on times below a second: the start of such a fade from rest is silent, as it asks
 pub short-start : (time : ℕ) → hushed time → reported 0 time true ≡ false
 unfolding reported
-short-start time h = rw (le-ltb 10 time (omega arith), le-ltb 10 (apart time 0) (omega arith)) (silent (eqb time 0))
-  where
-    silent : (a : Bool) → ((a && not true) || (true && false) || (false && true)) ≡ false
-    silent true = refl
-    silent false = refl
+short-start time h = grind (arith, nat_tests)
 
 -- and its end is reported, where it asks for silence: the smallest is a fade of a tenth
 pub short-end-differs : hushed 1 × (reported 1 0 false ≡ true)

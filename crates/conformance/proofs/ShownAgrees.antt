@@ -10,9 +10,10 @@ use mathlib.Core.Logic.{◌⊎◌, inl, inr, ⊎_elim}
 use mathlib.Core.Path.{◌≡◌, refl, sym, ap, subst, ◌∙◌}
 use native.Mathlib.Nat.{zero-div}
 use native.Mathlib.Omega.{arith}
+use Rattle.std.proofs.lemmas.Bool.Decides.{nat_tests}
 use lib.Dec.{leb, eqb}
 use lib.IntN.{ℤ, pos, negsuc, nat_abs, ◌-ℤ◌}
-use borrow.Author.Tests.{eqb-true, eq-eqb, ne_eqb, leb-true, leb-false, lt-leb}
+use borrow.Author.Tests.{eqb-true, eq-eqb, ne_eqb, leb-true, lt-leb}
 use Rattle.matter.specs.declared.limits.Bounds.{Bounds}
 use Rattle.matter.proofs.Laws.{and_left, and_right, cond_both, each}
 use Rattle.hue.specs.Hue.{moved_hue}
@@ -91,7 +92,7 @@ no_part p = part_up 0 p ∙ ap pos (omega arith)
 module _ (first p elapsed time : ℕ) where
   -- the thousandths are those of the time, or so
   abbrev Or : Type 0 → Type 0
-  Or Still = (p ≡ permille_of elapsed time) ⊎ Still
+  Or NoWay = (p ≡ permille_of elapsed time) ⊎ NoWay
 
   same-part : (way : ℤ) → Or (way ≡ pos 0) → part_of way p ≡ part_of way (permille_of elapsed time)
   same-part way (inl e) = ap (part_of way) e
@@ -216,15 +217,12 @@ pub record RunsOn (time elapsed : ℕ) (run : Running) (after : Lamp) : Type 0 w
   pub ends : time ≤ elapsed → after.running ≡ Running.Idle
   pub goes_on : elapsed < time → after.running ≡ run
 
-over : (e t : ℕ) (b : Bool) → leb t e ≡ b → leb 1000 (permille_of e t) ≡ true → t ≤ e
-over e t true f h = leb-true t e f
-over e t false f h = absurd (omega (arith, permille-short e t (leb-false t e f), leb-true 1000 (permille_of e t) h))
-
-left_by : (e t : ℕ) (b : Bool) → leb 1000 (permille_of e t) ≡ b → t ≤ 6553500 →
-    RemainingTimeIs (t - e) (new_tenths (cond b 0 (t - e)))
-left_by e t true f h =
-    let k : t ≤ e = over e t (leb t e) refl f in record { enough = omega arith; fewest = λ n m. omega arith }
-left_by e t false f h = record { enough = omega arith; fewest = λ n m. omega arith }
+left_by : (e t : ℕ) → t ≤ 6553500 → RemainingTimeIs (t - e) (new_tenths (cond (leb 1000 (permille_of e t)) 0 (t - e)))
+left_by e t h =
+    record {
+      enough = grind (arith, nat_tests, permille-short e t);
+      fewest = λ n m. grind (arith, nat_tests, permille-short e t);
+    }
 
 -- a time valid is at most 6,553,500
 time-valid : (ms : ℕ) → time_valid ms ≡ true → ms ≤ 6553500
@@ -236,7 +234,7 @@ runs_on : (time elapsed : ℕ) (run : Running) (after : Lamp) → time_valid tim
 runs_on time elapsed run after validity left runs =
     record {
       remaining =
-          rw left (left_by elapsed time (leb 1000 (permille_of elapsed time)) refl (time-valid time validity));
+          rw left (left_by elapsed time (time-valid time validity));
       ends = λ h. runs ∙ rw (permille-full elapsed time h);
       goes_on = λ h. runs ∙ rw (lt-leb 1000 (permille_of elapsed time) (permille-short elapsed time h));
     }
@@ -421,10 +419,10 @@ same-thousandths p begun time clock run after r u h (inr (i, le)) =
     )
 
 -- of a start, unless there is no way
-start-thousandths : (ms begun clock : ℕ) (no_delta : Bool) (Still : Type 0) (run : Running) (after : Lamp) →
-    runs run ≡ true → after.running ≡ unless (at_end (start_permille ms no_delta)) run → after.clock ≡ begun → (no_delta ≡ true → Still) →
-    Lasts after clock → (start_permille ms no_delta ≡ permille_of (clock - begun) ms) ⊎ Still
-start-thousandths ms begun clock no_delta Still run after r u c so lasts =
+start-thousandths : (ms begun clock : ℕ) (no_delta : Bool) (NoWay : Type 0) (run : Running) (after : Lamp) →
+    runs run ≡ true → after.running ≡ unless (at_end (start_permille ms no_delta)) run → after.clock ≡ begun → (no_delta ≡ true → NoWay) →
+    Lasts after clock → (start_permille ms no_delta ≡ permille_of (clock - begun) ms) ⊎ NoWay
+start-thousandths ms begun clock no_delta NoWay run after r u c so lasts =
     let z : after.clock - begun ≡ 0 = omega arith in
     ⊎_elim (λ e. inl (same-thousandths _ begun ms clock run after r u (rw z e) lasts)) (λ e. inr (so e))
     (start-at ms no_delta)

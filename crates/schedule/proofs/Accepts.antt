@@ -18,7 +18,8 @@ use Rattle.commands.specs.Commands.{checks}
 use Rattle.commands.specs.Answers.{in_order, command_cause, cause, answer, granted, clock_of}
 use Rattle.commands.proofs.Kept.{answer-both, number-is-cause, refused-same}
 use Rattle.schedule.specs.Calls.{next, accepts}
-use Rattle.schedule.proofs.Tests.{below-is}
+use Rattle.std.proofs.lemmas.Bool.Decides.{nat_tests}
+use native.Mathlib.Omega.{arith}
 
 -- a clock that a lamp takes
 abbrev pub timely : ℕ → ℕ → Bool
@@ -32,11 +33,7 @@ grounds l (Call.Step clock) = runs l.running
 grounds l (Call.Halt clock) = true
 
 bad-is : (l : Lamp) (clock : ℕ) → bad_clock l clock ≡ not (timely l.clock clock)
-bad-is l clock = rw (below-is clock l.clock, below-is clock_limit clock) (go (leb l.clock clock) (leb clock clock_limit))
-  where
-    go : (a b : Bool) → (not a || not b) ≡ not (a && b)
-    go true b = refl
-    go false b = refl
+bad-is l clock = grind (arith, nat_tests)
 
 -- the causes of each kind of call in their order, by a clock that is taken or not, as one test
 abbrev clock-table : Bool → Verdict

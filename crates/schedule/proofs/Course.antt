@@ -1,5 +1,6 @@
 -- The schedule alone: what holds of it at every time, where it ends, and that the way travelled never shrinks.
 use Rattle.std.proofs.lemmas.Bool.{cases_Bool}
+use Rattle.std.proofs.lemmas.Bool.Decides.{nat_tests}
 use Prim.Native.Nat.{ℕ, ◌+◌, ◌-◌, ◌≤◌, ◌<◌, min}
 use mathlib.Core.Bool.{Bool, true, false, cond, ◌&&◌, ◌||◌, or-false, true≢false}
 use mathlib.Core.Logic.{inl, inr}
@@ -8,7 +9,7 @@ use native.Mathlib.Nat.{le_refl, le_trans}
 use native.Mathlib.Omega.{arith}
 use lib.Dec.{leb, eqb}
 use lib.IntN.{nat_abs}
-use borrow.Author.Tests.{leb-true, leb-false, le-leb, lt-leb, eqb-true, ne_eqb, not-true}
+use borrow.Author.Tests.{leb-true, leb-false, ne_eqb, not-true}
 use Rattle.matter.specs.Limits.{clock_limit}
 use Rattle.hue.specs.Hue.{moved_hue}
 use Rattle.hue.proofs.Laws.{way-small}
@@ -19,7 +20,7 @@ use Rattle.commands.specs.Answers.{clock_of}
 use Rattle.schedule.specs.Calls.{is_step}
 use Rattle.schedule.specs.Schedule.{target, delta_from, time, Fed, Shown, over, shown_at, takes, when_taken, followed}
 use Rattle.matter.proofs.Laws.{and_left, and_right, or_left, or_right}
-use Rattle.schedule.proofs.Tests.{never, positive, leb-same}
+use Rattle.schedule.proofs.Tests.{never, positive}
 use Rattle.schedule.proofs.Arithmetic.{gone, gone-part, gone_whole}
 
 -- the numbers that the schedule is fed are hues, and the time of a valid task
@@ -178,7 +179,7 @@ module _ (f : Fed) (n : Sane f) (s : Shown) (r : Right f s) where
   at_done clock h k =
       done-is f clock
       ∙ rw (ne_eqb (whole_of f) 0 (λ z. omega arith), or-false)
-      (leb-same (time f.fade) (clock - f.start) (f.start + time f.fade) clock (λ z. omega arith) (λ z. omega arith))
+      (grind (arith, nat_tests))
 
   -- done exactly from a taken step at or after the time on
   pub followed-done : (x : Call) → (followed f s x).done ≡ (s.done || (step_taken s x && leb (f.start + time f.fade) (clock_of x)))
@@ -207,11 +208,7 @@ at_open f clock d =
 
 -- the start is the end where time or way is 0
 at_once : (t c : ℕ) → leb t (c - c) ≡ eqb t 0
-at_once t c =
-    elim (cases_Bool (eqb t 0)) [
-      | inl e ↦ le-leb t (c - c) (omega (arith, eqb-true t 0 e)) ∙ sym e
-      | inr e ↦ lt-leb t (c - c) (omega (arith, positive t e)) ∙ sym e
-    ]
+at_once t c = grind (arith, nat_tests)
 
 pub begins-done : (f : Fed) → (shown_at f f.start).done ≡ (eqb (time f.fade) 0 || eqb (whole_of f) 0)
 begins-done f = done-is f f.start ∙ ap (λ (b : Bool). b || eqb (whole_of f) 0) (at_once (time f.fade) f.start)
