@@ -1,5 +1,6 @@
 -- The program `fade`: document 01, "Checked by sums". "It makes this lamp at that clock, gives the plain command,
 -- starts it, and steps at each wait until done."
+use Rattle.tasks.specs.declared.Task.{Task}
 use Rattle.std.specs.Prelude.{Option, Some, None}
 use Rattle.std.specs.Prelude.{ℕ, zero, suc, ◌+◌, ◌-◌, Bool, true, false, cond, ◌&&◌, ◌||◌, List, [], ◌++◌, eqb, ltb, Option, Some, None}
 use Rattle.matter.specs.declared.commands.Command.{Command}

@@ -10,9 +10,9 @@ use commands::invoke;
 use fade_line::reader::Wanted;
 use fade_line::writer;
 use fade_line::writer::{LONGEST, Line};
-use lamp::{Answer, Lamp, };
+use lamp::{Answer, Lamp};
 use matter::{Bounds, Command, CommandOptions, OnOff, Refusal, Request};
-use tasks::{Task};
+use tasks::Task;
 
 // A start, and a step, that is to come, with how many more steps there may be.
 #[derive(Clone, Copy)]

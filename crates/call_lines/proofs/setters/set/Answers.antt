@@ -8,4 +8,4 @@ unfolding setting_answer
 returns c =
     let value = c.args.setting in
     rw
-    (← c.first_cause.ensures, c.notices.ensures, c.cons_change-reported.ensures, c.new.ensures, c.at_clock-now.ensures, c.set_color-set.ensures, setting-placed c.args.lamp.color value.value value.is_end value.clock c.args.lamp.looping.active)
+    (← c.first_cause.ensures, c.in_default.is, c.notices.ensures, c.at_clock.ensures, c.cons_change-reported.ensures, c.new.ensures, c.set_color-set.ensures, setting-placed c.args.lamp.color value.value value.is_end value.clock c.args.lamp.looping.active)
