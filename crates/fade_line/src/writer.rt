@@ -1,5 +1,6 @@
 // Writing `fade`'s lines. The public functions write into a caller's slice from `at` on and give the place after what they
-// wrote: where the slice has no room for the longest line, nothing, and `at`.
+// wrote: where the slice has no room for the longest line, nothing, and `at`. They take the slice, not any sink, since what
+// they write depends on its room.
 ghost use Rattle.std.specs.Prelude.{◌≡◌, ◌+◌, min, length};
 ghost use Rattle.std.specs.List.{fold};
 ghost use Rattle.text.specs.Written.{pasted};
