@@ -1,5 +1,6 @@
 -- After ColorLoopSet the attributes are the text's, for every lamp and every field. A loop that turns is not changed
 -- by new attributes, where the text's is.
+use Rattle.matter.specs.Causes.{accepted}
 use Rattle.std.specs.Prelude.{Option, Some, None}
 use Prim.Native.Nat.{ℕ, ◌/◌, ◌%◌}
 use mathlib.Core.Bool.{Bool, true, false, cond}
@@ -98,7 +99,7 @@ module _ (l : Lamp) (flags : ℕ) (action : ColorLoopActionEnum) (direction : Co
   abbrev pub set : LoopAttributes
   set = color_loop_set flags action direction time start_hue (attributes l)
 
-  module _ (accepted : cause l setting ≡ 0)
+  module _ (taken : cause l setting ≡ accepted)
       (may_execute : allowed l (request (Command.ColorLoopSet flags action direction time start_hue) options) on_off ≡ true) where
     set-by : (P : Lamp → Option Task → Type 0) →
         P (loop_set (at_clock l clock) flags action direction time start_hue).lamp
@@ -106,7 +107,7 @@ module _ (l : Lamp) (flags : ℕ) (action : ColorLoopActionEnum) (direction : Co
         P (answer l setting).lamp (answer l setting).task
     unfolding command_effect
     set-by P p =
-        answer-both l (λ (a : Answer). P a.lamp a.task) setting (λ e. rw may_execute p) (λ k. absurd (k accepted))
+        answer-both l (λ (a : Answer). P a.lamp a.task) setting (λ e. rw may_execute p) (λ k. absurd (k taken))
 
     -- the attributes after the command are the text's
     pub loop-set-agrees : attributes (answer l setting).lamp ≡ set
@@ -149,7 +150,7 @@ module _ (l : Lamp) (flags : ℕ) (action : ColorLoopActionEnum) (direction : Co
 -- the smallest: flag 2 alone, and another direction
 pub loop-follow-differs : (l : Lamp) (run : ColorLoopRun) (options : CommandOptions) (on_off : OnOff) (clock : ℕ) →
     l.running ≡ loop_running run →
-    cause l (setting l 2 ColorLoopActionEnum.Deactivate ColorLoopDirectionEnum.Decrement 0 0 options on_off clock) ≡ 0 →
+    cause l (setting l 2 ColorLoopActionEnum.Deactivate ColorLoopDirectionEnum.Decrement 0 0 options on_off clock) ≡ accepted →
     allowed l (request (Command.ColorLoopSet 2 ColorLoopActionEnum.Deactivate ColorLoopDirectionEnum.Decrement 0 0) options) on_off
     ≡ true →
     ((turning_by (set l 2 ColorLoopActionEnum.Deactivate ColorLoopDirectionEnum.Decrement 0 0 options on_off clock)).direction ≡ ColorLoopDirectionEnum.Decrement)

@@ -4,6 +4,7 @@ use mathlib.Core.Bool.{Bool, true, false, cond}
 use mathlib.Core.Logic.{◌⊎◌, inl, inr, ⊎_elim}
 use mathlib.Core.Path.{◌≡◌, refl, sym, ap, ◌∙◌}
 use native.Mathlib.Omega.{arith}
+use Rattle.std.proofs.lemmas.Bool.{cases_lt}
 use lib.Dec.{leb, ltb}
 use lib.IntN.{ℤ, pos, negsuc, neg_ℤ, nat_abs}
 use borrow.Author.Tests.{leb-true, leb-false, ltb-true, ltb-false, le-leb, lt-leb, le-ltb}
@@ -15,11 +16,7 @@ use Rattle.conformance.specs.Directions.{enhanced_circle, plain_circle, Leads, G
 
 -- a sum on the circle is the sum, or a circle less
 wrapped : (a n b : ℕ) → a < 65536 → n < 65536 → (a + n) % 65536 ≡ b → (a + n ≡ b) ⊎ (a + n ≡ b + 65536)
-wrapped a n b h k e = by (leb 65536 (a + n)) refl
-  where
-    by : (t : Bool) → leb 65536 (a + n) ≡ t → (a + n ≡ b) ⊎ (a + n ≡ b + 65536)
-    by true t = inr (let l : 65536 ≤ a + n = leb-true 65536 (a + n) t in omega arith)
-    by false t = inl (let l : a + n < 65536 = leb-false 65536 (a + n) t in omega arith)
+wrapped a n b h k e = ⊎_elim (λ l. inl (omega arith)) (λ l. inr (omega arith)) (cases_lt (a + n) 65536)
 
 module _ (from to : ℕ) (hf : from < 65536) (ht : to < 65536) where
   abbrev up-goes : GoesUp enhanced_circle from to (pos (distance from to))

@@ -1,19 +1,20 @@
 -- The port refuses with ConstraintError exactly the commands whose fields are out of the text's constraints, where times and
 -- mireds are within the text's; and with InvalidCommand exactly the text's invalid ones, for every command.
-use Prim.Native.Nat.{ℕ, zero, suc, ◌≤◌}
+use Rattle.matter.specs.Causes.{accepted, Verdict, number_of, constraint_error, invalid_command}
+use Prim.Native.Nat.{ℕ, ◌≤◌}
 use mathlib.Core.Bool.{Bool, true, false, not, cond, ◌&&◌, ◌||◌}
 use mathlib.Core.Path.{◌≡◌, refl, ◌∙◌}
 use native.Mathlib.Omega.{arith}
+use Rattle.std.proofs.lemmas.Bool.Decides.{nat_tests}
 use lib.Dec.{leb, ltb, eqb}
-use borrow.Author.Tests.{leb-true, leb-false, le-leb, lt-ltb, le-ltb, ne_eqb}
 use Rattle.matter.specs.declared.commands.Command.{Command}
 use Rattle.matter.specs.declared.commands.Request.{Request}
 use Rattle.matter.specs.declared.commands.CommandOptions.{CommandOptions}
 use Rattle.matter.specs.declared.enums.DirectionEnum.{DirectionEnum}
 use Rattle.matter.specs.declared.enums.MoveModeEnum.{MoveModeEnum}
 use Rattle.matter.specs.declared.enums.StepModeEnum.{StepModeEnum}
-use Rattle.commands.specs.Commands.{is_stop, checks}
-use Rattle.commands.specs.Answers.{after_clock}
+use Rattle.commands.specs.Commands.{is_stop, checks, cause_if, nonzero}
+use Rattle.commands.specs.Answers.{after_clock, in_order}
 use Rattle.conformance.specs.Fields.{fields_good, invalid_move, invalid}
 
 -- ---- the fields that the port does not check are within the text's constraints
@@ -37,37 +38,32 @@ Roomy (Command.ColorLoopSet flags action direction time start_hue) = (flags ≤ 
 Roomy Command.StopMoveStep = Unit
 
 within : (most n : ℕ) → n ≤ most → (leb 0 n && leb n most) ≡ true
-within most n h = rw (le-leb 0 n (omega arith), le-leb n most h)
+within most n h = grind (arith, nat_tests)
 
 -- above 254, or not
 above : (n : ℕ) → (leb 0 n && leb n 254) ≡ not (ltb 254 n)
-above n = by (leb n 254) refl
-  where
-    by : (t : Bool) → leb n 254 ≡ t → (leb 0 n && leb n 254) ≡ not (ltb 254 n)
-    by true t = rw (le-leb 0 n (omega arith), t, le-ltb 254 n (leb-true n 254 t))
-    by false t = rw (le-leb 0 n (omega arith), t, lt-ltb 254 n (leb-false n 254 t))
+above n = grind (arith, nat_tests)
 
 -- at least 1, or 0
 some : (n : ℕ) → n ≤ 65279 → (leb 1 n && leb n 65279) ≡ not (eqb n 0)
-some zero h = refl
-some (suc n) h = rw (le-leb 1 (suc n) (omega arith), le-leb (suc n) 65279 h, ne_eqb (suc n) 0 (λ e. omega arith))
+some n h = grind (arith, nat_tests)
 
 -- one field that is checked, and two
-refused-by : (b : Bool) → eqb (cond b 1 0) 1 ≡ not (not b && true)
+refused-by : (b : Bool) → eqb (number_of (cause_if b constraint_error)) 1 ≡ not (not b && true)
 refused-by true = refl
 refused-by false = refl
 
-refused-by-either : (a b : Bool) → eqb (cond (a || b) 1 0) 1 ≡ not (not a && (not b && true))
+refused-by-either : (a b : Bool) → eqb (number_of (cause_if (a || b) constraint_error)) 1 ≡ not (not a && (not b && true))
 refused-by-either true b = refl
 refused-by-either false true = refl
 refused-by-either false false = refl
 
-never-by : (b : Bool) → eqb (cond b 2 0) 1 ≡ false
+never-by : (b : Bool) → eqb (number_of (cause_if b invalid_command)) 1 ≡ false
 never-by true = refl
 never-by false = refl
 
 -- where the rest of the fields are good, ConstraintError is the port's answer exactly where a field is not
-pub fields-agree : (c : Command) → Roomy c → eqb (checks c).cause 1 ≡ not (fields_good c)
+pub fields-agree : (c : Command) → Roomy c → eqb (number_of (checks c).cause) 1 ≡ not (fields_good c)
 unfolding fields_good
 fields-agree (Command.MoveToHue hue direction time) r =
     rw (above hue, within 65534 time r) (refused-by (ltb 254 hue))
@@ -98,43 +94,43 @@ fields-agree Command.StopMoveStep r = refl
 abbrev no-options : CommandOptions
 no-options = record { mask = 0; overrides = 0 }
 
-pub time-differs : (fields_good (Command.MoveToHue 0 DirectionEnum.Shortest 65535) ≡ false) × ((checks (Command.MoveToHue 0 DirectionEnum.Shortest 65535)).cause ≡ 0)
+pub time-differs : (fields_good (Command.MoveToHue 0 DirectionEnum.Shortest 65535) ≡ false) × ((checks (Command.MoveToHue 0 DirectionEnum.Shortest 65535)).cause ≡ accepted)
 unfolding fields_good
 time-differs = (refl, refl)
 
-pub mireds-differ : (fields_good (Command.MoveToColorTemperature 65280 0) ≡ false) × ((checks (Command.MoveToColorTemperature 65280 0)).cause ≡ 0)
+pub mireds-differ : (fields_good (Command.MoveToColorTemperature 65280 0) ≡ false) × ((checks (Command.MoveToColorTemperature 65280 0)).cause ≡ accepted)
 unfolding fields_good
 mireds-differ = (refl, refl)
 
-pub limits-differ : (fields_good (Command.MoveColorTemperature MoveModeEnum.Up 1 65280 0) ≡ false) × ((checks (Command.MoveColorTemperature MoveModeEnum.Up 1 65280 0)).cause ≡ 0)
+pub limits-differ : (fields_good (Command.MoveColorTemperature MoveModeEnum.Up 1 65280 0) ≡ false) × ((checks (Command.MoveColorTemperature MoveModeEnum.Up 1 65280 0)).cause ≡ accepted)
 unfolding fields_good
 limits-differ = (refl, refl)
 
-pub step-time-differs : (fields_good (Command.StepHue StepModeEnum.Up 1 256) ≡ false) × ((checks (Command.StepHue StepModeEnum.Up 1 256)).cause ≡ 0)
+pub step-time-differs : (fields_good (Command.StepHue StepModeEnum.Up 1 256) ≡ false) × ((checks (Command.StepHue StepModeEnum.Up 1 256)).cause ≡ accepted)
 unfolding fields_good
 step-time-differs = (refl, refl)
 
 -- ---- INVALID_COMMAND
 
-zero-by : (b : Bool) → eqb (cond b 2 0) 2 ≡ b
+zero-by : (b : Bool) → eqb (number_of (cause_if b invalid_command)) 2 ≡ b
 zero-by true = refl
 zero-by false = refl
 
-one-by : (b : Bool) → eqb (cond b 1 0) 2 ≡ false
+one-by : (b : Bool) → eqb (number_of (cause_if b constraint_error)) 2 ≡ false
 one-by true = refl
 one-by false = refl
 
-stop-by : (s : Bool) (n : ℕ) → eqb (cond s 0 n) 2 ≡ cond s false (eqb n 2)
-stop-by true n = refl
-stop-by false n = refl
+stop-by : (s : Bool) (v : Verdict) → eqb (number_of (in_order s v)) 2 ≡ cond s false (eqb (number_of v) 2)
+stop-by true v = refl
+stop-by false v = refl
 
-move-by : (mode : MoveModeEnum) (rate : ℕ) → cond (is_stop mode) false (eqb (cond (eqb rate 0) 2 0) 2) ≡ invalid_move mode rate
+move-by : (mode : MoveModeEnum) (rate : ℕ) → cond (is_stop mode) false (eqb (number_of (nonzero rate).cause) 2) ≡ invalid_move mode rate
 move-by MoveModeEnum.Stop rate = refl
 move-by MoveModeEnum.Up rate = zero-by (eqb rate 0)
 move-by MoveModeEnum.Down rate = zero-by (eqb rate 0)
 
 -- Stop mode and the numbers
-own-agree : (c : Command) → cond (checks c).stop false (eqb (checks c).cause 2) ≡ invalid c
+own-agree : (c : Command) → cond (checks c).stop false (eqb (number_of (checks c).cause) 2) ≡ invalid c
 unfolding invalid
 own-agree (Command.MoveToHue hue direction time) = one-by (ltb 254 hue)
 own-agree (Command.MoveHue mode rate enhanced) = move-by mode rate
@@ -155,5 +151,5 @@ own-agree (Command.ColorLoopSet flags action direction time start_hue) = refl
 own-agree Command.StopMoveStep = refl
 
 -- past validity and clock, InvalidCommand is the port's answer exactly where the text's is
-pub invalid-agree : (r : Request) → eqb (after_clock r) 2 ≡ invalid r.command
+pub invalid-agree : (r : Request) → eqb (number_of (after_clock r)) 2 ≡ invalid r.command
 invalid-agree r = stop-by (checks r.command).stop (checks r.command).cause ∙ own-agree r.command

@@ -1,10 +1,9 @@
 -- The port's CurrentHue is the text's, for every stored hue.
 use Prim.Native.Nat.{ℕ, ◌≤◌, ◌<◌}
-use mathlib.Core.Bool.{Bool, true, false}
-use mathlib.Core.Path.{◌≡◌, refl}
+use mathlib.Core.Path.{◌≡◌}
 use native.Mathlib.Omega.{arith}
-use lib.Dec.{ltb}
-use borrow.Author.Tests.{ltb-true, ltb-false}
+use mathlib.Core.Logic.{⊎_elim}
+use Rattle.std.proofs.lemmas.Bool.{cases_lt}
 use Rattle.hue.specs.Hue.{current_hue}
 use Rattle.commands.specs.Commands.{stored}
 use Rattle.conformance.specs.Hues.{UpperByte, CurrentHueOf}
@@ -19,13 +18,8 @@ current-agrees hue =
 
 -- there is no other
 pub current-only : (hue n : ℕ) → CurrentHueOf hue n → n ≡ current_hue hue
-current-only hue n c = go (ltb n 254) refl
-  where
-    go : (b : Bool) → ltb n 254 ≡ b → n ≡ current_hue hue
-    go true e =
-        let upper = c.upper (ltb-true n 254 e) in
-        omega (arith, c.range, upper.enough, upper.whole)
-    go false e = omega (arith, c.range, ltb-false n 254 e, c.last (omega (arith, c.range, ltb-false n 254 e)))
+current-only hue n c =
+    ⊎_elim (λ l. omega (arith, (c.upper l).enough, (c.upper l).whole)) (λ l. omega (arith, c.last)) (cases_lt n 254)
 
 -- the upper byte itself wherever the range has it
 pub current-upper : (hue : ℕ) → hue < 65280 → UpperByte hue (current_hue hue)

@@ -1,13 +1,15 @@
 -- The port's bounds of a move or a step of mireds are the text's, a started move runs between them, and a target is brought to
 -- the closest mireds.
-use Rattle.std.specs.Prelude.{Option, Some, None}
+use Rattle.matter.specs.Causes.{accepted}
+use Rattle.std.specs.Prelude.{Some}
 use Prim.Native.Nat.{ℕ, zero, suc, ◌≤◌, ◌<◌}
-use mathlib.Core.Bool.{Bool, true, false, cond, true≢false}
+use mathlib.Core.Bool.{Bool, true, false, true≢false}
 use mathlib.Core.Path.{◌≡◌, refl, sym, ap, ◌∙◌}
 use native.Mathlib.Omega.{arith}
-use lib.Dec.{ltb, leb}
+use Rattle.std.proofs.lemmas.Bool.Decides.{nat_tests}
+use lib.Dec.{leb}
 use lib.IntN.{ℤ, pos}
-use borrow.Author.Tests.{leb-false, lt-leb, ltb-true, ltb-false, ne_eqb}
+use borrow.Author.Tests.{leb-false, lt-leb, ne_eqb}
 use Rattle.matter.specs.Requests.{request}
 use Rattle.matter.specs.declared.limits.Bounds.{Bounds}
 use Rattle.matter.specs.declared.commands.Command.{Command}
@@ -95,14 +97,14 @@ Answered l x task = (answer l x).task ≡ Some task
 module _ (l : Lamp) (mode : MoveModeEnum) (rate minimum maximum : ℕ) (options : CommandOptions) (on_off : OnOff)
     (first : ℕ) (task : Task)
     (given : Answered l (Call.Command (request (Command.MoveColorTemperature mode rate minimum maximum) options) on_off first) task)
-    (m : Lamp) (same : m.bounds ≡ l.bounds) (clock : ℕ) (accepted : cause m (Call.Start task clock) ≡ 0) where
+    (m : Lamp) (same : m.bounds ≡ l.bounds) (clock : ℕ) (taken : cause m (Call.Start task clock) ≡ accepted) where
   abbrev asks : ColorTemperatureMove
   asks = record { rate = signed mode rate; min = asked l.bounds.min minimum; max = asked l.bounds.max maximum }
 
   -- the task that a command gives is the Stop task or this one, and a Stop is not started
   stop-refused : task ≡ Task.Stop → ⊥
   unfolding cause task_valid
-  stop-refused e = true≢false (sym (start-ready m clock task accepted).1 ∙ ap task_valid e)
+  stop-refused e = true≢false (sym (start-ready m clock task taken).1 ∙ ap task_valid e)
 
   abbrev Gives : CommandEffect → Type 0
   Gives e = e.task ≡ Some task → task ≡ Task.ColorTemperatureMove asks
@@ -127,7 +129,7 @@ module _ (l : Lamp) (mode : MoveModeEnum) (rate minimum maximum : ℕ) (options 
   start_is : answer m (Call.Start task clock) ≡ done (temperature_start (at_clock m clock) asks)
   unfolding started
   start_is =
-      granted-is m (Call.Start task clock) accepted ∙ ap (λ (t : Task). done (started (at_clock m clock) t)) task-is
+      granted-is m (Call.Start task clock) taken ∙ ap (λ (t : Task). done (started (at_clock m clock) t)) task-is
 
   low-is : lower m.bounds asks.min ≡ lo l.bounds minimum
   low-is = ap (λ (b : Bounds). lower b asks.min) same
@@ -179,58 +181,17 @@ module _ (l : Lamp) (mode : MoveModeEnum) (rate minimum maximum : ℕ) (options 
 
 -- ---- MoveToColorTemperature: the closest that the device has
 
-closest-by : (least most n : ℕ) (s t : Bool) → ltb n least ≡ s → ltb most n ≡ t → least ≤ most →
-    Closest least most n (cond s least (cond t most n))
-closest-by least most n true t e f h =
-    let l : n < least = ltb-true n least e in
-    record { low = omega arith; high = omega arith; near = λ o a b. omega arith }
-closest-by least most n false true e f h =
-    let l : most < n = ltb-true most n f in
-    record { low = omega arith; high = omega arith; near = λ o a b. omega arith }
-closest-by least most n false false e f h =
-    record {
-      low = omega (arith, ltb-false n least e);
-      high = omega
-          (arith, ltb-false most n f);
-      near = λ o a b. omega arith;
-    }
-
 -- what a target is brought to is the closest
 pub closest-agrees : (least most n : ℕ) → least ≤ most → Closest least most n (clamp least most (pos n))
 unfolding clamp
-closest-agrees least most n h = closest-by least most n (ltb n least) (ltb most n) refl refl h
+closest-agrees least most n h =
+    record {
+      low = grind (arith, nat_tests);
+      high = grind (arith, nat_tests);
+      near = λ other a b. grind (arith, nat_tests);
+    }
 
 -- and there is no other
-only-by : (least most n a b : ℕ) (s t : Bool) → ltb n least ≡ s → ltb most n ≡ t →
-    Closest least most n a → Closest least most n b → a ≡ b
-only-by least most n a b true t e f c d =
-    let below : n < least = ltb-true n least e in
-    omega (
-      arith,
-      c.low,
-      c.high,
-      d.low,
-      d.high,
-      c.near least (omega arith)
-          (omega (arith, c.low, c.high)),
-      d.near least (omega arith) (omega (arith, c.low, c.high)),
-    )
-only-by least most n a b false true e f c d =
-    let above : most < n = ltb-true most n f in
-    omega (
-      arith,
-      c.low,
-      c.high,
-      d.low,
-      d.high,
-      c.near most (omega (arith, c.low, c.high))
-          (omega arith),
-      d.near most (omega (arith, c.low, c.high)) (omega arith),
-    )
-only-by least most n a b false false e f c d =
-    let low : least ≤ n = ltb-false n least e in
-    let high : n ≤ most = ltb-false most n f in
-    omega (arith, c.near n low high, d.near n low high)
-
 pub closest-only : (least most n a b : ℕ) → Closest least most n a → Closest least most n b → a ≡ b
-closest-only least most n a b = only-by least most n a b (ltb n least) (ltb most n) refl refl
+closest-only least most n a b c d =
+    grind (arith, c.near least, d.near least, c.near most, d.near most, c.near n, d.near n, c.low, c.high, d.low, d.high)

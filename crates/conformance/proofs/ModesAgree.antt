@@ -1,6 +1,7 @@
 -- The modes that a command leads to are the text's; the port sets them when a number first moves or at the end, the text on
 -- receipt.
-use Rattle.std.specs.Prelude.{Option, Some, None}
+use Rattle.matter.specs.Causes.{accepted}
+use Rattle.std.specs.Prelude.{Option, Some, None, ℤ}
 use Prim.Native.Nat.{ℕ}
 use mathlib.Core.Bool.{Bool, true, false, cond, true≢false, ◌||◌, and-false}
 use mathlib.Core.Path.{◌≡◌, refl, sym, ap, ◌∙◌}
@@ -155,10 +156,10 @@ end-temperature-modes l run p over =
 -- ---- on receipt the port leaves them, so they are the text's exactly where they were already
 
 module _ (l : Lamp) (r : Request) (on_off : OnOff) (clock : ℕ) where
-  pub modes-kept : is_loop_set r.command ≡ false → cause l (Call.Command r on_off clock) ≡ 0 → modes_of (answer l (Call.Command r on_off clock)).lamp.color ≡ modes_of l.color
+  pub modes-kept : is_loop_set r.command ≡ false → cause l (Call.Command r on_off clock) ≡ accepted → modes_of (answer l (Call.Command r on_off clock)).lamp.color ≡ modes_of l.color
   modes-kept h z = ap (λ (m : Lamp). modes_of m.color) (quiet-command l r on_off clock h z)
 
-  pub modes-differ : is_loop_set r.command ≡ false → cause l (Call.Command r on_off clock) ≡ 0 → (received (modes_of l.color) r.command ≡ modes_of l.color → ⊥) → modes_of (answer l (Call.Command r on_off clock)).lamp.color ≡ received (modes_of l.color) r.command → ⊥
+  pub modes-differ : is_loop_set r.command ≡ false → cause l (Call.Command r on_off clock) ≡ accepted → (received (modes_of l.color) r.command ≡ modes_of l.color → ⊥) → modes_of (answer l (Call.Command r on_off clock)).lamp.color ≡ received (modes_of l.color) r.command → ⊥
   modes-differ h z n e = n (sym e ∙ modes-kept h z)
 
 -- the smallest: MoveToHue to 0 of a fresh lamp, which is in XY mode

@@ -1,5 +1,6 @@
 -- What a lamp shows in a move at a rate and in the colour loop is the text's, unit by unit (StepsAgree,
 -- LoopTurnAgrees): after every accepted step, and from an accepted start on, as long as it runs and after.
+use Rattle.matter.specs.Causes.{accepted}
 use Prim.Native.Nat.{ℕ, ◌-◌, ◌≤◌, ◌<◌}
 use mathlib.Core.Bool.{Bool, true, false, true≢false}
 use mathlib.Core.Logic.{inl, ⊎_elim}
@@ -105,7 +106,7 @@ module _ (x : Lamp) where
 
 -- ---- an accepted step
 
-module _ (l : Lamp) (clock : ℕ) (accepted : cause l (Call.Step clock) ≡ 0) where
+module _ (l : Lamp) (clock : ℕ) (taken : cause l (Call.Step clock) ≡ accepted) where
   -- MoveHue, EnhancedMoveHue: it never ends, and wraps
   pub shown-hue-move : (run : HueRun) → l.running ≡ Running.HueMove run → run.hue < 65536 →
       (answer l (Call.Step clock)).lamp.color.hue
@@ -116,13 +117,13 @@ module _ (l : Lamp) (clock : ℕ) (accepted : cause l (Call.Step clock) ≡ 0) w
       step_by l (Running.HueMove run) clock
       (λ y. y.color.hue ≡ hue_move_to run.task.direction enhanced_hue_maximum
       (steps_made run.task.rate (clock - run.start)) run.hue)
-      e accepted (λ f g. hue-pass (at_clock l clock) run (valid-clock (at_clock l clock) f) h)
+      e taken (λ f g. hue-pass (at_clock l clock) run (valid-clock (at_clock l clock) f) h)
 
   pub hue-move-goes-on : (run : HueRun) → l.running ≡ Running.HueMove run →
       (answer l (Call.Step clock)).lamp.running ≡ Running.HueMove run
   unfolding stepped hue_passed
   hue-move-goes-on run e =
-      step_by l (Running.HueMove run) clock (λ y. y.running ≡ Running.HueMove run) e accepted (λ f g. refl)
+      step_by l (Running.HueMove run) clock (λ y. y.running ≡ Running.HueMove run) e taken (λ f g. refl)
 
   -- MoveSaturation
   pub shown-saturation-move : (run : SaturationRun) → l.running ≡ Running.SaturationMove run → run.saturation ≤ 254 →
@@ -134,7 +135,7 @@ module _ (l : Lamp) (clock : ℕ) (accepted : cause l (Call.Step clock) ≡ 0) w
       step_by l (Running.SaturationMove run) clock
       (λ y. y.color.saturation ≡ move_to run.task.direction 0 saturation_maximum
       (steps_made run.task.rate (clock - run.start)) run.saturation)
-      e accepted (λ f g. saturation-pass (at_clock l clock) run (valid-clock (at_clock l clock) f) h)
+      e taken (λ f g. saturation-pass (at_clock l clock) run (valid-clock (at_clock l clock) f) h)
 
   -- MoveColorTemperature, from within its bounds
   pub shown-mireds-move : (run : ColorTemperatureRun) (mode : MoveModeEnum) (rate : ℕ) →
@@ -146,7 +147,7 @@ module _ (l : Lamp) (clock : ℕ) (accepted : cause l (Call.Step clock) ≡ 0) w
   shown-mireds-move run mode rate e r low high =
       step_by l (Running.ColorTemperatureMove run) clock
       (λ y. y.color.mireds ≡ move_to mode run.lo run.hi (steps_made rate (clock - run.start)) run.mireds)
-      e accepted (λ f g. mireds-pass (at_clock l clock) run mode rate r (valid-clock (at_clock l clock) f) low high)
+      e taken (λ f g. mireds-pass (at_clock l clock) run mode rate r (valid-clock (at_clock l clock) f) low high)
 
   -- the colour loop
   pub shown-loop : (run : ColorLoopRun) → l.running ≡ loop_running run → run.hue < 65536 →
@@ -158,7 +159,7 @@ module _ (l : Lamp) (clock : ℕ) (accepted : cause l (Call.Step clock) ≡ 0) w
       step_by l (loop_running run) clock
       (λ y. y.color.hue ≡ hue_move_to (turn_mode run.task.direction) enhanced_hue_maximum
       (loop_turn (clock - run.start) run.task.seconds) run.hue)
-      e accepted (λ f g. loop-pass (at_clock l clock) run h)
+      e taken (λ f g. loop-pass (at_clock l clock) run h)
 
 -- ---- from an accepted start on
 

@@ -1,8 +1,9 @@
 -- Leave to run is the text's rule, for every bitmap; the commands heed it, but for Stop mode.
-use Prim.Native.Nat.{ℕ, zero, suc, ◌/◌, ◌%◌, ◌<◌}
+use Prim.Native.Nat.{ℕ, ◌/◌, ◌%◌, ◌<◌}
 use mathlib.Core.Bool.{Bool, true, false, not, cond}
 use mathlib.Core.Path.{◌≡◌, refl, sym}
 use native.Mathlib.Omega.{arith}
+use Rattle.std.proofs.lemmas.Bool.Decides.{nat_tests}
 use lib.Dec.{eqb}
 use Rattle.matter.specs.declared.commands.Command.{Command}
 use Rattle.matter.specs.declared.commands.Request.{Request}
@@ -32,9 +33,7 @@ execute-if-off options mask over = first_bit (temporary_bit options mask over) (
 
 -- a number below 2 that is not 0 is 1
 not-0-is-1 : (n : ℕ) → n < 2 → not (eqb n 0) ≡ eqb n 1
-not-0-is-1 zero h = refl
-not-0-is-1 (suc zero) h = refl
-not-0-is-1 (suc (suc n)) h = absurd (omega arith)
+not-0-is-1 n h = grind (arith, nat_tests)
 
 by : (b : Bool) (x y : ℕ) → not (eqb (cond b (x / 1 % 2) (y / 1 % 2)) 0) ≡ cond b (eqb (x / 1 % 2) 1) (eqb (y / 1 % 2) 1)
 by true x y = not-0-is-1 (x / 1 % 2) (omega arith)

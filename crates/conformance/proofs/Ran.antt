@@ -1,5 +1,6 @@
 -- The lamps that an accepted start and accepted steps after it leave; what the start saves, and that the steps run it
 -- till nothing runs.
+use Rattle.matter.specs.Causes.{accepted, number_of}
 use Prim.Native.Nat.{ℕ, ◌-◌}
 use mathlib.Core.Bool.{Bool, true, false, true≢false}
 use mathlib.Core.Logic.{◌⊎◌, inl, inr}
@@ -91,11 +92,11 @@ started-so m clock Task.Stop t = absurd (true≢false (sym t))
 -- ---- accepted calls
 
 -- they do what is granted
-pub granted-is : (l : Lamp) (x : Call) → cause l x ≡ 0 → answer l x ≡ granted l x
+pub granted-is : (l : Lamp) (x : Call) → cause l x ≡ accepted → answer l x ≡ granted l x
 granted-is l x z = answer-both l (λ a. a ≡ granted l x) x (λ e. refl) (λ n. absurd (n z))
 
 -- what holds of a valid lamp that begins a valid task holds after an accepted start
-pub start-by : (m : Lamp) (task : Task) (clock : ℕ) (P : Lamp → Type 0) → cause m (Call.Start task clock) ≡ 0 →
+pub start-by : (m : Lamp) (task : Task) (clock : ℕ) (P : Lamp → Type 0) → cause m (Call.Start task clock) ≡ accepted →
     (lamp_valid (at_clock m clock) ≡ true → task_valid task ≡ true → P (started (at_clock m clock) task).lamp) →
     P (answer m (Call.Start task clock)).lamp
 unfolding cause
@@ -104,7 +105,7 @@ start-by m task clock P z h =
     answer-both m (λ a. P a.lamp) (Call.Start task clock) (λ e. h f.0 f.1) (λ n. absurd (n z))
 
 -- and of one that makes a pass of what runs, valid too, after an accepted step
-pub step_by : (x : Lamp) (run : Running) (clock : ℕ) (P : Lamp → Type 0) → x.running ≡ run → cause x (Call.Step clock) ≡ 0 →
+pub step_by : (x : Lamp) (run : Running) (clock : ℕ) (P : Lamp → Type 0) → x.running ≡ run → cause x (Call.Step clock) ≡ accepted →
     (lamp_valid (at_clock x clock) ≡ true → running_valid run x.bounds clock ≡ true →
     P (stepped (at_clock x clock) run).lamp) →
     P (answer x (Call.Step clock)).lamp
@@ -118,20 +119,20 @@ step_by x run clock P e z h =
     (λ k. absurd (k z))
 
 -- an accepted start saves this, or is done at once
-pub start-saves : (m : Lamp) (task : Task) (clock : ℕ) → cause m (Call.Start task clock) ≡ 0 →
+pub start-saves : (m : Lamp) (task : Task) (clock : ℕ) → cause m (Call.Start task clock) ≡ accepted →
     OnOrIdle (saved m task clock) (answer m (Call.Start task clock)).lamp.running
 start-saves m task clock z =
     start-by m task clock (λ y. OnOrIdle (saved m task clock) y.running) z (λ f t. started-so m clock task t)
 
 -- a lamp whose step is accepted runs something
-step-runs : (x : Lamp) (run : Running) (clock : ℕ) → OnOrIdle run x.running → cause x (Call.Step clock) ≡ 0 →
+step-runs : (x : Lamp) (run : Running) (clock : ℕ) → OnOrIdle run x.running → cause x (Call.Step clock) ≡ accepted →
     x.running ≡ run
 step-runs x run clock (inl e) z = e
 step-runs x run clock (inr e) z = by (lamp_valid x) refl
   where
     by : (t : Bool) → lamp_valid x ≡ t → x.running ≡ run
-    by true f = absurd (omega (arith, step-7 x clock f (ap runs e)))
-    by false f = absurd (omega (arith, step-8 x clock f))
+    by true f = absurd (omega (arith, step-7 x clock f (ap runs e), ap number_of z))
+    by false f = absurd (omega (arith, step-8 x clock f, ap number_of z))
 
 module _ (m : Lamp) (task : Task) (begun : ℕ) where
   -- it runs what was saved, or nothing
@@ -143,7 +144,7 @@ module _ (m : Lamp) (task : Task) (begun : ℕ) where
       (λ f g. stepped-so (at_clock x clock) (saved m task begun))
 
   -- and what was saved, where it takes another step
-  pub ran-runs : (n : Lamp) (clock : ℕ) → Ran m task begun n → cause n (Call.Step clock) ≡ 0 →
+  pub ran-runs : (n : Lamp) (clock : ℕ) → Ran m task begun n → cause n (Call.Step clock) ≡ accepted →
       n.running ≡ saved m task begun
   ran-runs n clock r z = step-runs n (saved m task begun) clock (ran-saves n r) z
 

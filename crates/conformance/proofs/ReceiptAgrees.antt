@@ -1,6 +1,7 @@
 -- Every command that moves a number does what the text asks of it, from its fields to the numbers that a lamp shows:
 -- the call is accepted and gives a valid task, and every lamp on which that task is started, and stepped, shows
 -- what the text has then.
+use Rattle.matter.specs.Causes.{accepted, invalid_command}
 use Rattle.std.specs.Prelude.{Option, Some, None}
 use Prim.Native.Nat.{ℕ, zero, suc, ◌-◌, ◌≤◌, ◌<◌, min, max}
 use mathlib.Core.Bool.{Bool, true, false, cond, true≢false}
@@ -111,9 +112,9 @@ Does bounds received c None = ⊥
 Does bounds received c (Some task) =
     ((m : Lamp) (clock : ℕ) → runs (saved m task clock) ≡ true) × Follows bounds received c task
 
-not-0 : (n cause : ℕ) → cause_if (eqb n 0) (suc cause) ≡ 0 → 0 < n
-not-0 zero cause e = absurd (omega arith)
-not-0 (suc n) cause e = omega arith
+not-0 : (n : ℕ) → cause_if (eqb n 0) invalid_command ≡ accepted → 0 < n
+not-0 zero e = cc
+not-0 (suc n) e = omega arith
 
 -- one of the three said another way
 module _ {H S M : Type 0} (g : Each H S M) where
@@ -160,7 +161,7 @@ module _ (l : Lamp) (validity : lamp_valid l ≡ true) (hued : l.color.hue < 655
 
   -- a command with good fields
   abbrev Asked : Command → Type 0
-  Asked c = InRangeCommand c → (checks c).cause ≡ 0 → Does l.bounds l.color c (command_effect l c).task
+  Asked c = InRangeCommand c → (checks c).cause ≡ accepted → Does l.bounds l.color c (command_effect l c).task
 
   move-to-hue-does : (hue : ℕ) (direction : DirectionEnum) (time : ℕ) →
       Asked (Command.MoveToHue hue direction time)
@@ -187,7 +188,7 @@ module _ (l : Lamp) (validity : lamp_valid l ≡ true) (hued : l.color.hue < 655
     λ m clock. refl,
     λ m n begun b k r clock lasts.
         with-hue (move-to-follows m begun _ k n r clock lasts)
-        (step-goes mode (stored size) _ _ _ _ (omega (arith, not-0 size 1 z))),
+        (step-goes mode (stored size) _ _ _ _ (omega (arith, not-0 size z))),
   )
 
   move-to-saturation-does : (saturation time : ℕ) →
@@ -245,7 +246,7 @@ module _ (l : Lamp) (validity : lamp_valid l ≡ true) (hued : l.color.hue < 655
   enhanced-step-hue-does mode size time t z = (
     λ m clock. refl,
     λ m n begun b k r clock lasts.
-        with-hue (move-to-follows m begun _ k n r clock lasts) (step-goes mode size _ _ _ _ (not-0 size 1 z)),
+        with-hue (move-to-follows m begun _ k n r clock lasts) (step-goes mode size _ _ _ _ (not-0 size z)),
   )
 
   move-to-color-temperature-does : (mireds time : ℕ) →
@@ -332,15 +333,15 @@ module _ (l : Lamp) (validity : lamp_valid l ≡ true) (hued : l.color.hue < 655
   does Command.StopMoveStep v = absurd (true≢false (sym v))
 
 -- an accepted command has no cause of its own numbers
-command-fields : (l : Lamp) (q : Request) (on_off : OnOff) (clock : ℕ) → cause l (Call.Command q on_off clock) ≡ 0 →
-    (checks q.command).stop ≡ false → (checks q.command).cause ≡ 0
+command-fields : (l : Lamp) (q : Request) (on_off : OnOff) (clock : ℕ) → cause l (Call.Command q on_off clock) ≡ accepted →
+    (checks q.command).stop ≡ false → (checks q.command).cause ≡ accepted
 unfolding cause command_cause
 command-fields l q on_off clock z s =
     rw s at (no-cause (first_cause l clock) (after_clock q) z).1
 
 -- an accepted command that may execute, in no Stop mode, does what the text asks
 pub receipt-agrees : (l : Lamp) (q : Request) (on_off : OnOff) (clock : ℕ) → l.color.hue < 65536 → InRangeRequest q →
-    moves q.command ≡ true → cause l (Call.Command q on_off clock) ≡ 0 → allowed l q on_off ≡ true → (checks q.command).stop ≡ false →
+    moves q.command ≡ true → cause l (Call.Command q on_off clock) ≡ accepted → allowed l q on_off ≡ true → (checks q.command).stop ≡ false →
     Gives l q.command (answer l (Call.Command q on_off clock)).task
 receipt-agrees l q on_off clock h t v z a s =
     gives _ refl

@@ -1,20 +1,25 @@
 -- The remaining time is reported exactly where the text has it reportable, for all numbers; a colour attribute is reported of a change
 -- exactly where the text allows it, by its setter and in every accepted step. Where the port reports more, or less.
+use Rattle.matter.specs.Causes.{accepted}
+use Rattle.notices.specs.declared.Notice.{Notice}
 use Rattle.std.specs.Prelude.{Option, Some, None}
 use Prim.Native.Nat.{ℕ, zero, suc, ◌+◌, ◌-◌, ◌<◌}
-use mathlib.Core.Bool.{Bool, true, false, not, cond, ◌&&◌, true≢false, ◌||◌, or-true, or-false, or_assoc, and-true, and-false}
+use mathlib.Core.Bool.{Bool, true, false, not, cond, ◌&&◌, ◌||◌, or-true, or-false, or_assoc, and-true, and-false}
 use mathlib.Core.List.{List, [], ◌∷◌, ◌++◌}
 use mathlib.Core.Path.{◌≡◌, refl, sym, ap, subst, ◌∙◌}
 use native.Mathlib.Omega.{arith}
-use lib.Dec.{ltb, eqb}
+use mathlib.Core.Logic.{⊎_elim}
+use Rattle.std.proofs.lemmas.Bool.{cases_lt, cases_eq}
+use Rattle.std.proofs.lemmas.Bool.Decides.{nat_tests}
+use lib.Dec.{eqb}
 use lib.IntN.{ℤ}
 use lib.ListN.{length, replicate}
-use borrow.Author.Tests.{leb-true, le-leb, lt-leb, ltb-true, ltb-false, lt-ltb, le-ltb, eqb-true, eqb-false, ne_eqb, not-true}
+use borrow.Author.Tests.{leb-true, le-leb, lt-leb, ne_eqb, not-true}
 use Rattle.matter.specs.declared.enums.ColorModeEnum.{ColorModeEnum}
 use Rattle.matter.specs.Limits.{saturation_limit}
 use Rattle.matter.proofs.Laws.{and_left, and_right, or_left, or_right, cond_both}
 use Rattle.notices.specs.Notices.{only, filled}
-use Rattle.notices.specs.Names.{CurrentHue, EnhancedCurrentHue, CurrentSaturation, ColorTemperatureMireds, ColorMode, EnhancedColorMode, RemainingTime, marked_dirty, scenes_notified, device_hue_saturation, device_mireds}
+use Rattle.notices.specs.Names.{CurrentHue, EnhancedCurrentHue, CurrentSaturation, ColorTemperatureMireds, ColorMode, EnhancedColorMode, RemainingTime, marked_dirty, scenes_notified, device_hue_saturation, device_mireds, notice_number}
 use Rattle.color.specs.declared.Color.{Color}
 use Rattle.color.specs.Setters.{due, same, change_reported, change_of, hue_set, hue_reported, saturation_set, saturation_reported, mireds_set, mireds_reported}
 use Rattle.progress.specs.Progress.{permille_of, tenths_of, delta_at_rate, clamped_sum, loop_delta}
@@ -47,57 +52,45 @@ use Rattle.conformance.specs.Reports.{RemainingTimeIs, Reportable, from_zero, ri
 pub remaining-agrees : (ms : ℕ) → RemainingTimeIs ms (tenths_of ms)
 remaining-agrees ms = record { enough = omega arith; fewest = λ n h. omega arith }
 
-third : (a b : Bool) {c : Bool} → c ≡ true → (a || b || c) ≡ true
-third true b e = refl
-third false true e = refl
-third false false e = e
-
 -- what is reportable is reported
 pub reportable-is-reported : {old new : ℕ} {start : Bool} → Reportable old new start → reported old new start ≡ true
 unfolding reported
-reportable-is-reported (from_zero new start h) = rw (ne_eqb new 0 (λ e. omega arith), lt-ltb 10 new h)
-reportable-is-reported (risen old new h) = third (eqb new 0 && not (eqb old 0)) (eqb old 0 && ltb 10 new) (rw (lt-ltb 10 (apart new old) (omega arith)))
-reportable-is-reported (fallen old new h) = third (eqb new 0 && not (eqb old 0)) (eqb old 0 && ltb 10 new) (rw (lt-ltb 10 (apart new old) (omega arith)))
-reportable-is-reported (to_zero old start h) = rw (ne_eqb old 0 (λ e. omega arith))
+reportable-is-reported (from_zero new start h) = grind (arith, nat_tests)
+reportable-is-reported (risen old new h) = grind (arith, nat_tests)
+reportable-is-reported (fallen old new h) = grind (arith, nat_tests)
+reportable-is-reported (to_zero old start h) = grind (arith, nat_tests)
 
 -- what is reported is reportable
 module _ (old new : ℕ) where
-  changed-by : (t : Bool) → ltb old new ≡ t → 10 < apart new old → Reportable old new true
-  changed-by true e h = risen old new (omega (arith, ltb-true old new e))
-  changed-by false e h = fallen old new (omega (arith, ltb-false old new e))
+  from-0 : (start : Bool) → reported 0 new start ≡ true → (new ≡ 0 → ⊥) → 10 < new
+  unfolding reported
+  from-0 start e z = grind (arith, nat_tests)
 
-  to-zero : eqb new 0 ≡ true → eqb old 0 ≡ false → (start : Bool) → Reportable old new start
-  to-zero a b start = rw (eqb-true new 0 a) (to_zero old start (omega (arith, eqb-false old 0 b)))
+  to-0 : (start : Bool) → reported old 0 start ≡ true → 0 < old
+  unfolding reported
+  to-0 start e = grind (arith, nat_tests)
 
-  from-zero : eqb old 0 ≡ true → ltb 10 new ≡ true → (start : Bool) → Reportable old new start
-  from-zero b c start = rw (eqb-true old 0 b) (from_zero new start (ltb-true 10 new c))
+  -- from a number to another, neither of them 0
+  by : (start : Bool) → reported old new start ≡ true → (old ≡ 0 → ⊥) → (new ≡ 0 → ⊥) → (start ≡ true) × (10 < apart new old)
+  unfolding reported
+  by true e y z = (refl, grind (arith, nat_tests))
+  by false e y z = absurd (grind (arith, nat_tests))
 
-  by : (a b c d start : Bool) → eqb new 0 ≡ a → eqb old 0 ≡ b → ltb 10 new ≡ c → ltb 10 (apart new old) ≡ d → ((a && not b) || (b && c) || (d && start)) ≡ true → Reportable old new start
-  by true false c d start ea eb ec ed e = to-zero ea eb start
-  by true true true d start ea eb ec ed e = from-zero eb ec start
-  by true true false true true ea eb ec ed e = changed-by (ltb old new) refl (ltb-true 10 (apart new old) ed)
-  by true true false true false ea eb ec ed e = absurd (true≢false (sym e))
-  by true true false false start ea eb ec ed e = absurd (true≢false (sym e))
-  by false true true d start ea eb ec ed e = from-zero eb ec start
-  by false true false true true ea eb ec ed e = changed-by (ltb old new) refl (ltb-true 10 (apart new old) ed)
-  by false true false true false ea eb ec ed e = absurd (true≢false (sym e))
-  by false true false false start ea eb ec ed e = absurd (true≢false (sym e))
-  by false false c true true ea eb ec ed e = changed-by (ltb old new) refl (ltb-true 10 (apart new old) ed)
-  by false false c true false ea eb ec ed e = absurd (true≢false (sym e))
-  by false false c false start ea eb ec ed e = absurd (true≢false (sym e))
+  changed : (start : Bool) → start ≡ true → 10 < apart new old → Reportable old new start
+  changed start s h =
+      rw s (⊎_elim (λ l. risen old new (omega arith)) (λ l. fallen old new (omega arith)) (cases_lt old new))
 
   pub reported-is-reportable : (start : Bool) → reported old new start ≡ true → Reportable old new start
-  unfolding reported
-  reported-is-reportable start e = by (eqb new 0) (eqb old 0) (ltb 10 new) (ltb 10 (apart new old)) start refl refl refl refl e
+  reported-is-reportable start e =
+      ⊎_elim (λ z. rw z (to_zero old start (to-0 start (rw z at e))))
+      (λ z. ⊎_elim (λ y. rw y (from_zero new start (from-0 start (rw y at e) z)))
+      (λ y. let c = by start e y z in changed start c.0 c.1) (cases_eq old 0))
+      (cases_eq new 0)
 
 -- the sentence on times below a second: the start of such a fade from rest is silent, as it asks
 pub short-start : (time : ℕ) → hushed time → reported 0 time true ≡ false
 unfolding reported
-short-start time h = rw (le-ltb 10 time (omega arith), le-ltb 10 (apart time 0) (omega arith)) (silent (eqb time 0))
-  where
-    silent : (a : Bool) → ((a && not true) || (true && false) || (false && true)) ≡ false
-    silent true = refl
-    silent false = refl
+short-start time h = grind (arith, nat_tests)
 
 -- and its end is reported, where it asks for silence: the smallest is a fade of a tenth
 pub short-end-differs : hushed 1 × (reported 1 0 false ≡ true)
@@ -126,9 +119,9 @@ but-for : (n : ℕ) (reported rest : List ℕ) → reports n rest ≡ false → 
 but-for n reported rest none = reports-both n reported rest ∙ rw none (or-false (reports n reported))
 
 -- of a change, its attributes and the modes are reported exactly where the change is due
-module _ (n attribute : ℕ) (enhanced : Bool) (other : reports n (marked_dirty ∷ scenes_notified ∷ []) ≡ false) where
+module _ (n : ℕ) (attribute : Notice) (enhanced : Bool) (other : reports n (marked_dirty ∷ scenes_notified ∷ []) ≡ false) where
   abbrev noticed : List ℕ
-  noticed = (attribute ∷ only enhanced EnhancedCurrentHue) ++ (ColorMode ∷ EnhancedColorMode ∷ [])
+  noticed = (notice_number attribute ∷ only enhanced EnhancedCurrentHue) ++ (ColorMode ∷ EnhancedColorMode ∷ [])
 
   last-by : (d : Bool) → reports n (cond d noticed [] ++ (scenes_notified ∷ [])) ≡ d && reports n noticed
   last-by true = but-for n noticed (scenes_notified ∷ []) (or_right (eqb n marked_dirty) (reports n (scenes_notified ∷ [])) other)
@@ -152,9 +145,9 @@ pub data HueNotice : ℕ → Bool → Type 0 where
   of_enhanced_current_hue : HueNotice EnhancedCurrentHue true
 
 hue-by : {n : ℕ} {enhanced : Bool} → HueNotice n enhanced → (s a d : Bool) →
-    reports n (change_reported (change_of s d CurrentHue enhanced) a) ≡ not s && d
-hue-by (of_current_hue enhanced) = change-by CurrentHue CurrentHue enhanced refl refl
-hue-by of_enhanced_current_hue = change-by EnhancedCurrentHue CurrentHue true refl refl
+    reports n (change_reported (change_of s d Notice.CurrentHue enhanced) a) ≡ not s && d
+hue-by (of_current_hue enhanced) = change-by CurrentHue Notice.CurrentHue enhanced refl refl
+hue-by of_enhanced_current_hue = change-by EnhancedCurrentHue Notice.CurrentHue true refl refl
 
 -- a notice of a number that becomes another is one that may be reported, and of a change each that may be is reported
 pub record ReportedAs (notice : ℕ) (reported : List ℕ) (old new stamp clock : ℕ) (end : Bool) : Type 0 where
@@ -180,11 +173,11 @@ module _ (c : Color) (new : ℕ) (end : Bool) (clock : ℕ) (active : Bool) wher
 
   saturation-change-reported : ReportedWhere CurrentSaturation (saturation_reported c new end clock active) c.saturation new
       c.stamps.saturation clock end
-  saturation-change-reported = change-by CurrentSaturation CurrentSaturation false refl refl (same c.saturation new end) active (due end c.stamps.saturation clock)
+  saturation-change-reported = change-by CurrentSaturation Notice.CurrentSaturation false refl refl (same c.saturation new end) active (due end c.stamps.saturation clock)
 
   mireds-change-reported : ReportedWhere ColorTemperatureMireds (mireds_reported c new end clock active) c.mireds new
       c.stamps.mireds clock end
-  mireds-change-reported = change-by ColorTemperatureMireds ColorTemperatureMireds false refl refl (same c.mireds new end) active (due end c.stamps.mireds clock)
+  mireds-change-reported = change-by ColorTemperatureMireds Notice.ColorTemperatureMireds false refl refl (same c.mireds new end) active (due end c.stamps.mireds clock)
 
   pub hue-reported : {n : ℕ} {enhanced : Bool} → HueNotice n enhanced →
       ReportedAs n (hue_reported c new end enhanced clock active) c.hue new c.stamps.hue clock end
@@ -241,9 +234,9 @@ module _ (c : Color) (clock later : ℕ) (soon : later < clock + 1000) (end : Bo
 
 -- ---- where the port reports more, or less
 
-mode-by : (s a d e : Bool) → reports ColorMode (change_reported (change_of s d CurrentHue e) a) ≡ not s && d
-mode-by s a d true = change-by ColorMode CurrentHue true refl refl s a d
-mode-by s a d false = change-by ColorMode CurrentHue false refl refl s a d
+mode-by : (s a d e : Bool) → reports ColorMode (change_reported (change_of s d Notice.CurrentHue e) a) ≡ not s && d
+mode-by s a d true = change-by ColorMode Notice.CurrentHue true refl refl s a d
+mode-by s a d false = change-by ColorMode Notice.CurrentHue false refl refl s a d
 
 module _ (c : Color) (clock : ℕ) (active : Bool) where
   -- more: at an end the number is reported though it is the old one, where the text speaks of changes. Smallest: hue 0 to 0
@@ -262,7 +255,7 @@ module _ (c : Color) (clock : ℕ) (active : Bool) where
   -- less: a plain move reports no EnhancedCurrentHue, which it changes
   pub enhanced-unreported : (new : ℕ) (end : Bool) → reports EnhancedCurrentHue (hue_reported c new end false clock active) ≡ false
   enhanced-unreported new end =
-      no-change-by EnhancedCurrentHue CurrentHue false refl refl (same c.hue new end) active (due end c.stamps.hue clock)
+      no-change-by EnhancedCurrentHue Notice.CurrentHue false refl refl (same c.hue new end) active (due end c.stamps.hue clock)
 
 -- ---- over calls: an accepted step reports an attribute exactly where it may be reported, whatever moves it
 
@@ -306,7 +299,7 @@ no-saturation : (n : ℕ) → reports n (CurrentSaturation ∷ ColorMode ∷ Enh
     reports n (change_reported (saturation_moved c t first p clock).change active) ≡ false
 no-saturation n none other c None first p clock active = refl
 no-saturation n none other c (Some target) first p clock active =
-    no-change-by n CurrentSaturation false other none
+    no-change-by n Notice.CurrentSaturation false other none
     (same c.saturation (saturation_now first target p) (at_end p)) active (due (at_end p) c.stamps.saturation clock)
 
 -- nor is CurrentSaturation of a hue, which leaves its number and stamp
@@ -320,7 +313,7 @@ no-hue : (c : Color) (d : Option ℤ) (first p : ℕ) (enhanced : Bool) (clock :
     reports CurrentSaturation (change_reported (hue_moved c d first p enhanced clock).change active) ≡ false
 no-hue c None first p enhanced clock active = refl
 no-hue c (Some way) first p enhanced clock active =
-    no-change-by CurrentSaturation CurrentHue enhanced refl (no-hue-by enhanced)
+    no-change-by CurrentSaturation Notice.CurrentHue enhanced refl (no-hue-by enhanced)
     (same c.hue (hue_now first way p) (at_end p)) active (due (at_end p) c.stamps.hue clock)
 
 hue-leaves-stamp : (c : Color) (d : Option ℤ) (first p : ℕ) (enhanced : Bool) (clock : ℕ) →
@@ -335,12 +328,12 @@ hue-leaves-stamp c (Some way) first p enhanced clock =
           (λ (x : Color). x.stamps.saturation ≡ c.stamps.saturation) t c _ (λ e. refl) (λ e. refl),
     )
 
-module _ (l : Lamp) (clock : ℕ) (accepted : cause l (Call.Step clock) ≡ 0) where
+module _ (l : Lamp) (clock : ℕ) (taken : cause l (Call.Step clock) ≡ accepted) where
   abbrev on : Lamp
   on = at_clock l clock
 
   answer-is : (r : Running) → l.running ≡ r → answer l (Call.Step clock) ≡ done (stepped on r)
-  answer-is r e = granted-is l (Call.Step clock) accepted ∙ ap (λ (x : Running). done (stepped on x)) e
+  answer-is r e = granted-is l (Call.Step clock) taken ∙ ap (λ (x : Running). done (stepped on x)) e
 
   -- a pass whose notices report the number so
   reported-by : (n : ℕ) (number stamp : Color → ℕ) (new : ℕ) (end : Bool) (e : Effect) →
@@ -379,7 +372,7 @@ module _ (l : Lamp) (clock : ℕ) (accepted : cause l (Call.Step clock) ≡ 0) w
       let (z, device, time, others, dirty) = apart_from h in
       reported-by n (λ c. c.hue) (λ c. c.stamps.hue) (hue_now run.hue way p) (at_end p)
       (stepped on (Running.HueSaturationMoveTo run)) is
-      (sym (ap (λ (a : Answer). a.lamp.color.hue) is) ∙ (rw d at (step-shows l clock accepted run e).hue))
+      (sym (ap (λ (a : Answer). a.lamp.color.hue) is) ∙ (rw d at (step-shows l clock taken run e).hue))
       (ended_by (at_end p) (Running.HueSaturationMoveTo run) refl) z
       (but-for n (change_reported passed.first active) (reported_behind passed active)
       (but-for n (saturations ++ (device_hue_saturation ∷ [])) (only passed.time RemainingTime) (no-time n time passed.time)

@@ -2,6 +2,7 @@
 -- runs and after. The hue is that of the start and the part of its way (`gone`, the part's size, is compared with the
 -- text's in TransitionAgrees); the saturation and the mireds are the numbers on their lines; the remaining time is the
 -- text's.
+use Rattle.matter.specs.Causes.{accepted}
 use Rattle.std.specs.Prelude.{Option, Some, None}
 use Prim.Native.Nat.{ℕ, zero, suc, ◌-◌, ◌%◌, ◌≤◌, ◌<◌, min}
 use mathlib.Core.Bool.{Bool, true, false, cond, ◌&&◌, ◌||◌, or-true, true≢false}
@@ -9,9 +10,10 @@ use mathlib.Core.Logic.{◌⊎◌, inl, inr, ⊎_elim}
 use mathlib.Core.Path.{◌≡◌, refl, sym, ap, subst, ◌∙◌}
 use native.Mathlib.Nat.{zero-div}
 use native.Mathlib.Omega.{arith}
+use Rattle.std.proofs.lemmas.Bool.Decides.{nat_tests}
 use lib.Dec.{leb, eqb}
 use lib.IntN.{ℤ, pos, negsuc, nat_abs, ◌-ℤ◌}
-use borrow.Author.Tests.{eqb-true, eq-eqb, ne_eqb, leb-true, leb-false, lt-leb}
+use borrow.Author.Tests.{eqb-true, eq-eqb, ne_eqb, leb-true, lt-leb}
 use Rattle.matter.specs.declared.limits.Bounds.{Bounds}
 use Rattle.matter.proofs.Laws.{and_left, and_right, cond_both, each}
 use Rattle.hue.specs.Hue.{moved_hue}
@@ -90,7 +92,7 @@ no_part p = part_up 0 p ∙ ap pos (omega arith)
 module _ (first p elapsed time : ℕ) where
   -- the thousandths are those of the time, or so
   abbrev Or : Type 0 → Type 0
-  Or None = (p ≡ permille_of elapsed time) ⊎ None
+  Or NoWay = (p ≡ permille_of elapsed time) ⊎ NoWay
 
   same-part : (way : ℤ) → Or (way ≡ pos 0) → part_of way p ≡ part_of way (permille_of elapsed time)
   same-part way (inl e) = ap (part_of way) e
@@ -215,15 +217,12 @@ pub record RunsOn (time elapsed : ℕ) (run : Running) (after : Lamp) : Type 0 w
   pub ends : time ≤ elapsed → after.running ≡ Running.Idle
   pub goes_on : elapsed < time → after.running ≡ run
 
-over : (e t : ℕ) (b : Bool) → leb t e ≡ b → leb 1000 (permille_of e t) ≡ true → t ≤ e
-over e t true f h = leb-true t e f
-over e t false f h = absurd (omega (arith, permille-short e t (leb-false t e f), leb-true 1000 (permille_of e t) h))
-
-left_by : (e t : ℕ) (b : Bool) → leb 1000 (permille_of e t) ≡ b → t ≤ 6553500 →
-    RemainingTimeIs (t - e) (new_tenths (cond b 0 (t - e)))
-left_by e t true f h =
-    let k : t ≤ e = over e t (leb t e) refl f in record { enough = omega arith; fewest = λ n m. omega arith }
-left_by e t false f h = record { enough = omega arith; fewest = λ n m. omega arith }
+left_by : (e t : ℕ) → t ≤ 6553500 → RemainingTimeIs (t - e) (new_tenths (cond (leb 1000 (permille_of e t)) 0 (t - e)))
+left_by e t h =
+    record {
+      enough = grind (arith, nat_tests, permille-short e t);
+      fewest = λ n m. grind (arith, nat_tests, permille-short e t);
+    }
 
 -- a time valid is at most 6,553,500
 time-valid : (ms : ℕ) → time_valid ms ≡ true → ms ≤ 6553500
@@ -235,12 +234,12 @@ runs_on : (time elapsed : ℕ) (run : Running) (after : Lamp) → time_valid tim
 runs_on time elapsed run after validity left runs =
     record {
       remaining =
-          rw left (left_by elapsed time (leb 1000 (permille_of elapsed time)) refl (time-valid time validity));
+          rw left (left_by elapsed time (time-valid time validity));
       ends = λ h. runs ∙ rw (permille-full elapsed time h);
       goes_on = λ h. runs ∙ rw (lt-leb 1000 (permille_of elapsed time) (permille-short elapsed time h));
     }
 
-module _ (l : Lamp) (clock : ℕ) (accepted : cause l (Call.Step clock) ≡ 0) where
+module _ (l : Lamp) (clock : ℕ) (taken : cause l (Call.Step clock) ≡ accepted) where
   -- of a move to a hue, a saturation or both
   module _ (run : HueSaturationRun) (running : l.running ≡ Running.HueSaturationMoveTo run) where
     pub step-shows : ShowsMoveTo run.task run.hue run.saturation (clock - run.start) l.color
@@ -248,14 +247,14 @@ module _ (l : Lamp) (clock : ℕ) (accepted : cause l (Call.Step clock) ≡ 0) w
     step-shows =
         step_by l _ clock
         (λ y. ShowsMoveTo run.task run.hue run.saturation (clock - run.start) l.color y.color)
-        running accepted (λ f g. stepped-shows (at_clock l clock) (clock - run.start) run g refl)
+        running taken (λ f g. stepped-shows (at_clock l clock) (clock - run.start) run g refl)
 
     pub step-runs-on : RunsOn run.task.ms (clock - run.start) (Running.HueSaturationMoveTo run)
         (answer l (Call.Step clock)).lamp
     unfolding stepped hue_saturation_moved timed running_valid move_to_valid
     step-runs-on =
         step_by l _ clock (RunsOn run.task.ms (clock - run.start) (Running.HueSaturationMoveTo run)) running
-        accepted (λ f g. runs_on _ _ _ _ (each _ (each _ g).0).0 refl refl)
+        taken (λ f g. runs_on _ _ _ _ (each _ (each _ g).0).0 refl refl)
 
   -- of a move to mireds
   module _ (run : ColorTemperatureToRun) (running : l.running ≡ Running.ColorTemperatureMoveTo run) where
@@ -264,14 +263,14 @@ module _ (l : Lamp) (clock : ℕ) (accepted : cause l (Call.Step clock) ≡ 0) w
     mireds-step-shows =
         step_by l _ clock
         (λ y. ShowsMiredsTo run.mireds run.task.target (clock - run.start) run.task.ms l.color
-        y.color) running accepted (λ f g. stepped-shows-mireds (at_clock l clock) (clock - run.start) run g refl)
+        y.color) running taken (λ f g. stepped-shows-mireds (at_clock l clock) (clock - run.start) run g refl)
 
     pub mireds-step-runs-on : RunsOn run.task.ms (clock - run.start) (Running.ColorTemperatureMoveTo run)
         (answer l (Call.Step clock)).lamp
     unfolding stepped temperature_to_moved timed running_valid
     mireds-step-runs-on =
         step_by l _ clock (RunsOn run.task.ms (clock - run.start) (Running.ColorTemperatureMoveTo run)) running
-        accepted (λ f g. runs_on _ _ _ _ (each _ g).0 refl refl)
+        taken (λ f g. runs_on _ _ _ _ (each _ g).0 refl refl)
 
 -- ---- an accepted start
 
@@ -377,27 +376,27 @@ module _ (l : Lamp) (clock : ℕ) (validity : lamp_valid (at_clock l clock) ≡ 
       (closest-agrees l.bounds.min l.bounds.max target (omega (arith, bounded))) closest
 
 module _ (l : Lamp) (clock : ℕ) where
-  pub start-begins : (task : HueSaturationMoveTo) → cause l (Call.Start (Task.HueSaturationMoveTo task) clock) ≡ 0 →
+  pub start-begins : (task : HueSaturationMoveTo) → cause l (Call.Start (Task.HueSaturationMoveTo task) clock) ≡ accepted →
       Begins task.ms (saved l (Task.HueSaturationMoveTo task) clock) (Nowhere task l.color.saturation)
       (answer l (Call.Start (Task.HueSaturationMoveTo task) clock)).lamp
   unfolding started hue_saturation_start hue_saturation_moved timed task_valid move_to_valid
-  start-begins task accepted =
+  start-begins task taken =
       let first : ℕ = l.color.saturation in
       start-by l (Task.HueSaturationMoveTo task) clock
-      (Begins task.ms (saved l (Task.HueSaturationMoveTo task) clock) (Nowhere task first)) accepted
+      (Begins task.ms (saved l (Task.HueSaturationMoveTo task) clock) (Nowhere task first)) taken
       (λ f t. begins-by task.ms clock _ _ (still task first) _ (each _ t).0 (nowhere-still task first)
       (still-nowhere task first) refl refl)
 
   -- of a move to mireds, to the closest that the bounds allow
   pub mireds-start-begins : (task : ColorTemperatureMoveTo) →
-      cause l (Call.Start (Task.ColorTemperatureMoveTo task) clock) ≡ 0 →
+      cause l (Call.Start (Task.ColorTemperatureMoveTo task) clock) ≡ accepted →
       (to : ℕ) → Closest l.bounds.min l.bounds.max task.target to →
       Begins task.ms (saved l (Task.ColorTemperatureMoveTo task) clock) (to ≡ l.color.mireds)
       (answer l (Call.Start (Task.ColorTemperatureMoveTo task) clock)).lamp
   unfolding started temperature_to_start temperature_to_moved timed task_valid
-  mireds-start-begins task accepted to closest =
+  mireds-start-begins task taken to closest =
       start-by l (Task.ColorTemperatureMoveTo task) clock
-      (Begins task.ms (saved l (Task.ColorTemperatureMoveTo task) clock) (to ≡ l.color.mireds)) accepted
+      (Begins task.ms (saved l (Task.ColorTemperatureMoveTo task) clock) (to ≡ l.color.mireds)) taken
       (λ f t.
       let e = closest-is l clock f task.target to closest in
       begins-by task.ms clock _ _
@@ -420,10 +419,10 @@ same-thousandths p begun time clock run after r u h (inr (i, le)) =
     )
 
 -- of a start, unless there is no way
-start-thousandths : (ms begun clock : ℕ) (no_delta : Bool) (None : Type 0) (run : Running) (after : Lamp) →
-    runs run ≡ true → after.running ≡ unless (at_end (start_permille ms no_delta)) run → after.clock ≡ begun → (no_delta ≡ true → None) →
-    Lasts after clock → (start_permille ms no_delta ≡ permille_of (clock - begun) ms) ⊎ None
-start-thousandths ms begun clock no_delta None run after r u c so lasts =
+start-thousandths : (ms begun clock : ℕ) (no_delta : Bool) (NoWay : Type 0) (run : Running) (after : Lamp) →
+    runs run ≡ true → after.running ≡ unless (at_end (start_permille ms no_delta)) run → after.clock ≡ begun → (no_delta ≡ true → NoWay) →
+    Lasts after clock → (start_permille ms no_delta ≡ permille_of (clock - begun) ms) ⊎ NoWay
+start-thousandths ms begun clock no_delta NoWay run after r u c so lasts =
     let z : after.clock - begun ≡ 0 = omega arith in
     ⊎_elim (λ e. inl (same-thousandths _ begun ms clock run after r u (rw z e) lasts)) (λ e. inr (so e))
     (start-at ms no_delta)
@@ -473,7 +472,7 @@ module _ (m : Lamp) (begun : ℕ) where
         n r
 
     pub steps-run-on : (n : Lamp) (clock : ℕ) → Ran m (Task.HueSaturationMoveTo task) begun n →
-        cause n (Call.Step clock) ≡ 0 →
+        cause n (Call.Step clock) ≡ accepted →
         RunsOn task.ms (clock - begun) (saved m (Task.HueSaturationMoveTo task) begun) (answer n (Call.Step clock)).lamp
     steps-run-on n clock r z = step-runs-on n clock z _ (ran-runs m (Task.HueSaturationMoveTo task) begun n clock r z)
 
@@ -516,7 +515,7 @@ module _ (m : Lamp) (begun : ℕ) where
         (closest-is m begun (ran-valid r) task.target to closest) (clamped-shows n r clock lasts)
 
     pub mireds-steps-run-on : (n : Lamp) (clock : ℕ) → Ran m (Task.ColorTemperatureMoveTo task) begun n →
-        cause n (Call.Step clock) ≡ 0 →
+        cause n (Call.Step clock) ≡ accepted →
         RunsOn task.ms (clock - begun) (saved m (Task.ColorTemperatureMoveTo task) begun)
         (answer n (Call.Step clock)).lamp
     mireds-steps-run-on n clock r z =

@@ -1,13 +1,15 @@
 -- The port's steps and moves at a rate are the text's, unit by unit: of saturation and mireds within their bounds, of the hue
 -- on the circle of 65,536. Of a plain hue, below 65,280, they are up to 254 and down to one below 0.
 use Prim.Native.Nat.{ℕ, zero, suc, ◌+◌, ◌-◌, ◌*◌, ◌/◌, ◌%◌, ◌≤◌, ◌<◌, min, max}
-use mathlib.Core.Bool.{Bool, true, false, cond, ◌&&◌, true≢false, ◌||◌}
+use mathlib.Core.Bool.{Bool, true, false, cond, true≢false}
 use mathlib.Core.Path.{◌≡◌, refl, sym, ap, ◌∙◌}
 use native.Mathlib.Nat.{mul_assoc, mul_right_comm}
 use native.Mathlib.Omega.{arith}
-use lib.Dec.{leb, ltb, eqb}
+use Rattle.std.proofs.lemmas.Int.{ints}
+use Rattle.std.proofs.lemmas.Bool.Decides.{nat_tests}
+use lib.Dec.{leb, eqb}
 use lib.IntN.{pos, negsuc, neg_ℤ, ◌+ℤ◌}
-use borrow.Author.Tests.{leb-true, leb-false, ltb-true, ltb-false, eqb-true, eqb-false, ne_eqb}
+use borrow.Author.Tests.{leb-true, leb-false, eqb-true, ne_eqb}
 use Rattle.integers.proofs.Signs.{neg-mul, neg-quot}
 use Rattle.matter.specs.declared.enums.MoveModeEnum.{MoveModeEnum}
 use Rattle.matter.specs.declared.enums.StepModeEnum.{StepModeEnum}
@@ -22,43 +24,39 @@ use Rattle.conformance.specs.Steps.{enhanced_hue_maximum, hue_maximum, saturatio
 
 -- ---- what so many units come to
 
-up_by : (top n : ℕ) (t : Bool) → leb top n ≡ t → n ≤ top → cond t n (n + 1) ≡ min top (n + 1)
-up_by top n true e h = omega (arith, leb-true top n e)
-up_by top n false e h = omega (arith, leb-false top n e)
+up_by : (top n : ℕ) → n ≤ top → cond (leb top n) n (n + 1) ≡ min top (n + 1)
+up_by top n h = grind (arith, nat_tests)
 
 pub units-up : (top k n : ℕ) → n ≤ top → times k (unit_up top) n ≡ min top (n + k)
 unfolding unit_up
 units-up top zero n h = omega arith
 units-up top (suc k) n h =
     let r : times k (unit_up top) n ≡ min top (n + k) = units-up top k n h in
-    up_by top (times k (unit_up top) n) (leb top (times k (unit_up top) n)) refl (omega arith) ∙ omega arith
+    up_by top (times k (unit_up top) n) (omega arith) ∙ omega arith
 
-down_by : (low n : ℕ) (t : Bool) → leb n low ≡ t → low ≤ n → cond t n (n - 1) ≡ max low (n - 1)
-down_by low n true e h = omega (arith, leb-true n low e)
-down_by low n false e h = omega (arith, leb-false n low e)
+down_by : (low n : ℕ) → low ≤ n → cond (leb n low) n (n - 1) ≡ max low (n - 1)
+down_by low n h = grind (arith, nat_tests)
 
 pub units-down : (low k n : ℕ) → low ≤ n → times k (unit_down low) n ≡ max low (n - k)
 unfolding unit_down
 units-down low zero n h = omega arith
 units-down low (suc k) n h =
     let r : times k (unit_down low) n ≡ max low (n - k) = units-down low k n h in
-    down_by low (times k (unit_down low) n) (leb (times k (unit_down low) n) low) refl (omega arith) ∙ omega arith
+    down_by low (times k (unit_down low) n) (omega arith) ∙ omega arith
 
 -- a hue of the circle of 65,536
-hue-up-by : (n : ℕ) (t : Bool) → eqb n 65535 ≡ t → n < 65536 → cond t 0 (n + 1) ≡ (n + 1) % 65536
-hue-up-by n true e h = omega (arith, eqb-true n 65535 e)
-hue-up-by n false e h = let z : n ≡ 65535 → ⊥ = eqb-false n 65535 e in omega arith
+hue-up-by : (n : ℕ) → n < 65536 → cond (eqb n 65535) 0 (n + 1) ≡ (n + 1) % 65536
+hue-up-by n h = grind (arith, nat_tests)
 
 pub hue-units-up : (k n : ℕ) → n < 65536 → times k (hue_up 65535) n ≡ (n + k) % 65536
 unfolding hue_up
 hue-units-up zero n h = omega arith
 hue-units-up (suc k) n h =
     let r : times k (hue_up 65535) n ≡ (n + k) % 65536 = hue-units-up k n h in
-    hue-up-by (times k (hue_up 65535) n) (eqb (times k (hue_up 65535) n) 65535) refl (omega arith) ∙ omega arith
+    hue-up-by (times k (hue_up 65535) n) (omega arith) ∙ omega arith
 
-hue-down-by : (n : ℕ) (t : Bool) → eqb n 0 ≡ t → n < 65536 → cond t 65535 (n - 1) ≡ (n + 65535) % 65536
-hue-down-by n true e h = omega (arith, eqb-true n 0 e)
-hue-down-by n false e h = let z : n ≡ 0 → ⊥ = eqb-false n 0 e in omega arith
+hue-down-by : (n : ℕ) → n < 65536 → cond (eqb n 0) 65535 (n - 1) ≡ (n + 65535) % 65536
+hue-down-by n h = grind (arith, nat_tests)
 
 -- a remainder in a sum, and one place further down
 in_sum : (x y : ℕ) → (x % 65536 + y) % 65536 ≡ (x + y) % 65536
@@ -72,34 +70,18 @@ unfolding hue_down
 hue-units-down zero n h = omega arith
 hue-units-down (suc k) n h =
     let r : times k (hue_down 65535) n ≡ (n + (65536 - k % 65536)) % 65536 = hue-units-down k n h in
-    hue-down-by (times k (hue_down 65535) n) (eqb (times k (hue_down 65535) n) 0) refl (omega arith)
+    hue-down-by (times k (hue_down 65535) n) (omega arith)
     ∙ ap (λ (x : ℕ). (x + 65535) % 65536) r ∙ in_sum (n + (65536 - k % 65536)) 65535 ∙ one_further n k
 
 -- ---- the port's sums, clamped to their bounds
 
-within-up-by : (lo hi n : ℕ) (s t : Bool) → ltb n lo ≡ s → ltb hi n ≡ t → lo ≤ n → cond s lo (cond t hi n) ≡ min hi n
-within-up-by lo hi n true t e f h = absurd (omega (arith, ltb-true n lo e))
-within-up-by lo hi n false true e f h = omega (arith, ltb-true hi n f)
-within-up-by lo hi n false false e f h = omega (arith, ltb-false hi n f)
-
 pub within-up : (lo hi n k : ℕ) → lo ≤ n → clamped_sum lo hi n (pos k) ≡ min hi (n + k)
 unfolding clamp
-within-up lo hi n k h = within-up-by lo hi (n + k) (ltb (n + k) lo) (ltb hi (n + k)) refl refl (omega arith)
-
-within-down-by : (lo hi n : ℕ) (s t : Bool) → ltb n lo ≡ s → ltb hi n ≡ t → n ≤ hi → cond s lo (cond t hi n) ≡ max lo n
-within-down-by lo hi n true t e f h = omega (arith, ltb-true n lo e)
-within-down-by lo hi n false true e f h = absurd (omega (arith, ltb-true hi n f))
-within-down-by lo hi n false false e f h = omega (arith, ltb-false n lo e)
-
-less_by : (lo hi n k : ℕ) (b : Bool) → ltb n (suc k) ≡ b → lo ≤ n → n ≤ hi → clamp lo hi (cond b (negsuc (suc k - suc n)) (pos (n - suc k))) ≡ max lo (n - suc k)
-unfolding clamp
-less_by lo hi n k true e h g = omega (arith, ltb-true n (suc k) e)
-less_by lo hi n k false e h g =
-    within-down-by lo hi (n - suc k) (ltb (n - suc k) lo) (ltb hi (n - suc k)) refl refl (omega arith)
+within-up lo hi n k h = grind (arith, nat_tests)
 
 pub within-down : (lo hi n k : ℕ) → lo ≤ n → n ≤ hi → clamped_sum lo hi n (neg_ℤ (pos k)) ≡ max lo (n - k)
-within-down lo hi n zero h g = within-up lo hi n 0 h ∙ omega arith
-within-down lo hi n (suc k) h g = less_by lo hi n k (ltb n (suc k)) refl h g
+unfolding clamp
+within-down lo hi n k h g = grind (arith, nat_tests, ints)
 
 -- ---- steps
 
@@ -160,17 +142,8 @@ saturation-stops MoveModeEnum.Up n e units = let z : n ≡ 254 = eqb-true n 254 
 saturation-stops MoveModeEnum.Down n e units = let z : n ≡ 0 = eqb-true n 0 e in omega (arith, units-down 0 units n (omega arith))
 
 -- and a mired at the bound it heads for
-or-false : (a : Bool) → (a || false) ≡ true → a ≡ true
-or-false true e = refl
-or-false false e = e
-
-up_done : (lo hi n rate : ℕ) (a b : Bool) → ltb 0 rate ≡ a → ltb rate 0 ≡ b → ((a && eqb n hi) || (b && eqb n lo)) ≡ true → n ≡ hi
-up_done lo hi n rate a true f g e = absurd (omega (arith, ltb-true rate 0 g))
-up_done lo hi n rate true false f g e = eqb-true n hi (or-false (eqb n hi) e)
-up_done lo hi n rate false false f g e = absurd (true≢false (sym e))
-
 pub mireds-up-done : (lo hi n rate : ℕ) → mireds_done (pos rate) lo hi n ≡ true → n ≡ hi
-mireds-up-done lo hi n rate e = up_done lo hi n rate (ltb 0 rate) (ltb rate 0) refl refl e
+mireds-up-done lo hi n rate e = grind (arith, nat_tests)
 
 pub mireds-down-done : (lo hi n rate : ℕ) → mireds_done (neg_ℤ (pos rate)) lo hi n ≡ true → n ≡ lo
 mireds-down-done lo hi n zero e = absurd (true≢false (sym e))

@@ -1,6 +1,7 @@
 -- A stop is the text's while no colour loop is active, but for the remaining time; an active loop is stopped too, and replaced
 -- by what is started.
-use Rattle.std.specs.Prelude.{Option, Some, None}
+use Rattle.matter.specs.Causes.{accepted}
+use Rattle.std.specs.Prelude.{Some}
 use Prim.Native.Nat.{ℕ}
 use mathlib.Core.Bool.{Bool, true, false, ◌&&◌, true≢false}
 use mathlib.Core.Path.{◌≡◌, refl, sym, ap, ◌∙◌}
@@ -28,29 +29,29 @@ use Rattle.conformance.specs.Stops.{Terminated, NoTimeLeft, turns_after_stop, lo
 -- StopMoveStep that may execute asks for a stop (every Stop mode does: `options-passed-by` in OptionsAgree)
 pub stop-asked : (l : Lamp) (options : CommandOptions) (on_off : OnOff) (clock : ℕ) →
     allowed l (request Command.StopMoveStep options) on_off ≡ true →
-    cause l (Call.Command (request Command.StopMoveStep options) on_off clock) ≡ 0 →
+    cause l (Call.Command (request Command.StopMoveStep options) on_off clock) ≡ accepted →
     (answer l (Call.Command (request Command.StopMoveStep options) on_off clock)).task ≡ Some Task.Stop
 unfolding command_effect
-stop-asked l options on_off clock may_execute accepted =
+stop-asked l options on_off clock may_execute taken =
     answer-both l (λ (a : Answer). a.task ≡ Some Task.Stop)
     (Call.Command (request Command.StopMoveStep options) on_off clock)
-    (λ z. rw may_execute) (λ n. absurd (n accepted))
+    (λ z. rw may_execute) (λ n. absurd (n taken))
 
 -- which is answered by a halt
-module _ (l : Lamp) (clock : ℕ) (accepted : cause l (Call.Halt clock) ≡ 0) where
+module _ (l : Lamp) (clock : ℕ) (taken : cause l (Call.Halt clock) ≡ accepted) where
   pub halt-terminates : Terminated l (answer l (Call.Halt clock)).lamp
   unfolding answer halt_answer cause
-  halt-terminates = record { still = rw accepted; hue = rw accepted; saturation = rw accepted; mireds = rw accepted }
+  halt-terminates = record { still = rw taken; hue = rw taken; saturation = rw taken; mireds = rw taken }
 
   -- "If moving, stop, else ignore the command": where nothing moves, a halt changes nothing but the clock
   pub halt-ignored : l.running ≡ Running.Idle → (answer l (Call.Halt clock)).lamp ≡ at_clock l clock
   unfolding answer halt_answer cause
-  halt-ignored e = rw (accepted, ← e)
+  halt-ignored e = rw (taken, ← e)
 
   -- the remaining time stays as it was, where the text has it 0
   pub halt-keeps-time : (answer l (Call.Halt clock)).lamp.remaining ≡ l.remaining
   unfolding answer halt_answer cause
-  halt-keeps-time = rw accepted
+  halt-keeps-time = rw taken
 
   -- so it is the text's exactly where it was 0
   pub halt-time-exactly : (NoTimeLeft l → NoTimeLeft (answer l (Call.Halt clock)).lamp)
@@ -82,8 +83,8 @@ after_stop l options on_off clock later =
 
 module _ (l : Lamp) (options : CommandOptions) (on_off : OnOff) (clock later : ℕ)
     (may_execute : allowed l (request Command.StopMoveStep options) on_off ≡ true)
-    (accepted : cause l (Call.Command (request Command.StopMoveStep options) on_off clock) ≡ 0)
-    (halted : cause (answer l (Call.Command (request Command.StopMoveStep options) on_off clock)).lamp (Call.Halt later) ≡ 0) where
+    (taken : cause l (Call.Command (request Command.StopMoveStep options) on_off clock) ≡ accepted)
+    (halted : cause (answer l (Call.Command (request Command.StopMoveStep options) on_off clock)).lamp (Call.Halt later) ≡ accepted) where
   stopped : loop_turns (after_stop l options on_off clock later).running ≡ false
   stopped = no-turn (after_stop l options on_off clock later).running (halt-terminates _ later halted).still
 
@@ -101,7 +102,7 @@ module _ (l : Lamp) (options : CommandOptions) (on_off : OnOff) (clock later : �
       × (loop_turns (after_stop l options on_off clock later).running ≡ false)
   stop-on-loop-differs e t = (
     ap (λ (active : Bool). turns_after_stop active (loop_turns l.running)) e ∙ t,
-    stop-asked l options on_off clock may_execute accepted,
+    stop-asked l options on_off clock may_execute taken,
     stopped,
   )
 

@@ -5,9 +5,11 @@ use mathlib.Core.Bool.{Bool, true, false, cond}
 use mathlib.Core.Path.{◌≡◌, refl, sym, ap, ◌∙◌}
 use native.Mathlib.Nat.{le-div_iff_mul-le, div-lt_iff_lt-mul, mul-le-mul_left, mul-le-mul_right, mul_comm, mul_assoc, mul_right_comm, one-mul, zero-mul, div-eq_of_eq-mul_left, mul-add, add-mul, zero-div, mul-zero, div-mul-le_self, lt-div-mul-add, mul-div-mul_right, div-eq_of_lt}
 use native.Mathlib.Omega.{arith}
-use lib.Dec.{leb, ltb}
-use lib.IntN.{ℤ, pos, negsuc, neg_ℤ, nat_abs, ◌-ℤ◌}
-use borrow.Author.Tests.{ltb-true, ltb-false, leb-true, leb-false, le-leb, lt-leb}
+use Rattle.std.proofs.lemmas.Bool.Decides.{nat_tests}
+use Rattle.std.proofs.lemmas.Int.{ints}
+use lib.Dec.{leb}
+use lib.IntN.{ℤ, pos, neg_ℤ, nat_abs, ◌-ℤ◌}
+use borrow.Author.Tests.{leb-true, leb-false, le-leb, lt-leb}
 use Rattle.matter.specs.declared.enums.StepModeEnum.{StepModeEnum}
 use Rattle.matter.proofs.Laws.{cond_both}
 use Rattle.hue.specs.Hue.{moved_hue}
@@ -158,24 +160,12 @@ way-ends way elapsed time h = ap (part_of way) (permille-full elapsed time h) �
 
 -- ---- saturation and mireds: numbers on a line, clamped to their bounds
 
-up_by : (s t : ℕ) (b : Bool) → ltb t (suc s) ≡ b → suc s ≤ t →
-    cond b (negsuc (suc s - suc t)) (pos (t - suc s)) ≡ pos (t - suc s)
-up_by s t true e h = absurd (omega (arith, ltb-true t (suc s) e))
-up_by s t false e h = refl
-
 -- the way from a start to a target above it, and below it
 way_up : (s t : ℕ) → s ≤ t → pos t -ℤ pos s ≡ pos (t - s)
-way_up zero t h = ap pos (omega arith)
-way_up (suc s) t h = up_by s t (ltb t (suc s)) refl h
-
-down_by : (s t : ℕ) (b : Bool) → ltb t (suc s) ≡ b → t < suc s →
-    cond b (negsuc (suc s - suc t)) (pos (t - suc s)) ≡ neg_ℤ (pos (suc s - t))
-down_by s t true e h = let f : suc (suc s - suc t) ≡ suc s - t = omega arith in ap (λ (n : ℕ). neg_ℤ (pos n)) f
-down_by s t false e h = absurd (omega (arith, ltb-false t (suc s) e))
+way_up s t h = omega (arith, ints)
 
 way_down : (s t : ℕ) → t < s → pos t -ℤ pos s ≡ neg_ℤ (pos (s - t))
-way_down zero t h = absurd (omega arith)
-way_down (suc s) t h = down_by s t (ltb t (suc s)) refl h
+way_down s t h = omega (arith, ints)
 
 module _ (lo hi start target p : ℕ) (few : p ≤ 1000) where
   -- a number on its way to a target above it: the start and the part
@@ -240,22 +230,12 @@ module _ (lo hi start target p : ℕ) (few : p ≤ 1000)
 
 -- the size of the way on a line
 module _ (from to : ℕ) where
-  size-by : (b : Bool) → leb from to ≡ b → nat_abs (pos to -ℤ pos from) ≡ away from to
-  size-by true e = let h : from ≤ to = leb-true from to e in ap nat_abs (way_up from to h) ∙ omega arith
-  size-by false e =
-      let h : to < from = leb-false from to e in
-      ap nat_abs (way_down from to h) ∙ abs_neg (pos (from - to)) ∙ omega arith
-
   way-size : nat_abs (pos to -ℤ pos from) ≡ away from to
-  way-size = size-by (leb from to) refl
+  way-size = omega (arith, ints)
 
   -- no way from a number to itself
   pub no-delta : from ≡ to → pos to -ℤ pos from ≡ pos 0
   no-delta e = way_up from to (omega arith) ∙ ap pos (omega arith)
-
-  there-by : (b : Bool) → leb from to ≡ b → cond b (from + away from to) (from - away from to) ≡ to
-  there-by true e = omega (arith, leb-true from to e)
-  there-by false e = omega (arith, leb-false from to e)
 
   module _ (elapsed time : ℕ) where
     -- wherever the port's part is the text's (above), the number is
@@ -266,4 +246,4 @@ module _ (from to : ℕ) where
     -- and at the time and after it the text's is the number moved to
     pub line-arrives : time ≤ elapsed → line_at from to elapsed time ≡ to
     unfolding travelled
-    line-arrives h = rw (le-leb time elapsed h) (there-by (leb from to) refl)
+    line-arrives h = grind (arith, nat_tests)

@@ -1,4 +1,5 @@
 -- A start and steps after it: the lamps that they leave, when a lamp shows what it shows, and what a start saves.
+use Rattle.matter.specs.Causes.{accepted}
 use Rattle.std.specs.Prelude.{ℕ, ◌≤◌, ◌⊎◌, ◌≡◌, pos}
 use Rattle.progress.specs.Progress.{clamp}
 use Rattle.tasks.specs.declared.Running.{Running}
@@ -10,8 +11,8 @@ use Rattle.commands.specs.Answers.{cause, answer}
 
 -- a start, and steps after it
 pub data Ran (m : Lamp) (task : Task) (begun : ℕ) : Lamp → Type 0 where
-  began : cause m (Call.Start task begun) ≡ 0 → Ran m task begun (answer m (Call.Start task begun)).lamp
-  went : {x : Lamp} (clock : ℕ) → Ran m task begun x → cause x (Call.Step clock) ≡ 0 →
+  began : cause m (Call.Start task begun) ≡ accepted → Ran m task begun (answer m (Call.Start task begun)).lamp
+  went : {x : Lamp} (clock : ℕ) → Ran m task begun x → cause x (Call.Step clock) ≡ accepted →
       Ran m task begun (answer x (Call.Step clock)).lamp
 
 -- the clocks at which a lamp shows what it shows: its own, and every later one where nothing runs

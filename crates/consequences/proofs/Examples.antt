@@ -1,6 +1,6 @@
 -- Fades by computation: from red to cyan through green, and, with the premises met, the other way round; two lamps that fade
 -- together, one of them among other calls; and one whose hue moved between command and start.
-use Rattle.std.specs.Prelude.{Option, Some, None}
+use Rattle.std.specs.Prelude.{Some, None}
 use Prim.Native.Nat.{ℕ}
 use mathlib.Core.Bool.{Bool, true, false}
 use mathlib.Core.List.{List, [], ◌∷◌, map}

@@ -1,6 +1,7 @@
 -- Where a fade ends whose hue moved between command and start, proved: until done the lamp runs the way that the command fixed
 -- from the hue that the start found, and the whole of that way leads to the target and as far beside it as that hue is from the
 -- one that the command found.
+use Rattle.std.proofs.lemmas.Bool.{cases_Bool}
 use Prim.Native.Nat.{ℕ, suc, ◌+◌, ◌-◌, ◌%◌, ◌<◌, ◌≤◌}
 use mathlib.Core.Bool.{Bool, true, false, not, ◌&&◌, ◌||◌, and-true}
 use mathlib.Core.List.{List, [], ◌∷◌}
@@ -28,7 +29,7 @@ use Rattle.schedule.specs.Calls.{next, after, accepts, idle, interrupts, quiet}
 use Rattle.schedule.specs.Schedule.{Fed, target, time, delta_from, task_of}
 use Rattle.schedule.specs.Claim.{fed}
 use Rattle.schedule.specs.Fades.{finds, found, ready, start_call, begun, later}
-use Rattle.schedule.proofs.Tests.{either, never}
+use Rattle.schedule.proofs.Tests.{never}
 use Rattle.schedule.proofs.Pass.{run_from, set_is}
 use Rattle.schedule.proofs.Accepts.{no-cause, refused-keeps, accepted-is}
 use Rattle.schedule.proofs.Lists.{quiet-front, quiet-call}
@@ -61,7 +62,7 @@ module _ (f : Fed) (hue saturation : ℕ) where
   passes : (l : Lamp) (p : ℕ) → p ≤ 1000 → Underway (hue_saturation_pass l (run_from f hue saturation) p).lamp
   unfolding hue_saturation_moved timed
   passes l p h =
-      elim (either (leb 1000 p)) [
+      elim (cases_Bool (leb 1000 p)) [
         | inl e ↦
             let k : p ≡ 1000 = let z = leb-true 1000 p e in omega arith in
             rw e (inr (refl, set_is l.color _ true f.fade.enhanced l.clock ∙ ap (λ (q : ℕ). moved_hue hue (part_of (delta_from f.fade f.found) q)) k ∙ ap (moved_hue hue) (part-whole (delta_from f.fade f.found))))
@@ -91,7 +92,7 @@ module _ (f : Fed) (hue saturation : ℕ) where
   goes_on (x ∷ xs) l u q =
       let r = quiet-call l x xs q in
       goes_on xs (next l x)
-      (elim (either (accepts l x)) [ inl a ↦ accepted-on l x u r.0 a | inr a ↦ subst Underway (sym (refused-keeps l x a)) u ])
+      (elim (cases_Bool (accepts l x)) [ inl a ↦ accepted-on l x u r.0 a | inr a ↦ subst Underway (sym (refused-keeps l x a)) u ])
       r.1
 
   -- idle, it is where the whole way leads
@@ -106,7 +107,7 @@ begins f l =
     passes f l.color.hue l.color.saturation (with_full_time (at_clock l f.start) (time f.fade)) _ (most (time f.fade) _)
   where
     most : (ms : ℕ) (b : Bool) → start_permille ms b ≤ 1000
-    most ms b = elim (either (eqb ms 0 || b)) [ inl e ↦ rw e (le_refl 1000) | inr e ↦ rw e (omega arith) ]
+    most ms b = elim (cases_Bool (eqb ms 0 || b)) [ inl e ↦ rw e (le_refl 1000) | inr e ↦ rw e (omega arith) ]
 
 pub off-target : OffTarget
 off-target e p ys zs split i =

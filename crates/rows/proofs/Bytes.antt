@@ -1,12 +1,13 @@
 -- The caller's slice after a row call, place by place: sixteen bytes of each lamp, then what was behind them.
+use Rattle.std.specs.Prelude.{is_ok}
+use Rattle.matter.specs.Causes.{accepted}
+use Rattle.matter.proofs.Laws.{accepted-of}
 use Prim.Native.Nat.{ℕ, zero, suc, ◌+◌, ◌-◌, ◌*◌, ◌≤◌, ◌<◌}
 use mathlib.Core.List.{List, [], ◌∷◌, ◌++◌, append_assoc}
 use mathlib.Core.Path.{◌≡◌, refl, ap, ◌∙◌}
 use native.Mathlib.Omega.{arith}
-use lib.Dec.{eqb}
 use lib.ListN.{length, take, drop, get_or, replicate, length-append, length-replicate, length-drop}
 use lib.Seq.{get_or-take, take_at, drop_at, drop-append-add}
-use borrow.Author.Tests.{eqb-true}
 use Rattle.notices.specs.Notices.{filled}
 use Rattle.lamp.specs.declared.Lamp.{Lamp}
 use Rattle.lamp.specs.declared.Call.{Call}
@@ -47,7 +48,7 @@ place-bytes clock (suc k) (l ∷ ls) rest h =
     (place-bytes clock k ls rest (omega arith))
 
 -- an accepted row call writes at each place what that lamp's own step reports, an idle one's nothing
-pub bytes-at : (r : Row) (out : List ℕ) (clock k : ℕ) → InRow k r → row_cause r (length out) clock ≡ 0 →
+pub bytes-at : (r : Row) (out : List ℕ) (clock k : ℕ) → InRow k r → row_cause r (length out) clock ≡ accepted →
     sixteen_at k (row_bytes r out clock) ≡ (answer (lamp_at r k) (Call.Step clock)).notices.places
 unfolding row_bytes
 bytes-at r out clock k h e =
@@ -62,16 +63,16 @@ pub bytes_past : (r : Row) (out : List ℕ) (clock : ℕ) → length r.lamps ≡
     drop (16 * r.count) (row_bytes r out clock) ≡ drop (16 * r.count) out
 unfolding row_bytes
 bytes_past r out clock len =
-    either (eqb (row_cause r (length out) clock) 0)
+    either (is_ok (row_cause r (length out) clock))
     (λ e. rw e (drop_at (bytes_of clock (placed r)) (drop (16 * r.count) out) (16 * r.count)
-    (all-bytes r clock (record { few = accepted-few r (length out) clock (eqb-true _ _ e); places = len }))))
+    (all-bytes r clock (record { few = accepted-few r (length out) clock (accepted-of _ e); places = len }))))
     (λ e. rw e)
 
 pub bytes-size : (r : Row) (out : List ℕ) (clock : ℕ) → length r.lamps ≡ 32 → length (row_bytes r out clock) ≡ length out
 unfolding row_bytes
 bytes-size r out clock len =
-    either (eqb (row_cause r (length out) clock) 0)
-    (λ e. let fits = slice_fits r (length out) (accepted-slice r (length out) clock (eqb-true _ _ e)) in
+    either (is_ok (row_cause r (length out) clock))
+    (λ e. let fits = slice_fits r (length out) (accepted-slice r (length out) clock (accepted-of _ e)) in
     let many = all-bytes r clock (record { few = fits.0; places = len }) in
     rw e (omega (arith, length-append (bytes_of clock (placed r)) (drop (16 * r.count) out), length-drop (16 * r.count) out, many, fits.1)))
     (λ e. rw e)

@@ -1,89 +1,146 @@
 -- Why a row call is refused, as the code goes through it; and what an accepted one has shown.
+use Rattle.std.specs.Prelude.{Ok, Err, is_ok}
 use Prim.Native.Nat.{ℕ, ◌*◌, ◌≤◌, ◌<◌, max}
-use mathlib.Core.Path.{◌≡◌, refl, sym, ◌∙◌}
+use mathlib.Core.Path.{◌≡◌, refl, sym, ap, ◌∙◌}
 use mathlib.Core.Bool.{Bool, true, false, cond, not, ◌&&◌, ◌||◌}
 use mathlib.Core.List.{List, [], ◌∷◌}
 use native.Mathlib.Omega.{arith}
-use borrow.Author.Tests.{ltb-false, leb-false}
-use lib.Dec.{ltb, leb, eqb}
+use borrow.Author.Tests.{ltb-true, ltb-false, leb-false}
+use lib.Dec.{ltb, leb}
+use Rattle.matter.specs.Causes.{Verdict, accepted, number_of, refusal_number, clock_refused, invalid_lamp}
+use Rattle.matter.specs.declared.refusals.Refusal.{Refusal}
 use Rattle.matter.specs.Limits.{clock_limit}
+use Rattle.matter.specs.Numbers.{case_numbered}
+use Rattle.matter.proofs.Laws.{refused-of, number-0}
 use Rattle.lamp.specs.declared.Lamp.{Lamp}
 use Rattle.lamp.specs.Valid.{lamp_valid}
 use Rattle.lamp.specs.Answers.{first_cause}
 use Rattle.rows.specs.declared.Row.{Row}
-use Rattle.rows.specs.Rows.{placed, mask_true, all_valid, any_later, row_cause, slice_cause, limit_cause, visits_cause, place_cause}
+use Rattle.rows.specs.Rows.{placed, mask_true, all_valid, any_later, row_cause, slice_cause, limit_cause, graver, visits_cause, place_cause}
 
-small : (b : Bool) → cond b 4 0 ≤ 4
-small true = omega arith
-small false = omega arith
+-- ---- the graver of two verdicts
 
--- no lamp's cause is above 8
-at_most : (av al b : Bool) → cond (not av) 8 (cond (al || b) 4 0) ≤ 8
-at_most false al b = omega arith
-at_most true al b = omega (arith, small (al || b))
+-- no two verdicts have one number
+of_number : ℕ → Verdict
+of_number =
+    case_numbered refusal_number Err accepted
+    (Refusal.ConstraintError ∷ Refusal.InvalidCommand ∷ Refusal.Clock ∷ Refusal.CrossedBounds ∷ Refusal.InvalidTask ∷ Refusal.StepWhileIdle
+    ∷ Refusal.InvalidLamp ∷ Refusal.ShortSlice ∷ Refusal.NoPlace ∷ [])
+
+back : (v : Verdict) → of_number (number_of v) ≡ v
+unfolding of_number
+back (Ok u) = refl
+back (Err Refusal.ConstraintError) = refl
+back (Err Refusal.InvalidCommand) = refl
+back (Err Refusal.Clock) = refl
+back (Err Refusal.CrossedBounds) = refl
+back (Err Refusal.InvalidTask) = refl
+back (Err Refusal.StepWhileIdle) = refl
+back (Err Refusal.InvalidLamp) = refl
+back (Err Refusal.ShortSlice) = refl
+back (Err Refusal.NoPlace) = refl
+
+same_number : (v w : Verdict) → number_of v ≡ number_of w → v ≡ w
+same_number v w e = sym (back v) ∙ ap of_number e ∙ back w
+
+-- its number is the greater
+pub graver-number : (v w : Verdict) → number_of (graver v w) ≡ max (number_of v) (number_of w)
+unfolding graver
+graver-number v w = go (ltb (number_of v) (number_of w)) refl
+  where
+    go : (b : Bool) → ltb (number_of v) (number_of w) ≡ b → number_of (cond b w v) ≡ max (number_of v) (number_of w)
+    go true e = omega (arith, ltb-true (number_of v) (number_of w) e)
+    go false e = omega (arith, ltb-false (number_of v) (number_of w) e)
+
+pub graver-assoc : (u v w : Verdict) → graver (graver u v) w ≡ graver u (graver v w)
+graver-assoc u v w =
+    same_number _ _ (omega (arith, graver-number (graver u v) w, graver-number u v, graver-number u (graver v w), graver-number v w))
+
+swap : (u v w : Verdict) → graver u (graver v w) ≡ graver v (graver u w)
+swap u v w =
+    same_number _ _ (omega (arith, graver-number u (graver v w), graver-number v w, graver-number v (graver u w), graver-number u w))
+
+pub graver_none : (v : Verdict) → graver v accepted ≡ v
+graver_none v = same_number _ _ (omega (arith, graver-number v accepted))
+
+pub none_graver : (v : Verdict) → graver accepted v ≡ v
+none_graver v = same_number _ _ (omega (arith, graver-number accepted v))
+
+-- it is none where both are none
+pub both-none : (v w : Verdict) → graver v w ≡ accepted → (v ≡ accepted) × (w ≡ accepted)
+both-none v w e =
+    let none : number_of (graver v w) ≡ 0 = ap number_of e in
+    (number-0 v (omega (arith, graver-number v w, none)), number-0 w (omega (arith, graver-number v w, none)))
+
+-- ---- the lamps' own causes
 
 -- the worst of a lamp's causes and of the others'
 worst : (v a av al b : Bool) →
-    max (cond (not v) 8 (cond (a || b) 4 0)) (cond (not av) 8 (cond (al || b) 4 0)) ≡ cond (not (v && av)) 8 (cond ((a || al) || b) 4 0)
-worst false a av al b = omega (arith, at_most av al b)
-worst true a false al b = omega (arith, small (a || b))
-worst true true true al b = omega (arith, small (al || b))
-worst true false true true b = omega (arith, small b)
-worst true false true false b = omega arith
-
-one_more : (v a b av al : Bool) (rest : ℕ) → max (cond b 4 0) rest ≡ cond (not av) 8 (cond (al || b) 4 0) →
-    max (cond b 4 0) (max (cond (not v) 8 (cond (a || b) 4 0)) rest) ≡ cond (not (v && av)) 8 (cond ((a || al) || b) 4 0)
-one_more v a b av al rest e = omega (arith, e, worst v a av al b)
+    graver (cond (not v) invalid_lamp (cond (a || b) clock_refused accepted)) (cond (not av) invalid_lamp (cond (al || b) clock_refused accepted))
+    ≡ cond (not (v && av)) invalid_lamp (cond ((a || al) || b) clock_refused accepted)
+unfolding graver
+worst false a false al b = refl
+worst false a true true b = refl
+worst false a true false true = refl
+worst false a true false false = refl
+worst true true false al b = refl
+worst true false false al true = refl
+worst true false false al false = refl
+worst true true true true b = refl
+worst true true true false true = refl
+worst true true true false false = refl
+worst true false true true true = refl
+worst true false true true false = refl
+worst true false true false true = refl
+worst true false true false false = refl
 
 -- the worst of the lamps' own causes and the limit's is the row's
 all-lamps : (clock : ℕ) (ls : List Lamp) →
-    max (limit_cause clock) (visits_cause clock ls) ≡ cond (not (all_valid ls)) 8 (cond (any_later ls clock || ltb clock_limit clock) 4 0)
+    graver (limit_cause clock) (visits_cause clock ls)
+    ≡ cond (not (all_valid ls)) invalid_lamp (cond (any_later ls clock || ltb clock_limit clock) clock_refused accepted)
 unfolding first_cause
-all-lamps clock [] = go (ltb clock_limit clock)
-  where
-    go : (b : Bool) → max (cond b 4 0) 0 ≡ cond b 4 0
-    go true = refl
-    go false = refl
+all-lamps clock [] = graver_none (limit_cause clock)
 all-lamps clock (l ∷ ls) =
-    one_more (lamp_valid l) (ltb clock l.clock) (ltb clock_limit clock) (all_valid ls) (any_later ls clock) (visits_cause clock ls)
-    (all-lamps clock ls)
+    swap (limit_cause clock) (first_cause l clock) (visits_cause clock ls) ∙ ap (graver (first_cause l clock)) (all-lamps clock ls)
+    ∙ worst (lamp_valid l) (ltb clock l.clock) (all_valid ls) (any_later ls clock) (ltb clock_limit clock)
 
-by_parts : (a b m v : Bool) (x y : ℕ) → x ≡ cond (not v) 8 y →
-    cond a 8 (cond b 9 (cond (not (m && v)) 8 y))
-    ≡ cond (eqb (cond a 8 (cond b 9 (cond (not m) 8 0))) 0) x (cond a 8 (cond b 9 (cond (not m) 8 0)))
-by_parts true b m v x y e = refl
-by_parts false true m v x y e = refl
-by_parts false false true v x y e = sym e
-by_parts false false false v x y e = refl
+by_parts : (a b m v : Bool) (short x y : Verdict) → is_ok short ≡ false → x ≡ cond (not v) invalid_lamp y →
+    cond a invalid_lamp (cond b short (cond (not (m && v)) invalid_lamp y))
+    ≡ cond (is_ok (cond a invalid_lamp (cond b short (cond (not m) invalid_lamp accepted)))) x (cond a invalid_lamp (cond b short (cond (not m) invalid_lamp accepted)))
+by_parts true b m v short x y s e = refl
+by_parts false true m v short x y s e = rw s
+by_parts false false true v short x y s e = sym e
+by_parts false false false v short x y s e = refl
 
 -- before the lamps, then over them
 pub row-cause : (r : Row) (size clock : ℕ) →
-    row_cause r size clock ≡ cond (eqb (slice_cause r size) 0) (max (limit_cause clock) (visits_cause clock (placed r))) (slice_cause r size)
+    row_cause r size clock ≡ cond (is_ok (slice_cause r size)) (graver (limit_cause clock) (visits_cause clock (placed r))) (slice_cause r size)
 unfolding row_cause slice_cause
 row-cause r size clock =
-    by_parts (ltb 32 r.count) (ltb size (16 * r.count)) (mask_true r) (all_valid (placed r)) _ _ (all-lamps clock (placed r))
+    by_parts (ltb 32 r.count) (ltb size (16 * r.count)) (mask_true r) (all_valid (placed r)) _ _ _ refl (all-lamps clock (placed r))
 
-pub slice_first : (r : Row) (size clock : ℕ) → eqb (slice_cause r size) 0 ≡ false → row_cause r size clock ≡ slice_cause r size
+pub slice_first : (r : Row) (size clock : ℕ) → is_ok (slice_cause r size) ≡ false → row_cause r size clock ≡ slice_cause r size
 slice_first r size clock e = row-cause r size clock ∙ rw e
 
-pub lamps-next : (r : Row) (size clock : ℕ) → slice_cause r size ≡ 0 →
-    row_cause r size clock ≡ max (limit_cause clock) (visits_cause clock (placed r))
+pub lamps-next : (r : Row) (size clock : ℕ) → slice_cause r size ≡ accepted →
+    row_cause r size clock ≡ graver (limit_cause clock) (visits_cause clock (placed r))
 lamps-next r size clock e = row-cause r size clock ∙ rw e
 
-no_first : (a b m : Bool) (n : ℕ) → ◌≡◌ {A = ℕ} (cond a 8 (cond b n (cond (not m) 8 0))) 0 → 0 < n → (a ≡ false) × (b ≡ false) × (m ≡ true)
-no_first true b m n e p = absurd (omega (arith, e))
-no_first false true m n e p = absurd (omega (arith, e))
-no_first false false false n e p = absurd (omega (arith, e))
-no_first false false true n e p = (refl, refl, refl)
+no_first : (a b m : Bool) (other : Verdict) → cond a invalid_lamp (cond b other (cond (not m) invalid_lamp accepted)) ≡ accepted →
+    is_ok other ≡ false → (a ≡ false) × (b ≡ false) × (m ≡ true)
+no_first true b m other e n = absurd (refused-of _ refl e)
+no_first false true m other e n = absurd (refused-of other n e)
+no_first false false false other e n = absurd (refused-of _ refl e)
+no_first false false true other e n = (refl, refl, refl)
 
-pub slice_fits : (r : Row) (size : ℕ) → slice_cause r size ≡ 0 → (r.count ≤ 32) × (16 * r.count ≤ size) × (mask_true r ≡ true)
+pub slice_fits : (r : Row) (size : ℕ) → slice_cause r size ≡ accepted → (r.count ≤ 32) × (16 * r.count ≤ size) × (mask_true r ≡ true)
 unfolding slice_cause
 slice_fits r size e =
-    let f = no_first (ltb 32 r.count) (ltb size (16 * r.count)) (mask_true r) 9 e (omega arith) in
+    let f = no_first (ltb 32 r.count) (ltb size (16 * r.count)) (mask_true r) _ e refl in
     (ltb-false 32 r.count f.0, ltb-false size (16 * r.count) f.1, f.2)
 
-pub place-there : (r : Row) (place : ℕ) → place_cause r place ≡ 0 → (r.count ≤ 32) × (place < r.count) × (mask_true r ≡ true)
+pub place-there : (r : Row) (place : ℕ) → place_cause r place ≡ accepted → (r.count ≤ 32) × (place < r.count) × (mask_true r ≡ true)
 unfolding place_cause
 place-there r place e =
-    let f = no_first (ltb 32 r.count) (leb r.count place) (mask_true r) 10 e (omega arith) in
+    let f = no_first (ltb 32 r.count) (leb r.count place) (mask_true r) _ e refl in
     (ltb-false 32 r.count f.0, leb-false r.count place f.1, f.2)

@@ -1,4 +1,5 @@
 -- "In an accepted call a lamp's record and notices depend on its own record, the call and the clock, never on another lamp's."
+use Rattle.matter.specs.Causes.{accepted}
 use Prim.Native.Nat.{ℕ}
 use mathlib.Core.Bool.{true, false}
 use mathlib.Core.List.{List}
@@ -19,7 +20,7 @@ pub record AgreeAt (k : ℕ) (r q : Row) : Type 0 where
 
 -- a row call that both accept, whatever slices are lent: the same record there, and the same sixteen bytes
 pub row-call-depends : (r q : Row) (out other : List ℕ) (clock k : ℕ) → AgreeAt k r q →
-    row_cause r (length out) clock ≡ 0 → row_cause q (length other) clock ≡ 0 →
+    row_cause r (length out) clock ≡ accepted → row_cause q (length other) clock ≡ accepted →
     (lamp_at (row_stepped r (length out) clock).row k ≡ lamp_at (row_stepped q (length other) clock).row k)
     × (sixteen_at k (row_bytes r out clock) ≡ sixteen_at k (row_bytes q other clock))
 row-call-depends r q out other clock k a e f = (
@@ -30,7 +31,7 @@ row-call-depends r q out other clock k a e f = (
 abbrev SameThere : Row → Row → ℕ → Call → Type 0
 SameThere r q k x =
     (lamp_at (answered_at r k x).row k ≡ lamp_at (answered_at q k x).row k)
-    × ((answered_at r k x).number ≡ (answered_at q k x).number) × ((answered_at r k x).notices ≡ (answered_at q k x).notices)
+    × ((answered_at r k x).verdict ≡ (answered_at q k x).verdict) × ((answered_at r k x).notices ≡ (answered_at q k x).notices)
     × ((answered_at r k x).task ≡ (answered_at q k x).task) × ((answered_at r k x).wait ≡ (answered_at q k x).wait)
 
 both_true : (r q : Row) (k : ℕ) (x : Call) → AgreeAt k r q → mask_true r ≡ true → mask_true q ≡ true → SameThere r q k x
@@ -40,7 +41,7 @@ both_true r q k x a m n =
     let s = single-is r k x left in
     let t = single-is q k x right in (
       single-lamp r k x left ∙ ap (λ l. (answer l x).lamp) a.same ∙ sym (single-lamp q k x right),
-      s.number ∙ ap (λ l. (answer l x).number) a.same ∙ sym t.number,
+      s.verdict ∙ ap (λ l. (answer l x).verdict) a.same ∙ sym t.verdict,
       s.notices ∙ ap (λ l. (answer l x).notices) a.same ∙ sym t.notices,
       s.task ∙ ap (λ l. (answer l x).task) a.same ∙ sym t.task,
       s.wait ∙ ap (λ l. (answer l x).wait) a.same ∙ sym t.wait,
@@ -54,7 +55,7 @@ both_wrong r q k x a m n = rw (wrong-mask r k a.left m, wrong-mask q k a.right n
 -- a single call there, accepted or not, in two rows whose masks are both true or both not: the same record, number, notices, task and wait
 pub single-depends : (r q : Row) (k : ℕ) (x : Call) → AgreeAt k r q → mask_true r ≡ mask_true q →
     (lamp_at (answered_at r k x).row k ≡ lamp_at (answered_at q k x).row k)
-    × ((answered_at r k x).number ≡ (answered_at q k x).number) × ((answered_at r k x).notices ≡ (answered_at q k x).notices)
+    × ((answered_at r k x).verdict ≡ (answered_at q k x).verdict) × ((answered_at r k x).notices ≡ (answered_at q k x).notices)
     × ((answered_at r k x).task ≡ (answered_at q k x).task) × ((answered_at r k x).wait ≡ (answered_at q k x).wait)
 single-depends r q k x a e =
     either (mask_true r) (λ m. both_true r q k x a m (sym e ∙ m)) (λ m. both_wrong r q k x a m (sym e ∙ m))

@@ -1,15 +1,15 @@
 -- What a row call and a call at a place come to, seen from one lamp.
-use Rattle.std.specs.Prelude.{Option, Some, None}
+use Rattle.std.specs.Prelude.{None, is_ok, Ok, Err}
 use Prim.Native.Nat.{ℕ, zero, suc, ◌+◌, ◌*◌, ◌≤◌, ◌<◌, min}
 use mathlib.Core.Bool.{Bool, true, false, cond, not, ◌||◌}
 use mathlib.Core.List.{List, [], ◌∷◌}
 use mathlib.Core.Path.{◌≡◌, refl, ap, sym, ◌∙◌}
 use native.Mathlib.Nat.{add-zero}
 use native.Mathlib.Omega.{arith}
-use lib.Dec.{leb, ltb, eqb}
+use lib.Dec.{leb, ltb}
 use lib.ListN.{length, get_or, set}
 use lib.Seq.{get_or-take, get_or-set_same, get_or-set_other, set-get_or, length-take-le}
-use borrow.Author.Tests.{eq-eqb, le-ltb, le-leb, lt-leb, leb-false, ltb-false, eqb-true, ne_eqb}
+use borrow.Author.Tests.{eq-eqb, le-ltb, le-leb, lt-leb, leb-false, ltb-false, eqb-true}
 use Rattle.matter.specs.Limits.{clock_limit}
 use Rattle.notices.specs.Notices.{noted}
 use Rattle.tasks.specs.Runs.{runs}
@@ -23,9 +23,11 @@ use Rattle.commands.specs.Answers.{cause, answer}
 use Rattle.commands.proofs.Kept.{refused-same, number-is-cause}
 use Rattle.rows.specs.declared.Row.{Row}
 use Rattle.rows.specs.RowTable.{AnswersAs}
-use Rattle.rows.specs.Rows.{map_to, visited, no_lamp, lamp_at, placed, mask_true, row_cause, row_stepped, row_bytes, slice_cause, limit_cause, visits_cause, place_cause, answered_at, row_of, put_at, with_lamps}
+use Rattle.rows.specs.Rows.{map_to, visited, no_lamp, lamp_at, placed, mask_true, row_cause, row_stepped, row_bytes, slice_cause, limit_cause, visits_cause, place_cause, answered_at, row_of, put_at, with_lamps, graver}
 use Rattle.rows.proofs.Visiting.{step-map_to, length-map_to, step-number}
-use Rattle.rows.proofs.Causes.{lamps-next, row-cause, slice_fits, place-there}
+use Rattle.matter.specs.Causes.{Verdict, accepted, clock_refused, invalid_lamp, step_while_idle}
+use Rattle.matter.proofs.Laws.{accepted-of, refused-of, not-ok}
+use Rattle.rows.proofs.Causes.{both-none, none_graver, lamps-next, row-cause, slice_fits, place-there}
 
 -- a row's own count and array, and a place of it
 pub record Room (r : Row) : Type 0 where
@@ -66,7 +68,7 @@ past-stays f (suc n) (suc k) (x ∷ xs) d h = past-stays f n k xs d (omega arith
 
 -- a visit is what the lamp's own step gives: an idle lamp refuses it, stays, and has nothing to report and no wait
 idle-refuses : (v bad : Bool) (l : Lamp) (a : Answer) →
-    let n : ℕ = cond (not v) 8 (cond (not false) 7 (cond bad 4 0)) in choose n l a ≡ refusal l n
+    let n : Verdict = cond (not v) invalid_lamp (cond (not false) step_while_idle (cond bad clock_refused accepted)) in choose n l a ≡ refusal l n
 idle-refuses true bad l a = refl
 idle-refuses false bad l a = refl
 
@@ -84,56 +86,58 @@ visited-step l clock =
 
 -- ---- in an accepted row call each running lamp's own step has number 0
 
-none-worst : (clock k : ℕ) (ls : List Lamp) → visits_cause clock ls ≡ 0 → k < length ls → first_cause (get_or ls k no_lamp) clock ≡ 0
+none-worst : (clock k : ℕ) (ls : List Lamp) → visits_cause clock ls ≡ accepted → k < length ls → first_cause (get_or ls k no_lamp) clock ≡ accepted
 none-worst clock k [] e h = absurd (omega arith)
-none-worst clock zero (l ∷ ls) e h = omega (arith, e)
-none-worst clock (suc k) (l ∷ ls) e h = none-worst clock k ls (omega (arith, e)) (omega arith)
+none-worst clock zero (l ∷ ls) e h = (both-none (first_cause l clock) (visits_cause clock ls) e).0
+none-worst clock (suc k) (l ∷ ls) e h = none-worst clock k ls (both-none (first_cause l clock) (visits_cause clock ls) e).1 (omega arith)
 
 -- an accepted row call's slice fits, and its count is that of a row
-slice-zero : (s x : ℕ) → cond (eqb s 0) x s ≡ 0 → s ≡ 0
-slice-zero s x e = either (eqb s 0) (λ h. eqb-true s 0 h) (λ h. rw h at e)
+slice-none : (s x : Verdict) → cond (is_ok s) x s ≡ accepted → s ≡ accepted
+slice-none (Ok u) x e = refl
+slice-none (Err refusal) x e = e
 
-pub accepted-slice : (r : Row) (size clock : ℕ) → row_cause r size clock ≡ 0 → slice_cause r size ≡ 0
-accepted-slice r size clock e = slice-zero (slice_cause r size) _ (sym (row-cause r size clock) ∙ e)
+pub accepted-slice : (r : Row) (size clock : ℕ) → row_cause r size clock ≡ accepted → slice_cause r size ≡ accepted
+accepted-slice r size clock e = slice-none (slice_cause r size) _ (sym (row-cause r size clock) ∙ e)
 
-pub accepted-few : (r : Row) (size clock : ℕ) → row_cause r size clock ≡ 0 → r.count ≤ 32
+pub accepted-few : (r : Row) (size clock : ℕ) → row_cause r size clock ≡ accepted → r.count ≤ 32
 accepted-few r size clock e = (slice_fits r size (accepted-slice r size clock e)).0
 
-pub accepted-lamps : (r : Row) (size clock : ℕ) → row_cause r size clock ≡ 0 → visits_cause clock (placed r) ≡ 0
-accepted-lamps r size clock e = omega (arith, lamps-next r size clock (accepted-slice r size clock e), e)
+pub accepted-lamps : (r : Row) (size clock : ℕ) → row_cause r size clock ≡ accepted → visits_cause clock (placed r) ≡ accepted
+accepted-lamps r size clock e =
+    (both-none (limit_cause clock) (visits_cause clock (placed r)) (sym (lamps-next r size clock (accepted-slice r size clock e)) ∙ e)).1
 
-pub accepted-mask : (r : Row) (size clock : ℕ) → row_cause r size clock ≡ 0 → mask_true r ≡ true
+pub accepted-mask : (r : Row) (size clock : ℕ) → row_cause r size clock ≡ accepted → mask_true r ≡ true
 accepted-mask r size clock e = (slice_fits r size (accepted-slice r size clock e)).2
 
 -- its places are the row's
 pub placed-many : (r : Row) → Room r → length (placed r) ≡ r.count
 placed-many r h = length-take-le r.count r.lamps (omega (arith, h.few, h.places))
 
-pub accepted-first : (r : Row) (size clock k : ℕ) → InRow k r → row_cause r size clock ≡ 0 → first_cause (lamp_at r k) clock ≡ 0
+pub accepted-first : (r : Row) (size clock k : ℕ) → InRow k r → row_cause r size clock ≡ accepted → first_cause (lamp_at r k) clock ≡ accepted
 accepted-first r size clock k h e =
     ap (λ l. first_cause l clock) (sym (get_or-take r.count r.lamps k no_lamp h.there))
     ∙ none-worst clock k (placed r) (accepted-lamps r size clock e) (omega (arith, placed-many r h.room, h.there))
 
 -- what it shows of such a lamp: its clock is no later, and the call's within the limit
-clock-good : (v late high : Bool) → ◌≡◌ {A = ℕ} (cond (not v) 8 (cond (late || high) 4 0)) 0 → (late ≡ false) × (high ≡ false)
+clock-good : (v late high : Bool) → cond (not v) invalid_lamp (cond (late || high) clock_refused accepted) ≡ accepted → (late ≡ false) × (high ≡ false)
 clock-good true false false e = (refl, refl)
-clock-good true true high e = absurd (omega (arith, e))
-clock-good true false true e = absurd (omega (arith, e))
-clock-good false late high e = absurd (omega (arith, e))
+clock-good true true high e = absurd (refused-of clock_refused refl e)
+clock-good true false true e = absurd (refused-of clock_refused refl e)
+clock-good false late high e = absurd (refused-of invalid_lamp refl e)
 
-pub first-none : (l : Lamp) (clock : ℕ) → first_cause l clock ≡ 0 → (l.clock ≤ clock) × (clock ≤ clock_limit)
+pub first-none : (l : Lamp) (clock : ℕ) → first_cause l clock ≡ accepted → (l.clock ≤ clock) × (clock ≤ clock_limit)
 unfolding first_cause
 first-none l clock e =
     let f = clock-good (lamp_valid l) (ltb clock l.clock) (ltb clock_limit clock) e in
     (ltb-false clock l.clock f.0, ltb-false clock_limit clock f.1)
 
-pub own-step : (r : Row) (size clock k : ℕ) → InRow k r → row_cause r size clock ≡ 0 → runs (lamp_at r k).running ≡ true →
-    (answer (lamp_at r k) (Call.Step clock)).number ≡ 0
+pub own-step : (r : Row) (size clock k : ℕ) → InRow k r → row_cause r size clock ≡ accepted → runs (lamp_at r k).running ≡ true →
+    (answer (lamp_at r k) (Call.Step clock)).verdict ≡ accepted
 unfolding answer
 own-step r size clock k h e running = step-number (lamp_at r k) clock running ∙ accepted-first r size clock k h e
 
 -- the lamp at a place after an accepted row call is what its own step leaves
-pub row-lamp : (r : Row) (size clock k : ℕ) → InRow k r → row_cause r size clock ≡ 0 →
+pub row-lamp : (r : Row) (size clock k : ℕ) → InRow k r → row_cause r size clock ≡ accepted →
     lamp_at (row_stepped r size clock).row k ≡ (answer (lamp_at r k) (Call.Step clock)).lamp
 unfolding row_stepped
 row-lamp r size clock k h e =
@@ -143,40 +147,42 @@ row-lamp r size clock k h e =
 pub row-past : (r : Row) (size clock k : ℕ) → r.count ≤ k → lamp_at (row_stepped r size clock).row k ≡ lamp_at r k
 unfolding row_stepped
 row-past r size clock k h =
-    either (eqb (row_cause r size clock) 0)
+    either (is_ok (row_cause r size clock))
     (λ e. rw e (past-stays (λ l. (visited l clock).lamp) r.count k r.lamps no_lamp h))
     (λ e. rw e)
 
 pub row_count : (r : Row) (size clock : ℕ) → (row_stepped r size clock).row.count ≡ r.count
 unfolding row_stepped
-row_count r size clock = either (eqb (row_cause r size clock) 0) (λ e. rw e) (λ e. rw e)
+row_count r size clock = either (is_ok (row_cause r size clock)) (λ e. rw e) (λ e. rw e)
 
 -- the number of a row call is its cause, and where there is one nothing changes, the slice included
-pub row_number : (r : Row) (size clock : ℕ) → (row_stepped r size clock).number ≡ row_cause r size clock
+pub row_number : (r : Row) (size clock : ℕ) → (row_stepped r size clock).verdict ≡ row_cause r size clock
 unfolding row_stepped
 row_number r size clock =
-    either (eqb (row_cause r size clock) 0) (λ e. rw e (sym (eqb-true _ _ e))) (λ e. rw e)
+    either (is_ok (row_cause r size clock)) (λ e. rw e (sym (accepted-of _ e))) (λ e. rw e)
 
-pub row-refused : (r : Row) (out : List ℕ) (clock : ℕ) → (row_cause r (length out) clock ≡ 0 → ⊥) →
-    (row_stepped r (length out) clock ≡ record { number = row_cause r (length out) clock; row = r; wait = 0 }) × (row_bytes r out clock ≡ out)
+pub row-refused : (r : Row) (out : List ℕ) (clock : ℕ) → (row_cause r (length out) clock ≡ accepted → ⊥) →
+    (row_stepped r (length out) clock ≡ record { verdict = row_cause r (length out) clock; row = r; wait = 0 }) × (row_bytes r out clock ≡ out)
 unfolding row_stepped row_bytes
-row-refused r out clock n = rw (ne_eqb (row_cause r (length out) clock) 0 n) (refl, refl)
+row-refused r out clock n = rw (not-ok (row_cause r (length out) clock) n) (refl, refl)
 
 -- it is accepted where the slice fits, the clock is none above the limit, and no lamp of the row, idle ones included, has a cause
-all_first : (clock : ℕ) (ls : List Lamp) → ((k : ℕ) → k < length ls → first_cause (get_or ls k no_lamp) clock ≡ 0) → visits_cause clock ls ≡ 0
+all_first : (clock : ℕ) (ls : List Lamp) → ((k : ℕ) → k < length ls → first_cause (get_or ls k no_lamp) clock ≡ accepted) → visits_cause clock ls ≡ accepted
 all_first clock [] f = refl
-all_first clock (l ∷ ls) f = omega (arith, f 0 (omega arith), all_first clock ls (λ k h. f (suc k) (omega arith)))
+all_first clock (l ∷ ls) f =
+    ap (λ v. graver v (visits_cause clock ls)) (f 0 (omega arith)) ∙ none_graver (visits_cause clock ls)
+    ∙ all_first clock ls (λ k h. f (suc k) (omega arith))
 
 pub row-accepts : (r : Row) (size clock : ℕ) → Room r → mask_true r ≡ true → 16 * r.count ≤ size → clock ≤ clock_limit →
-    ((k : ℕ) → k < r.count → first_cause (lamp_at r k) clock ≡ 0) → (row_stepped r size clock).number ≡ 0
+    ((k : ℕ) → k < r.count → first_cause (lamp_at r k) clock ≡ accepted) → (row_stepped r size clock).verdict ≡ accepted
 unfolding slice_cause
 row-accepts r size clock h mask fits low f =
-    let slice : slice_cause r size ≡ 0 = rw (le-ltb 32 r.count h.few, le-ltb size (16 * r.count) fits, mask) in
-    let limit : limit_cause clock ≡ 0 = rw (le-ltb clock_limit clock low) in
+    let slice : slice_cause r size ≡ accepted = rw (le-ltb 32 r.count h.few, le-ltb size (16 * r.count) fits, mask) in
+    let limit : limit_cause clock ≡ accepted = rw (le-ltb clock_limit clock low) in
     let lamps = all_first clock (placed r) (λ k m.
     let there : k < r.count = omega (arith, placed-many r h, m) in
     ap (λ l. first_cause l clock) (get_or-take r.count r.lamps k no_lamp there) ∙ f k there) in
-    row_number r size clock ∙ lamps-next r size clock slice ∙ omega (arith, limit, lamps)
+    row_number r size clock ∙ lamps-next r size clock slice ∙ ap (λ v. graver v (visits_cause clock (placed r))) limit ∙ none_graver (visits_cause clock (placed r)) ∙ lamps
 
 -- a row made of lamps has their mask, and so has each row that a call leaves
 pub with-true : (r : Row) (ls : List Lamp) → mask_true (with_lamps r ls) ≡ true
@@ -187,12 +193,12 @@ same-row r e = ap (λ m. record { count = r.count; running_mask = m; lamps = r.l
 
 -- ---- the row call is the single steps of its places, one after another in rising place
 
-pub no-cause : (r : Row) (k : ℕ) → InTrueRow k r → place_cause r k ≡ 0
+pub no-cause : (r : Row) (k : ℕ) → InTrueRow k r → place_cause r k ≡ accepted
 unfolding place_cause
 no-cause r k h = rw (le-ltb 32 r.count h.in_row.room.few, lt-leb r.count k h.in_row.there, h.mask)
 
 -- and in a row whose mask is not true 8
-pub wrong-mask : (r : Row) (k : ℕ) → InRow k r → mask_true r ≡ false → place_cause r k ≡ 8
+pub wrong-mask : (r : Row) (k : ℕ) → InRow k r → mask_true r ≡ false → place_cause r k ≡ invalid_lamp
 unfolding place_cause
 wrong-mask r k h m = rw (le-ltb 32 r.count h.room.few, lt-leb r.count k h.there, m)
 
@@ -221,7 +227,7 @@ module _ (clock : ℕ) where
       ap (λ q. step_each left (suc k) q clock) (at_place (with_lamps r (map_to k visit r.lamps)) k (record { in_row = record { there = omega arith; room = room }; mask = with-true r (map_to k visit r.lamps) }) ∙ ap (with_lamps r) (one_more k r.lamps))
       ∙ from r left (suc k) h (omega arith) ∙ ap (λ n. with_lamps r (map_to n visit r.lamps)) e
 
-  pub singly-is : (r : Row) (size : ℕ) → length r.lamps ≡ 32 → row_cause r size clock ≡ 0 →
+  pub singly-is : (r : Row) (size : ℕ) → length r.lamps ≡ 32 → row_cause r size clock ≡ accepted →
       step_each r.count 0 r clock ≡ (row_stepped r size clock).row
   unfolding row_stepped
   singly-is r size len e =
@@ -236,7 +242,7 @@ pub single-is : (r : Row) (k : ℕ) (x : Call) → InTrueRow k r → AnswersAs (
 unfolding answered_at
 single-is r k x h =
     let e = no-cause r k h in
-    record { number = rw e; notices = rw e; task = rw e; wait = rw e }
+    record { verdict = rw e; notices = rw e; task = rw e; wait = rw e }
 
 pub single-lamp : (r : Row) (k : ℕ) (x : Call) → InTrueRow k r → lamp_at (answered_at r k x).row k ≡ (answer (lamp_at r k) x).lamp
 unfolding answered_at
@@ -245,23 +251,23 @@ single-lamp r k x h = rw (no-cause r k h) (get_or-set_same r.lamps k (answer (la
 pub single-others : (r : Row) (place k : ℕ) (x : Call) → (k ≡ place → ⊥) → lamp_at (answered_at r place x).row k ≡ lamp_at r k
 unfolding answered_at
 single-others r place k x n =
-    either (eqb (place_cause r place) 0)
+    either (is_ok (place_cause r place))
     (λ e. rw e (get_or-set_other r.lamps place k (answer (lamp_at r place) x).lamp no_lamp n))
     (λ e. rw e)
 
 pub single-count : (r : Row) (place : ℕ) (x : Call) → (answered_at r place x).row.count ≡ r.count
 unfolding answered_at
-single-count r place x = either (eqb (place_cause r place) 0) (λ e. rw e) (λ e. rw e)
+single-count r place x = either (is_ok (place_cause r place)) (λ e. rw e) (λ e. rw e)
 
 -- one that is refused, for the place or by its lamp, leaves the row as it was, reports nothing, and has no task and wait 0
-pub single-refused : (r : Row) (k : ℕ) (x : Call) → ((answered_at r k x).number ≡ 0 → ⊥) →
-    answered_at r k x ≡ record { number = (answered_at r k x).number; row = r; notices = noted []; task = None; wait = 0 }
+pub single-refused : (r : Row) (k : ℕ) (x : Call) → ((answered_at r k x).verdict ≡ accepted → ⊥) →
+    answered_at r k x ≡ record { verdict = (answered_at r k x).verdict; row = r; notices = noted []; task = None; wait = 0 }
 unfolding answered_at
 single-refused r k x n =
-    either (eqb (place_cause r k) 0)
+    either (is_ok (place_cause r k))
     (λ e. let same = refused-same (lamp_at r k) x (λ z. (rw e at n) (number-is-cause (lamp_at r k) x ∙ z)) in
-    let stays = ap (with_lamps r) (set-get_or r.lamps k no_lamp) ∙ same-row r (place-there r k (eqb-true _ _ e)).2 in
-    rw (e, same) (ap (λ (q : Row). record { number = cause (lamp_at r k) x; row = q; notices = noted []; task = None; wait = 0 }) stays))
+    let stays = ap (with_lamps r) (set-get_or r.lamps k no_lamp) ∙ same-row r (place-there r k (accepted-of _ e)).2 in
+    rw (e, same) (ap (λ (q : Row). record { verdict = cause (lamp_at r k) x; row = q; notices = noted []; task = None; wait = 0 }) stays))
     (λ e. rw e)
 
 -- ---- making a row, and putting a lamp into it

@@ -1,6 +1,6 @@
 -- What every call leaves of the running mask.
-use Rattle.std.specs.Prelude.{Option, Some, None}
-use Rattle.std.proofs.Common.{◌≡◌, ℕ, ◌^◌, ◌<◌, ◌≤◌, true, cond, ◌&&◌, ◌||◌, length, set, eqb, leb, ltb, refl, ap, sym, ◌∙◌, arith, eqb-true, eq-eqb, leb-false, ltb-true, ltb-false}
+use Rattle.std.specs.Prelude.{Some, is_ok}
+use Rattle.std.proofs.Common.{◌≡◌, ℕ, ◌^◌, ◌<◌, ◌≤◌, true, cond, ◌&&◌, ◌||◌, length, set, eqb, leb, ltb, refl, ap, sym, ◌∙◌, arith, eqb-true, eq-eqb, leb-false, ltb-true, ltb-false, is_ok}
 use borrow.Author.Tests.{lt-leb}
 use Rattle.std.specs.Int.{w32, bit_at, trailing_zeros}
 use Rattle.std.proofs.lemmas.Bool.{eqb-false}
@@ -24,11 +24,11 @@ use Rattle.rows.proofs.Masks.{mask-bit, bit_here, bit_elsewhere, readings, store
 module _ (r : Row) (room : Room r) (m : mask_true r ≡ true) where
   row-call-true : (size clock : ℕ) → mask_true (row_stepped r size clock).row ≡ true
   unfolding row_stepped
-  row-call-true size clock = either (eqb (row_cause r size clock) 0) (λ e. rw e (with-true r _)) (λ e. rw e m)
+  row-call-true size clock = either (is_ok (row_cause r size clock)) (λ e. rw e (with-true r _)) (λ e. rw e m)
 
   single-true : (place : ℕ) (x : Call) → mask_true (answered_at r place x).row ≡ true
   unfolding answered_at
-  single-true place x = either (eqb (place_cause r place) 0) (λ e. rw e (with-true r _)) (λ e. rw e m)
+  single-true place x = either (is_ok (place_cause r place)) (λ e. rw e (with-true r _)) (λ e. rw e m)
 
   put-true : (place : ℕ) (l : Lamp) → mask_true (put_at r place l) ≡ true
   unfolding put_at
@@ -42,7 +42,7 @@ module _ (r : Row) (room : Room r) (m : mask_true r ≡ true) where
   single-array : (place : ℕ) (x : Call) → length (answered_at r place x).row.lamps ≡ 32
   unfolding answered_at
   single-array place x =
-      either (eqb (place_cause r place) 0) (λ e. rw e (length-set r.lamps place _ ∙ room.places)) (λ e. rw e room.places)
+      either (is_ok (place_cause r place)) (λ e. rw e (length-set r.lamps place _ ∙ room.places)) (λ e. rw e room.places)
 
   after : (place : ℕ) (x : Call) → Readings (answered_at r place x).row
   after place x =

@@ -1,11 +1,12 @@
 -- What other demands promise of every answer, for rows: notice 18 in its cause alone, and at most 14 notices with zeros behind them.
+use Rattle.matter.specs.Causes.{accepted}
+use Rattle.std.specs.Prelude.{is_ok}
 use Prim.Native.Nat.{ℕ, ◌≤◌}
 use mathlib.Core.Bool.{true≢false}
 use mathlib.Core.List.{List, []}
 use mathlib.Core.Logic.{◌↔◌}
 use mathlib.Core.Path.{◌≡◌, refl, ap, sym}
 use native.Mathlib.Omega.{arith}
-use lib.Dec.{eqb}
 use lib.ListN.{length, get_or}
 use Rattle.notices.specs.declared.Notices.{Notices}
 use Rattle.notices.specs.Names.{hue_tie}
@@ -22,7 +23,7 @@ use Rattle.rows.proofs.Bytes.{sixteen_at, bytes-at}
 -- ---- document 02, A.6: 18 "comes in no other case"
 
 -- no sixteen bytes of an accepted row call hold 18
-pub row-never-18 : (r : Row) (out : List ℕ) (clock k : ℕ) → InRow k r → row_cause r (length out) clock ≡ 0 → (byte : ℕ) →
+pub row-never-18 : (r : Row) (out : List ℕ) (clock k : ℕ) → InRow k r → row_cause r (length out) clock ≡ accepted → (byte : ℕ) →
     get_or (sixteen_at k (row_bytes r out clock)) byte 0 ≡ hue_tie → ⊥
 row-never-18 r out clock k h e byte there =
     true≢false (sym ((ties (lamp_at r k) (Call.Step clock)).alone byte (rw (bytes-at r out clock k h e) at there)))
@@ -46,7 +47,7 @@ lamp-few r k x =
     record { reported = f.reported; listed = ap (λ (n : Notices). n.places) f.listed; few = f.few }
 
 -- the sixteen bytes of each place of an accepted row call
-pub row-few : (r : Row) (out : List ℕ) (clock k : ℕ) → InRow k r → row_cause r (length out) clock ≡ 0 →
+pub row-few : (r : Row) (out : List ℕ) (clock k : ℕ) → InRow k r → row_cause r (length out) clock ≡ accepted →
     FewIn (sixteen_at k (row_bytes r out clock))
 row-few r out clock k h e = rw (bytes-at r out clock k h e) (lamp-few r k (Call.Step clock))
 
@@ -54,6 +55,6 @@ row-few r out clock k h e = rw (bytes-at r out clock k h e) (lamp-few r k (Call.
 pub single-few : (r : Row) (k : ℕ) (x : Call) → FewIn (answered_at r k x).notices.places
 unfolding answered_at
 single-few r k x =
-    either (eqb (place_cause r k) 0)
+    either (is_ok (place_cause r k))
     (λ e. rw e (lamp-few r k x))
     (λ e. rw e (record { reported = []; listed = refl; few = omega arith }))

@@ -1,23 +1,23 @@
 -- The turns of the loop that visits each lamp.
-use Prim.Native.Nat.{ℕ, zero, suc, ◌+◌, ◌≤◌, ◌<◌, min, max}
+use Rattle.matter.specs.Causes.{Verdict, accepted}
+use Rattle.std.specs.Prelude.{Ok, Err}
+use Prim.Native.Nat.{ℕ, zero, suc, ◌+◌, ◌<◌, min}
 use mathlib.Core.Path.{◌≡◌, refl, sym, ◌∙◌, ap}
 use mathlib.Core.List.{List, [], ◌∷◌, ◌++◌, append_assoc}
 use native.Mathlib.Numerals.{add-one}
 use native.Mathlib.Omega.{arith}
-use lib.ListN.{length, get_or, set, drop}
-use lib.Seq.{drop-drop}
+use lib.ListN.{length, get_or, set, take, drop}
+use lib.Seq.{drop-drop, drop-cons, get_or-take}
 use Rattle.lamp.specs.declared.Lamp.{Lamp}
 use Rattle.lamp.specs.declared.Answer.{Answer}
 use Rattle.lamp.specs.Answers.{at_clock, first_cause, refusal}
 use Rattle.lamp.specs.Calls.{choose, done, stepped, step_cause, step_answer}
 use Rattle.tasks.specs.Runs.{runs}
-use mathlib.Core.Bool.{Bool, true, false, cond}
-use lib.Dec.{eqb}
-use borrow.Author.Tests.{eqb-true}
+use mathlib.Core.Bool.{true}
 use Rattle.rows.specs.declared.Row.{Row}
 use Rattle.rows.specs.declared.RowStepped.{RowStepped}
-use Rattle.rows.specs.Rows.{visited, visits_cause, lesser, least_wait, bytes_of, map_to}
-use Rattle.rows.proofs.Places.{left, left-cons}
+use Rattle.rows.specs.Rows.{visited, visits_cause, lesser, least_wait, bytes_of, map_to, graver}
+use Rattle.rows.proofs.Causes.{graver-assoc}
 
 pub lesser-none : (a : ℕ) → lesser a 0 ≡ a
 unfolding lesser
@@ -50,40 +50,41 @@ length-map_to zero f xs = refl
 length-map_to (suc n) f [] = refl
 length-map_to (suc n) f (x ∷ xs) = ap suc (length-map_to n f xs)
 
-module _ (xs : List Lamp) (n i clock : ℕ) (h : i < n) (k : n ≤ length xs) (d : Lamp) where
-  pub lamps-more : (next : List Lamp) → next ≡ map_to i (λ l. (visited l clock).lamp) xs
-      → set next i (visited (get_or xs i d) clock).lamp ≡ map_to (i + 1) (λ l. (visited l clock).lamp) xs
-  lamps-more next e = rw (e, add-one i) (step-map_to i (λ l. (visited l clock).lamp) xs d)
+-- the lamps so far visited, and the next one of the row
+pub lamps-more : (xs : List Lamp) (n i clock : ℕ) (d : Lamp) → i < n → (next : List Lamp) → next ≡ map_to i (λ l. (visited l clock).lamp) xs
+    → set next i (visited (get_or (take n xs) i d) clock).lamp ≡ map_to (i + 1) (λ l. (visited l clock).lamp) xs
+lamps-more xs n i clock d h next e = rw (e, add-one i, get_or-take n xs i d h) (step-map_to i (λ l. (visited l clock).lamp) xs d)
 
-  pub wait-more : (w : ℕ) {whole : ℕ} → lesser w (least_wait clock (left n i xs)) ≡ whole
-      → lesser (lesser w (visited (get_or xs i d) clock).wait) (least_wait clock (left n (i + 1) xs)) ≡ whole
-  wait-more w e = lesser-assoc w (visited (get_or xs i d) clock).wait (least_wait clock (left n (i + 1) xs)) ∙ (rw (left-cons xs n i d h k) at e)
+module _ (xs : List Lamp) (i clock : ℕ) (h : i < length xs) (d : Lamp) where
+  next : drop i xs ≡ get_or xs i d ∷ drop (i + 1) xs
+  next = rw (add-one i) (drop-cons xs i d h)
 
-  pub cause-more : (number : ℕ) {whole : ℕ} → max number (visits_cause clock (left n i xs)) ≡ whole
-      → max (max number (first_cause (get_or xs i d) clock)) (visits_cause clock (left n (i + 1) xs)) ≡ whole
-  cause-more number e = omega (arith, rw (left-cons xs n i d h k) at e)
+  pub wait-more : (w : ℕ) {whole : ℕ} → lesser w (least_wait clock (drop i xs)) ≡ whole
+      → lesser (lesser w (visited (get_or xs i d) clock).wait) (least_wait clock (drop (i + 1) xs)) ≡ whole
+  wait-more w e = lesser-assoc w (visited (get_or xs i d) clock).wait (least_wait clock (drop (i + 1) xs)) ∙ (rw next at e)
 
-  pub bytes-more : (done : List ℕ) {whole : List ℕ} → done ++ bytes_of clock (left n i xs) ≡ whole
-      → (done ++ (visited (get_or xs i d) clock).notices.places) ++ bytes_of clock (left n (i + 1) xs) ≡ whole
-  bytes-more done e = append_assoc done (visited (get_or xs i d) clock).notices.places (bytes_of clock (left n (i + 1) xs)) ∙ (rw (left-cons xs n i d h k) at e)
+  pub cause-more : (verdict : Verdict) {whole : Verdict} → graver verdict (visits_cause clock (drop i xs)) ≡ whole
+      → graver (graver verdict (first_cause (get_or xs i d) clock)) (visits_cause clock (drop (i + 1) xs)) ≡ whole
+  cause-more verdict e = graver-assoc verdict (first_cause (get_or xs i d) clock) (visits_cause clock (drop (i + 1) xs)) ∙ (rw next at e)
+
+  pub bytes-more : (done : List ℕ) {whole : List ℕ} → done ++ bytes_of clock (drop i xs) ≡ whole
+      → (done ++ (visited (get_or xs i d) clock).notices.places) ++ bytes_of clock (drop (i + 1) xs) ≡ whole
+  bytes-more done e = append_assoc done (visited (get_or xs i d) clock).notices.places (bytes_of clock (drop (i + 1) xs)) ∙ (rw next at e)
 
 -- the bytes behind those written are as they were
 pub behind_more : (at k : ℕ) (out out₀ last : List ℕ) → drop at out ≡ drop at out₀ → drop (at + k) last ≡ drop (at + k) out → drop (at + k) last ≡ drop (at + k) out₀
 behind_more at k out out₀ last e f = f ∙ sym (drop-drop k at out) ∙ ap (λ x. drop k x) e ∙ drop-drop k at out₀
 
 -- a lamp that runs refuses a step for no other cause than every call checks first
-choose-number : (n : ℕ) (l : Lamp) (a : Answer) → a.number ≡ 0 → (choose n l a).number ≡ n
-choose-number n l a e = go (eqb n 0) refl
-  where
-    go : (b : Bool) → eqb n 0 ≡ b → (cond b a (refusal l n)).number ≡ n
-    go true h = e ∙ sym (eqb-true n 0 h)
-    go false h = refl
+chosen : (v : Verdict) (l : Lamp) (a : Answer) → a.verdict ≡ accepted → (choose v l a).verdict ≡ v
+chosen (Ok u) l a e = e
+chosen (Err refusal) l a e = refl
 
-pub step-number : (l : Lamp) (clock : ℕ) → runs l.running ≡ true → (step_answer l clock).number ≡ first_cause l clock
+pub step-number : (l : Lamp) (clock : ℕ) → runs l.running ≡ true → (step_answer l clock).verdict ≡ first_cause l clock
 unfolding step_answer first_cause
-step-number l clock e = choose-number (step_cause l clock) l (done (stepped (at_clock l clock) l.running)) refl ∙ rw e
+step-number l clock e = chosen (step_cause l clock) l (done (stepped (at_clock l clock) l.running)) refl ∙ rw e
 
 -- a row call by its parts
-pub by_parts : (r : RowStepped) {number wait : ℕ} {row : Row} → r.number ≡ number → r.row ≡ row → r.wait ≡ wait
-    → r ≡ record { number = number; row = row; wait = wait }
-by_parts r a b c = λ i. record { number = a i; row = b i; wait = c i }
+pub by_parts : (r : RowStepped) {verdict : Verdict} {row : Row} {wait : ℕ} → r.verdict ≡ verdict → r.row ≡ row → r.wait ≡ wait
+    → r ≡ record { verdict = verdict; row = row; wait = wait }
+by_parts r a b c = λ i. record { verdict = a i; row = b i; wait = c i }

@@ -1,5 +1,6 @@
 -- A step that leaves its lamp running asks for a wait, and one that ends asks for none; a row call's wait is the least that its
 -- lamps ask, so it is 0 exactly where nothing runs after it.
+use Rattle.matter.specs.Causes.{accepted}
 use Prim.Native.Nat.{ℕ, zero, suc, ◌-◌, ◌≤◌, ◌<◌}
 use mathlib.Core.Bool.{Bool, true, false, true≢false}
 use mathlib.Core.List.{List, [], ◌∷◌}
@@ -57,12 +58,12 @@ step-asks l (Running.ColorTemperatureMove run) = by_end (temperature_passed (fou
 step-asks l (Running.ColorLoop direction hue seconds start) =
     by_end false (Running.ColorLoop direction hue seconds start) _ refl (λ e. turn-left (l.clock - start) seconds)
 
-accepted-step : (l : Lamp) (clock : ℕ) → step_cause l clock ≡ 0 → step_answer l clock ≡ done (stepped (at_clock l clock) l.running)
+accepted-step : (l : Lamp) (clock : ℕ) → step_cause l clock ≡ accepted → step_answer l clock ≡ done (stepped (at_clock l clock) l.running)
 unfolding step_answer
 accepted-step l clock e = rw e
 
 -- an accepted visit
-pub visit-asks : (l : Lamp) (clock : ℕ) → (runs l.running ≡ true → step_cause l clock ≡ 0) → Asks (visited l clock).lamp.running (visited l clock).wait
+pub visit-asks : (l : Lamp) (clock : ℕ) → (runs l.running ≡ true → step_cause l clock ≡ accepted) → Asks (visited l clock).lamp.running (visited l clock).wait
 unfolding visited
 visit-asks l clock e =
     either (runs l.running) (λ r. rw (r, accepted-step l clock (e r)) (step-asks (at_clock l clock) l.running))
@@ -73,7 +74,7 @@ step-cause : (l : Lamp) (clock : ℕ) → runs l.running ≡ true → step_cause
 unfolding first_cause
 step-cause l clock e = rw e
 
-pub place-asks : (r : Row) (size clock k : ℕ) → InRow k r → row_cause r size clock ≡ 0 →
+pub place-asks : (r : Row) (size clock k : ℕ) → InRow k r → row_cause r size clock ≡ accepted →
     Asks (lamp_at (row_stepped r size clock).row k).running (answer (lamp_at r k) (Call.Step clock)).wait
 place-asks r size clock k h e =
     let l = lamp_at r k in
@@ -124,12 +125,12 @@ least-asked clock (l ∷ ls) h =
 place-wait : (r : Row) (clock k : ℕ) → k < r.count → (visited (get_or (placed r) k no_lamp) clock).wait ≡ (answer (lamp_at r k) (Call.Step clock)).wait
 place-wait r clock k there = rw (get_or-take r.count r.lamps k no_lamp there) (visited-step (lamp_at r k) clock).2
 
-row-wait : (r : Row) (size clock : ℕ) → row_cause r size clock ≡ 0 → (row_stepped r size clock).wait ≡ least_wait clock (placed r)
+row-wait : (r : Row) (size clock : ℕ) → row_cause r size clock ≡ accepted → (row_stepped r size clock).wait ≡ least_wait clock (placed r)
 unfolding row_stepped
 row-wait r size clock e = rw e
 
 -- it is at most what each lamp that runs on asks, and no lamp runs on where it is 0
-pub wait-low : (r : Row) (size clock k : ℕ) → InRow k r → row_cause r size clock ≡ 0 →
+pub wait-low : (r : Row) (size clock k : ℕ) → InRow k r → row_cause r size clock ≡ accepted →
     runs (lamp_at (row_stepped r size clock).row k).running ≡ true →
     (0 < (row_stepped r size clock).wait) × ((row_stepped r size clock).wait ≤ (answer (lamp_at r k) (Call.Step clock)).wait)
 wait-low r size clock k h e running =
@@ -144,7 +145,7 @@ pub record AskedAt (r : Row) (size clock : ℕ) : Type 0 where
   pub there : place < r.count
   pub asks : (answer (lamp_at r place) (Call.Step clock)).wait ≡ (row_stepped r size clock).wait
 
-pub wait-asked : (r : Row) (size clock : ℕ) → length r.lamps ≡ 32 → row_cause r size clock ≡ 0 →
+pub wait-asked : (r : Row) (size clock : ℕ) → length r.lamps ≡ 32 → row_cause r size clock ≡ accepted →
     0 < (row_stepped r size clock).wait → AskedAt r size clock
 wait-asked r size clock len e h =
     let same = row-wait r size clock e in
@@ -155,7 +156,7 @@ wait-asked r size clock len e h =
     record { place = found.place; there = there; asks = sym (place-wait r clock found.place there) ∙ found.asks ∙ sym same }
 
 -- so it is 0 exactly where nothing runs after the call
-pub row-no-wait : (r : Row) (size clock : ℕ) → length r.lamps ≡ 32 → row_cause r size clock ≡ 0 →
+pub row-no-wait : (r : Row) (size clock : ℕ) → length r.lamps ≡ 32 → row_cause r size clock ≡ accepted →
     ((row_stepped r size clock).wait ≡ 0)
     ↔ ((k : ℕ) → k < r.count → runs (lamp_at (row_stepped r size clock).row k).running ≡ false)
 row-no-wait r size clock len e =

@@ -1,9 +1,8 @@
 -- Rows of lamps: document 02, A.1 and A.3. A row has up to 32 lamps; those at and past its count are no part of it.
-use Rattle.std.specs.Prelude.{Option, Some, None}
-use Rattle.std.specs.Prelude.{ℕ, zero, suc, ◌*◌, ◌^◌, ◌<◌, ◌≤◌, min, max, Bool, true, false, not, cond, ◌&&◌, ◌||◌, ◌==◌, List, [], ◌∷◌, ◌++◌, ◌≡◌, leb, ltb, eqb, map, length, set, take, drop, get_or, count_by, bit_and, bit_or, count_ones}
+use Rattle.std.specs.Prelude.{Option, Some, None, ℕ, zero, suc, ◌*◌, ◌^◌, ◌<◌, ◌≤◌, min, Bool, true, false, not, cond, ◌&&◌, ◌||◌, ◌==◌, List, [], ◌∷◌, ◌++◌, ◌≡◌, leb, ltb, is_ok, map, length, set, take, drop, get_or, count_by, bit_and, bit_or, count_ones}
 use Rattle.std.specs.Int.{w32, bit_not, bit_at, trailing_zeros}
 use Rattle.std.specs.Simd.Lanes.{mask_l}
-use Rattle.matter.specs.Causes.{accepted, clock_refused, invalid_lamp, short_slice, no_place}
+use Rattle.matter.specs.Causes.{Verdict, accepted, number_of, clock_refused, invalid_lamp, short_slice, no_place}
 use Rattle.matter.specs.Limits.{clock_limit}
 use Rattle.notices.specs.Notices.{noted}
 use Rattle.matter.specs.declared.enums.ColorModeEnum.{ColorModeEnum}
@@ -59,7 +58,7 @@ abbrev pub any_later : List Lamp → ℕ → Bool
 any_later [] clock = false
 any_later (l ∷ ls) clock = ltb clock l.clock || any_later ls clock
 
-unfoldable pub row_cause : Row → ℕ → ℕ → ℕ
+unfoldable pub row_cause : Row → ℕ → ℕ → Verdict
 row_cause r size clock =
     cond (ltb 32 r.count) invalid_lamp
     (cond (ltb size (16 * r.count)) short_slice
@@ -67,17 +66,21 @@ row_cause r size clock =
     (cond (any_later (placed r) clock || ltb clock_limit clock) clock_refused accepted)))
 
 -- the same as the code goes through it: before the lamps' own causes, and over them, where 8 is above 4 and 4 above none
-unfoldable pub slice_cause : Row → ℕ → ℕ
+unfoldable pub slice_cause : Row → ℕ → Verdict
 slice_cause r size =
     cond (ltb 32 r.count) invalid_lamp
     (cond (ltb size (16 * r.count)) short_slice (cond (not (mask_true r)) invalid_lamp accepted))
 
-abbrev pub limit_cause : ℕ → ℕ
+abbrev pub limit_cause : ℕ → Verdict
 limit_cause clock = cond (ltb clock_limit clock) clock_refused accepted
 
-abbrev pub visits_cause : ℕ → List Lamp → ℕ
+-- the one with the greater number
+unfoldable pub graver : Verdict → Verdict → Verdict
+graver a b = cond (ltb (number_of a) (number_of b)) b a
+
+abbrev pub visits_cause : ℕ → List Lamp → Verdict
 visits_cause clock [] = accepted
-visits_cause clock (l ∷ ls) = max (first_cause l clock) (visits_cause clock ls)
+visits_cause clock (l ∷ ls) = graver (first_cause l clock) (visits_cause clock ls)
 
 -- f at each of the first n
 abbrev pub map_to : {A : Type 0} → ℕ → (A → A) → List A → List A
@@ -101,44 +104,44 @@ abbrev pub bytes_of : ℕ → List Lamp → List ℕ
 bytes_of clock [] = []
 bytes_of clock (l ∷ ls) = (visited l clock).notices.places ++ bytes_of clock ls
 
-abbrev pub row_refusal : Row → ℕ → RowStepped
-row_refusal r number = record { number = number; row = r; wait = 0 }
+abbrev pub row_refusal : Row → Verdict → RowStepped
+row_refusal r verdict = record { verdict = verdict; row = r; wait = 0 }
 
 abbrev pub row_after : Row → ℕ → RowStepped
 row_after r clock =
     record {
-      number = accepted;
+      verdict = accepted;
       row = with_lamps r (map_to r.count (λ l. (visited l clock).lamp) r.lamps);
       wait = least_wait clock (placed r);
     }
 
 unfoldable pub row_stepped : Row → ℕ → ℕ → RowStepped
 row_stepped r size clock =
-    cond (eqb (row_cause r size clock) accepted) (row_after r clock) (row_refusal r (row_cause r size clock))
+    cond (is_ok (row_cause r size clock)) (row_after r clock) (row_refusal r (row_cause r size clock))
 
 -- the caller's slice after the call: "Bytes past the last place stay"
 unfoldable pub row_bytes : Row → List ℕ → ℕ → List ℕ
 row_bytes r out clock =
-    cond (eqb (row_cause r (length out) clock) accepted) (bytes_of clock (placed r) ++ drop (16 * r.count) out) out
+    cond (is_ok (row_cause r (length out) clock)) (bytes_of clock (placed r) ++ drop (16 * r.count) out) out
 
 -- ---- a call at a place
 
 -- "10, place not in the row, looked at in that same place for a single call, which then checks the form of its own lamp
 -- only"; A.3: "a row whose word disagrees is refused with 8, after 9 or 10, in single calls too"
-unfoldable pub place_cause : Row → ℕ → ℕ
+unfoldable pub place_cause : Row → ℕ → Verdict
 place_cause r place =
     cond (ltb 32 r.count) invalid_lamp
     (cond (leb r.count place) no_place (cond (not (mask_true r)) invalid_lamp accepted))
 
-abbrev pub place_refusal : Row → ℕ → RowAnswer
-place_refusal r number =
-    record { number = number; row = r; notices = noted []; task = None; wait = 0 }
+abbrev pub place_refusal : Row → Verdict → RowAnswer
+place_refusal r verdict =
+    record { verdict = verdict; row = r; notices = noted []; task = None; wait = 0 }
 
 -- the lamp's own answer, and the row with that lamp in it
 abbrev pub with_answer : Row → ℕ → Answer → RowAnswer
 with_answer r place a =
     record {
-      number = a.number;
+      verdict = a.verdict;
       row = with_lamps r (set r.lamps place a.lamp);
       notices = a.notices;
       task = a.task;
@@ -173,7 +176,7 @@ lamp_at r place = get_or r.lamps place no_lamp
 
 unfoldable pub answered_at : Row → ℕ → Call → RowAnswer
 answered_at r place x =
-    cond (eqb (place_cause r place) accepted) (with_answer r place (answer (lamp_at r place) x))
+    cond (is_ok (place_cause r place)) (with_answer r place (answer (lamp_at r place) x))
     (place_refusal r (place_cause r place))
 
 -- ---- putting a lamp into a row

@@ -2,46 +2,42 @@
 // A word beside them tells which run. Document 02, A.1 and A.3.
 #![tactic(auto)]
 
-ghost use Rattle.std.specs.Prelude.{◌≡◌, ◌++◌, ◌*◌, ◌+◌, ◌≤◌, ◌<◌, max, min, ltb, length, take, drop, set, get_or};
-ghost use Rattle.rows.specs.Rows.{placed, visited, visits_cause, limit_cause, slice_cause, lesser, map_to, least_wait, bytes_of, mask_of, mask_true, row_of, with_lamps, row_stepped, row_bytes, row_refusal, place_cause, answered_at, place_refusal, with_bit, stored, put_at, count_of, lowest_of};
+ghost use Rattle.std.specs.Prelude.{◌≡◌, ◌++◌, ◌*◌, ◌+◌, ◌≤◌, ◌<◌, Err, min, ltb, length, take, drop, set, get_or};
+ghost use Rattle.rows.specs.Rows.{placed, visited, graver, visits_cause, limit_cause, slice_cause, lesser, map_to, least_wait, bytes_of, mask_of, mask_true, row_of, with_lamps, row_stepped, row_bytes, row_refusal, place_cause, answered_at, place_refusal, with_bit, stored, put_at, count_of, lowest_of};
 ghost use Rattle.lamp.specs.Answers.{first_cause};
 
 use commands::call;
 use lamp::{Answer, Call, Lamp};
-use matter::{ACCEPTED, CLOCK_LIMIT, CLOCK_REFUSED, INVALID_LAMP, NO_PLACE, SHORT_SLICE};
+use matter::{CLOCK_LIMIT, Refusal, number_of};
 use notices::Notices;
+use tasks::Task;
 
 // The most lamps of a row.
 pub const MOST: u8 = 32;
 
-// The first `count` lamps are the row; those behind them are no part of it. Bit k of the running mask is set exactly where
+// The first `count` lamps are the row; those behind them are no part of it. An array with a count beside it, since a row's
+// memory is fixed and no heap is used. Bit k of the running mask is set exactly where
 // lamp k of the row runs; a row whose mask says otherwise is invalid.
-#[derive(Clone, Copy)]
+#[derive(Clone, Copy, Debug, PartialEq, Eq)]
 pub struct Row {
     pub count: u8,
     pub running_mask: u32,
     pub lamps: [Lamp; 32],
 }
 
-// The lowest place of a row at which a lamp runs.
-#[derive(Clone, Copy)]
-pub enum Option<u8> {
-    Nothing,
-    At(u8),
-}
-
-// What a row call gives: 0 or the number of its refusal, the row after it, and the least wait of the lamps that run on.
-#[derive(Clone, Copy)]
+// What a row call gives: that it is accepted or why it is refused, the row after it, and the least wait of the lamps that
+// run on.
+#[derive(Clone, Copy, Debug, PartialEq, Eq)]
 pub struct RowStepped {
-    pub number: u8,
+    pub verdict: Result<(), Refusal>,
     pub row: Row,
     pub wait: u64,
 }
 
 // What a call at a place gives: its lamp's answer, with the row in place of the lamp.
-#[derive(Clone, Copy)]
+#[derive(Clone, Copy, Debug, PartialEq, Eq)]
 pub struct RowAnswer {
-    pub number: u8,
+    pub verdict: Result<(), Refusal>,
     pub row: Row,
     pub notices: Notices,
     pub task: Option<Task>,
@@ -71,10 +67,8 @@ fn mask_of(lamps: &[Lamp]) -> u32
     ensures { result ≡ mask_of lamps.now }
 {
     let mut mask: u32 = 0;
-    let mut i = lamps.len();
-    while 0 < i {
-        i -= 1;
-        mask = 2 * mask + (lamps[i].running.is_running() as u32);
+    for (place, lamp) in lamps.iter().enumerate() {
+        mask |= (lamp.running.is_running() as u32) << place;
     }
     mask
 }
@@ -89,25 +83,24 @@ fn with_bit(mask: u32, place: u8, is_set: bool) -> u32
 }
 
 // How many places of the array are a row's.
-fn placed_count(count: u8) -> usize
+pub fn placed_count(count: u8) -> usize
     ensures { result ≡ min count 32 }
 {
-    if count < MOST { count as usize } else { 32 }
+    count.min(MOST) as usize
 }
 
-// What a row call does at one place: a lamp that runs is stepped, an idle one stays. The number is the lamp's own cause.
+// What a row call does at one place: a lamp that runs is stepped, an idle one stays. The verdict is the lamp's own cause.
 #[tactic(auto, unfolding(crate::specs::Rows::visited))]
 fn visit(lamp: Lamp, clock: u64) -> Answer
     ensures lamp { result.lamp ≡ (visited lamp clock).lamp }
     ensures notices { result.notices ≡ (visited lamp clock).notices }
     ensures wait { result.wait ≡ (visited lamp clock).wait }
-    ensures cause { result.number ≡ first_cause lamp clock }
+    ensures cause { result.verdict ≡ first_cause lamp clock }
 {
-    let running = lamp.running;
-    if running.is_running() {
+    if lamp.running.is_running() {
         return lamp.step(clock);
     }
-    lamp.refused(lamp.first_cause(clock))
+    lamp.unchanged(lamp.first_cause(clock))
 }
 
 // The lesser of two waits, where 0 is none.
@@ -121,36 +114,34 @@ fn least(a: u64, b: u64) -> u64
     if b == 0 {
         return a;
     }
-    if a < b { a } else { b }
+    a.min(b)
 }
 
 // Of two causes the one that is checked first: 8 before 4, and either before none.
-fn first_of(a: u8, b: u8) -> u8
-    ensures { result ≡ max a b }
+#[tactic(auto, unfolding(crate::specs::Rows::graver))]
+fn first_of(a: Result<(), Refusal>, b: Result<(), Refusal>) -> Result<(), Refusal>
+    ensures { result ≡ graver a b }
 {
-    if a < b { b } else { a }
+    if number_of(a) < number_of(b) { b } else { a }
 }
 
 // A clock above the limit, which a row of no lamps refuses too.
-fn limit_cause(clock: u64) -> u8
+fn limit_cause(clock: u64) -> Result<(), Refusal>
     ensures { result ≡ limit_cause clock }
 {
     if CLOCK_LIMIT < clock {
-        CLOCK_REFUSED
-    } else {
-        ACCEPTED
+        return Err(Refusal::Clock);
     }
+    Ok(())
 }
 
-// The first bytes of one slice at a place of another.
-fn copy(from: &[u8], many: usize, out: &mut [u8], at: usize)
-    requires given { many ≤ length from.now }
-    requires room { at + many ≤ length out.old }
-    ensures front { take (at + many) out.new ≡ take at out.old ++ take many from.now }
-    ensures back { drop (at + many) out.new ≡ drop (at + many) out.old }
+// The bytes of one slice at a place of another.
+fn copy(from: &[u8], out: &mut [u8], at: usize)
+    requires { at + length from.now ≤ length out.old }
+    ensures front { take (at + length from.now) out.new ≡ take at out.old ++ from.now }
+    ensures back { drop (at + length from.now) out.new ≡ drop (at + length from.now) out.old }
 {
-    let end = at + many;
-    out[at..end].copy_from_slice(&from[..many]);
+    out[at..at + from.len()].copy_from_slice(from);
 }
 
 // Sixteen bytes at a place of a slice.
@@ -159,7 +150,7 @@ fn put(bytes: [u8; 16], out: &mut [u8], at: usize)
     ensures front { take (at + 16) out.new ≡ take at out.old ++ bytes }
     ensures back { drop (at + 16) out.new ≡ drop (at + 16) out.old }
 {
-    copy(&bytes, 16, out, at)
+    copy(&bytes, out, at)
 }
 
 impl Row {
@@ -204,21 +195,21 @@ impl Row {
         self.running_mask == mask_of(&self.lamps[..placed_count(self.count)])
     }
 
-    fn refused(self, number: u8) -> RowStepped
-        ensures { result ≡ row_refusal self number }
+    fn refused(self, cause: Refusal) -> RowStepped
+        ensures { result ≡ row_refusal self (Err cause) }
     {
         RowStepped {
-            number,
+            verdict: Err(cause),
             row: self,
             wait: 0,
         }
     }
 
-    fn refused_at(self, number: u8) -> RowAnswer
-        ensures { result ≡ place_refusal self number }
+    fn refused_at(self, cause: Refusal) -> RowAnswer
+        ensures { result ≡ place_refusal self (Err cause) }
     {
         RowAnswer {
-            number,
+            verdict: Err(cause),
             row: self,
             notices: Notices::new(),
             task: None,
@@ -235,92 +226,83 @@ impl Row {
 
     // What is checked before the lamps' own causes: the count, the slice, and the mask.
     #[tactic(auto, unfolding(crate::specs::Rows::slice_cause))]
-    fn slice_cause(self, size: usize) -> u8
+    fn slice_cause(self, size: usize) -> Result<(), Refusal>
         ensures { result ≡ slice_cause self size }
     {
         if self.too_many() {
-            return INVALID_LAMP;
+            return Err(Refusal::InvalidLamp);
         }
         if size < 16 * (self.count as usize) {
-            return SHORT_SLICE;
+            return Err(Refusal::ShortSlice);
         }
         if !self.is_mask_true() {
-            return INVALID_LAMP;
+            return Err(Refusal::InvalidLamp);
         }
-        ACCEPTED
+        Ok(())
     }
 
     // Every lamp of the row is visited, in rising place: the row then, the least wait, and the first of their causes. What
     // they report goes into `bytes`.
-    #[tactic(auto, unfolding(crate::specs::Rows::lesser))]
+    #[tactic(auto, unfolding(crate::specs::Rows::lesser), using(crate::proofs::Causes::none_graver))]
     fn visit_all(self, bytes: &mut [u8], clock: u64) -> RowStepped
         requires few { self.count ≤ 32 }
         requires room { 16 * self.count ≤ length bytes.old }
         ensures row { result.row ≡ with_lamps self (map_to self.count (λ l. (visited l clock).lamp) self.lamps) }
         ensures wait { result.wait ≡ least_wait clock (placed self) }
-        ensures cause { result.number ≡ visits_cause clock (placed self) }
+        ensures cause { result.verdict ≡ visits_cause clock (placed self) }
         ensures reported { take (16 * self.count) bytes.new ≡ bytes_of clock (placed self) }
     {
-        let n = self.count as usize;
-        let mut next = self;
+        let mut lamps = self.lamps;
         let mut wait: u64 = 0;
-        let mut number: u8 = ACCEPTED;
-        let mut i: usize = 0;
-        while i < n {
-            let lamp = self.lamps[i];
-            let a = visit(lamp, clock);
-            let l = a.lamp;
-            next.lamps[i] = l;
-            let reported = a.notices;
-            let places = reported.places;
-            put(places, bytes, 16 * i);
+        let mut verdict: Result<(), Refusal> = Ok(());
+        let n = self.count as usize;
+        for (place, lamp) in self.lamps[..n].iter().enumerate() {
+            let a = visit(*lamp, clock);
+            lamps[place] = a.lamp;
+            put(a.notices.places, bytes, 16 * place);
             wait = least(wait, a.wait);
-            number = first_of(number, a.number);
-            i += 1;
+            verdict = first_of(verdict, a.verdict);
         }
-        next.running_mask = mask_of(&next.lamps[..n]);
         RowStepped {
-            number,
-            row: next,
+            verdict,
+            row: Row::new(self.count, lamps),
             wait,
         }
     }
 
     // One call at one clock: every lamp that runs is stepped, in rising place, and reports into its sixteen bytes.
-    #[tactic(auto, unfolding(crate::specs::Rows::row_stepped, crate::specs::Rows::row_bytes))]
+    #[tactic(auto, unfolding(crate::specs::Rows::row_stepped, crate::specs::Rows::row_bytes), using(crate::proofs::Causes::slice_fits))]
     pub fn step(self, out: &mut [u8], clock: u64) -> RowStepped
         ensures answer { result ≡ row_stepped self (length out.old) clock }
         ensures slice { out.new ≡ row_bytes self out.old clock }
     {
-        let early = self.slice_cause(out.len());
-        if early != ACCEPTED {
-            return self.refused(early);
+        if let Err(cause) = self.slice_cause(out.len()) {
+            return self.refused(cause);
         }
         let mut bytes: [u8; 512] = [0; 512];
         let next = self.visit_all(&mut bytes, clock);
-        let number = first_of(limit_cause(clock), next.number);
-        if number != ACCEPTED {
-            return self.refused(number);
+        if let Err(cause) = first_of(limit_cause(clock), next.verdict) {
+            return self.refused(cause);
         }
-        copy(&bytes, 16 * (self.count as usize), out, 0);
+        copy(&bytes[..16 * (self.count as usize)], out, 0);
         next
     }
 
     // What is checked before the lamp: the count, the place, and the mask.
     #[tactic(auto, unfolding(crate::specs::Rows::place_cause))]
-    fn place_cause(self, place: u8) -> u8
+    fn place_cause(self, place: u8) -> Result<(), Refusal>
         ensures { result ≡ place_cause self place }
     {
         if self.too_many() {
-            return INVALID_LAMP;
+            return Err(Refusal::InvalidLamp);
         }
         if self.count <= place {
-            return NO_PLACE;
+            return Err(Refusal::NoPlace);
         }
         if !self.is_mask_true() {
-            return INVALID_LAMP;
+            return Err(Refusal::InvalidLamp);
         }
-        ACCEPTED
+        Ok(())
     }
 
     // Any call of the lamp at a place.
@@ -328,21 +310,16 @@ impl Row {
     pub fn call_at(self, place: u8, asked: Call) -> RowAnswer
         ensures { result ≡ answered_at self place asked }
     {
-        let number = self.place_cause(place);
-        if number != ACCEPTED {
-            return self.refused_at(number);
+        if let Err(cause) = self.place_cause(place) {
+            return self.refused_at(cause);
         }
-        let at = place as usize;
-        let lamp = self.lamps[at];
+        let lamp = self.lamps[place as usize];
         let a = call(lamp, asked);
-        let next = a.lamp;
-        let reported = a.notices;
-        let task = a.task;
         RowAnswer {
-            number: a.number,
-            row: self.with_lamp_at(place, next),
-            notices: reported,
-            task: task,
+            verdict: a.verdict,
+            row: self.with_lamp_at(place, a.lamp),
+            notices: a.notices,
+            task: a.task,
             wait: a.wait,
         }
     }

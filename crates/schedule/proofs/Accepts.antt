@@ -2,8 +2,10 @@
 use Prim.Native.Nat.{ℕ}
 use mathlib.Core.Bool.{Bool, true, false, not, cond, ◌&&◌, ◌||◌}
 use mathlib.Core.Path.{◌≡◌, refl, sym, ◌∙◌, ap}
-use lib.Dec.{leb, eqb}
-use borrow.Author.Tests.{eqb-true, eqb-false}
+use lib.Dec.{leb}
+use Rattle.std.specs.Prelude.{is_ok}
+use Rattle.matter.specs.Causes.{Verdict, accepted, clock_refused, invalid_task, step_while_idle}
+use Rattle.matter.proofs.Laws.{accepted-of, refused-of}
 use Rattle.matter.specs.Limits.{clock_limit}
 use Rattle.tasks.specs.Valid.{task_valid}
 use Rattle.tasks.specs.Runs.{runs}
@@ -13,10 +15,11 @@ use Rattle.lamp.specs.Answers.{bad_clock, first_cause}
 use Rattle.lamp.specs.Valid.{lamp_valid}
 use Rattle.lamp.specs.declared.Call.{Call}
 use Rattle.commands.specs.Commands.{checks}
-use Rattle.commands.specs.Answers.{command_cause, cause, answer, granted, clock_of}
+use Rattle.commands.specs.Answers.{in_order, command_cause, cause, answer, granted, clock_of}
 use Rattle.commands.proofs.Kept.{answer-both, number-is-cause, refused-same}
 use Rattle.schedule.specs.Calls.{next, accepts}
-use Rattle.schedule.proofs.Tests.{below-is}
+use Rattle.std.proofs.lemmas.Bool.Decides.{nat_tests}
+use native.Mathlib.Omega.{arith}
 
 -- a clock that a lamp takes
 abbrev pub timely : ℕ → ℕ → Bool
@@ -24,40 +27,39 @@ timely now clock = leb now clock && leb clock clock_limit
 
 -- a call that nothing but validity and clock can turn away
 abbrev pub grounds : Lamp → Call → Bool
-grounds l (Call.Command r on_off clock) = (checks r.command).stop || eqb (checks r.command).cause 0
+grounds l (Call.Command r on_off clock) = (checks r.command).stop || is_ok (checks r.command).cause
 grounds l (Call.Start task clock) = task_valid task
 grounds l (Call.Step clock) = runs l.running
 grounds l (Call.Halt clock) = true
 
 bad-is : (l : Lamp) (clock : ℕ) → bad_clock l clock ≡ not (timely l.clock clock)
-bad-is l clock = rw (below-is clock l.clock, below-is clock_limit clock) (go (leb l.clock clock) (leb clock clock_limit))
-  where
-    go : (a b : Bool) → (not a || not b) ≡ not (a && b)
-    go true b = refl
-    go false b = refl
+bad-is l clock = grind (arith, nat_tests)
 
 -- the causes of each kind of call in their order, by a clock that is taken or not, as one test
-command-table : (t stop : Bool) (n : ℕ) → eqb (cond (eqb (cond (not t) 4 0) 0) (cond stop 0 n) (cond (not t) 4 0)) 0 ≡ (t && (stop || eqb n 0))
-command-table false stop n = refl
-command-table true true n = refl
-command-table true false n = refl
+abbrev clock-table : Bool → Verdict
+clock-table t = cond (not t) clock_refused accepted
 
-start-table : (t valid : Bool) → eqb (cond (eqb (cond (not t) 4 0) 0) (cond valid 0 6) (cond (not t) 4 0)) 0 ≡ (t && valid)
+command-table : (t stop : Bool) (v : Verdict) → is_ok (cond (is_ok (clock-table t)) (in_order stop v) (clock-table t)) ≡ (t && (stop || is_ok v))
+command-table false stop v = refl
+command-table true true v = refl
+command-table true false v = refl
+
+start-table : (t valid : Bool) → is_ok (cond (is_ok (clock-table t)) (cond valid accepted invalid_task) (clock-table t)) ≡ (t && valid)
 start-table false valid = refl
 start-table true true = refl
 start-table true false = refl
 
-step-table : (t run : Bool) → eqb (cond (not run) 7 (cond (not t) 4 0)) 0 ≡ (t && run)
+step-table : (t run : Bool) → is_ok (cond (not run) step_while_idle (clock-table t)) ≡ (t && run)
 step-table true true = refl
 step-table true false = refl
 step-table false true = refl
 step-table false false = refl
 
-halt-table : (t : Bool) → eqb (cond (not t) 4 0) 0 ≡ (t && true)
+halt-table : (t : Bool) → is_ok (clock-table t) ≡ (t && true)
 halt-table true = refl
 halt-table false = refl
 
-table : (l : Lamp) (x : Call) → lamp_valid l ≡ true → eqb (cause l x) 0 ≡ (timely l.clock (clock_of x) && grounds l x)
+table : (l : Lamp) (x : Call) → lamp_valid l ≡ true → is_ok (cause l x) ≡ (timely l.clock (clock_of x) && grounds l x)
 unfolding cause command_cause first_cause
 table l (Call.Command r on_off clock) f = rw (f, bad-is l clock) (command-table (timely l.clock clock) (checks r.command).stop (checks r.command).cause)
 table l (Call.Start task clock) f = rw (f, bad-is l clock) (start-table (timely l.clock clock) (task_valid task))
@@ -66,16 +68,16 @@ table l (Call.Halt clock) f = rw (f, bad-is l clock) (halt-table (timely l.clock
 
 -- accepted where clock and grounds are good
 pub accepts-is : (l : Lamp) (x : Call) → lamp_valid l ≡ true → accepts l x ≡ (timely l.clock (clock_of x) && grounds l x)
-accepts-is l x f = ap (λ (n : ℕ). eqb n 0) (number-is-cause l x) ∙ table l x f
+accepts-is l x f = ap is_ok (number-is-cause l x) ∙ table l x f
 
 -- an accepted call has no cause
-pub no-cause : (l : Lamp) (x : Call) → accepts l x ≡ true → cause l x ≡ 0
-no-cause l x e = sym (number-is-cause l x) ∙ eqb-true (answer l x).number 0 e
+pub no-cause : (l : Lamp) (x : Call) → accepts l x ≡ true → cause l x ≡ accepted
+no-cause l x e = sym (number-is-cause l x) ∙ accepted-of (answer l x).verdict e
 
 -- a refused call leaves the lamp
 pub refused-keeps : (l : Lamp) (x : Call) → accepts l x ≡ false → next l x ≡ l
 refused-keeps l x e =
-    ap (λ (a : Answer). a.lamp) (refused-same l x (λ z. eqb-false (answer l x).number 0 e (number-is-cause l x ∙ z)))
+    ap (λ (a : Answer). a.lamp) (refused-same l x (λ z. refused-of (answer l x).verdict e (number-is-cause l x ∙ z)))
 
 -- an accepted one has what is granted
 pub accepted-is : (l : Lamp) (x : Call) → accepts l x ≡ true → answer l x ≡ granted l x

@@ -1,15 +1,14 @@
 -- The arithmetic of a fade: the way travelled, read off a hue, is the size of the part; the end is permille 1000; the remaining
 -- time fits its sixteen bits.
+use Rattle.std.proofs.lemmas.Bool.Decides.{nat_tests}
 use Prim.Native.Nat.{ℕ, suc, ◌*◌, ◌-◌, ◌/◌, ◌≤◌, ◌<◌}
 use mathlib.Core.Bool.{cond}
-use mathlib.Core.Logic.{inl, inr}
 use mathlib.Core.Path.{◌≡◌, sym, ◌∙◌, ap}
 use native.Mathlib.Nat.{le_refl}
 use native.Mathlib.Omega.{arith}
 use lib.Dec.{leb, leb-zero}
 use lib.IntN.{ℤ, pos, negsuc, neg_ℤ, nat_abs}
 use lib.Signed.{le_z}
-use borrow.Author.Tests.{leb-true, leb-false, le-leb, lt-leb}
 use Rattle.integers.proofs.Sizes.{abs_neg}
 use Rattle.matter.specs.declared.enums.DirectionEnum.{DirectionEnum}
 use Rattle.hue.specs.Hue.{distance, path_delta, moved_hue}
@@ -17,7 +16,6 @@ use Rattle.hue.proofs.Laws.{moved-small, moved_up, moved_down, distance_is, way-
 use Rattle.progress.specs.Progress.{permille_of, part_of, tenths_of}
 use Rattle.progress.proofs.Laws.{permille-full, permille-short, part-down, part-whole, part-size, part-within}
 use Rattle.remaining_time.specs.RemainingTime.{new_tenths}
-use Rattle.schedule.proofs.Tests.{either}
 
 -- ---- the way travelled, read off a hue
 
@@ -59,11 +57,7 @@ module _ (found target : ℕ) (d : DirectionEnum) (hf : found < 65536) (ht : tar
 
 -- permille is 1000 exactly from the time on
 pub at-end : (e t : ℕ) → leb 1000 (permille_of e t) ≡ leb t e
-at-end e t =
-    elim (either (leb t e)) [
-      | inl k ↦ le-leb 1000 (permille_of e t) (omega (arith, permille-full e t (leb-true t e k))) ∙ sym k
-      | inr k ↦ lt-leb 1000 (permille_of e t) (permille-short e t (leb-false t e k)) ∙ sym k
-    ]
+at-end e t = grind (arith, nat_tests, permille-full e t, permille-short e t)
 
 -- ---- the remaining time
 

@@ -1,4 +1,6 @@
 -- The schedule alone: what holds of it at every time, where it ends, and that the way travelled never shrinks.
+use Rattle.std.proofs.lemmas.Bool.{cases_Bool}
+use Rattle.std.proofs.lemmas.Bool.Decides.{nat_tests}
 use Prim.Native.Nat.{ℕ, ◌+◌, ◌-◌, ◌≤◌, ◌<◌, min}
 use mathlib.Core.Bool.{Bool, true, false, cond, ◌&&◌, ◌||◌, or-false, true≢false}
 use mathlib.Core.Logic.{inl, inr}
@@ -7,7 +9,7 @@ use native.Mathlib.Nat.{le_refl, le_trans}
 use native.Mathlib.Omega.{arith}
 use lib.Dec.{leb, eqb}
 use lib.IntN.{nat_abs}
-use borrow.Author.Tests.{leb-true, leb-false, le-leb, lt-leb, eqb-true, ne_eqb, not-true}
+use borrow.Author.Tests.{leb-true, leb-false, ne_eqb, not-true}
 use Rattle.matter.specs.Limits.{clock_limit}
 use Rattle.hue.specs.Hue.{moved_hue}
 use Rattle.hue.proofs.Laws.{way-small}
@@ -18,7 +20,7 @@ use Rattle.commands.specs.Answers.{clock_of}
 use Rattle.schedule.specs.Calls.{is_step}
 use Rattle.schedule.specs.Schedule.{target, delta_from, time, Fed, Shown, over, shown_at, takes, when_taken, followed}
 use Rattle.matter.proofs.Laws.{and_left, and_right, or_left, or_right}
-use Rattle.schedule.proofs.Tests.{either, never, positive, leb-same}
+use Rattle.schedule.proofs.Tests.{never, positive}
 use Rattle.schedule.proofs.Arithmetic.{gone, gone-part, gone_whole}
 
 -- the numbers that the schedule is fed are hues, and the time of a valid task
@@ -63,7 +65,7 @@ later-right f s clock r h =
 -- a place is done where it is over
 pub done-is : (f : Fed) (clock : ℕ) → (shown_at f clock).done ≡ over f (clock - f.start)
 unfolding shown_at
-done-is f clock = elim (either (over f (clock - f.start))) [ inl e ↦ rw e | inr e ↦ rw e ]
+done-is f clock = elim (cases_Bool (over f (clock - f.start))) [ inl e ↦ rw e | inr e ↦ rw e ]
 
 module _ (f : Fed) (n : Sane f) where
   -- the whole way is travelled at the target
@@ -79,7 +81,7 @@ module _ (f : Fed) (n : Sane f) where
   pub at_right : (clock : ℕ) → f.start ≤ clock → Right f (shown_at f clock)
   unfolding shown_at
   at_right clock h =
-      elim (either (over f (clock - f.start))) [
+      elim (cases_Bool (over f (clock - f.start))) [
         | inl e ↦ rw e
             (record {
               since = h;
@@ -108,7 +110,7 @@ module _ (f : Fed) (n : Sane f) where
       let b = r.bound d in
       let m = part-later f s.clock clock h in
       let k = r.small in
-      elim (either (over f (clock - f.start))) [
+      elim (cases_Bool (over f (clock - f.start))) [
         | inl e ↦ rw e (omega (arith, gone-target))
         | inr e ↦ rw e (omega (arith, gone_at clock))
       ]
@@ -161,7 +163,7 @@ module _ (f : Fed) (n : Sane f) (s : Shown) (r : Right f s) where
   taken-right (Call.Halt clock) e = later-right f s clock r (takes-late s (Call.Halt clock) e)
 
   pub followed-right : (x : Call) → Right f (followed f s x)
-  followed-right x = elim (either (takes s x)) [ inl e ↦ rw e (taken-right x e) | inr e ↦ rw e r ]
+  followed-right x = elim (cases_Bool (takes s x)) [ inl e ↦ rw e (taken-right x e) | inr e ↦ rw e r ]
 
   taken-on : (x : Call) → takes s x ≡ true → gone_of f s.hue ≤ gone_of f (when_taken f s x).hue
   taken-on (Call.Command asked on_off clock) e = le_refl (gone_of f s.hue)
@@ -171,18 +173,18 @@ module _ (f : Fed) (n : Sane f) (s : Shown) (r : Right f s) where
 
   -- over a call the way travelled never shrinks
   pub followed-on : (x : Call) → gone_of f s.hue ≤ gone_of f (followed f s x).hue
-  followed-on x = elim (either (takes s x)) [ inl e ↦ rw e (taken-on x e) | inr e ↦ rw e (le_refl (gone_of f s.hue)) ]
+  followed-on x = elim (cases_Bool (takes s x)) [ inl e ↦ rw e (taken-on x e) | inr e ↦ rw e (le_refl (gone_of f s.hue)) ]
 
   at_done : (clock : ℕ) → f.start ≤ clock → 0 < whole_of f → (shown_at f clock).done ≡ leb (f.start + time f.fade) clock
   at_done clock h k =
       done-is f clock
       ∙ rw (ne_eqb (whole_of f) 0 (λ z. omega arith), or-false)
-      (leb-same (time f.fade) (clock - f.start) (f.start + time f.fade) clock (λ z. omega arith) (λ z. omega arith))
+      (grind (arith, nat_tests))
 
   -- done exactly from a taken step at or after the time on
   pub followed-done : (x : Call) → (followed f s x).done ≡ (s.done || (step_taken s x && leb (f.start + time f.fade) (clock_of x)))
   followed-done x =
-      elim (either (step_taken s x)) [
+      elim (cases_Bool (step_taken s x)) [
         | inl e ↦
             let o = step-open s x e in
             ap (λ (t : Shown). t.done) (step_is f s x e)
@@ -199,18 +201,14 @@ pub record Open (f : Fed) (clock : ℕ) : Type 0 where
 pub at_open : (f : Fed) (clock : ℕ) → (shown_at f clock).done ≡ false → Open f clock
 unfolding shown_at
 at_open f clock d =
-    elim (either (over f (clock - f.start))) [
+    elim (cases_Bool (over f (clock - f.start))) [
       | inl e ↦ never (rw e) d
       | inr e ↦ record { early = leb-false (time f.fade) (clock - f.start) (or_left (leb (time f.fade) (clock - f.start)) _ e); wait = rw e }
     ]
 
 -- the start is the end where time or way is 0
 at_once : (t c : ℕ) → leb t (c - c) ≡ eqb t 0
-at_once t c =
-    elim (either (eqb t 0)) [
-      | inl e ↦ le-leb t (c - c) (omega (arith, eqb-true t 0 e)) ∙ sym e
-      | inr e ↦ lt-leb t (c - c) (omega (arith, positive t e)) ∙ sym e
-    ]
+at_once t c = grind (arith, nat_tests)
 
 pub begins-done : (f : Fed) → (shown_at f f.start).done ≡ (eqb (time f.fade) 0 || eqb (whole_of f) 0)
 begins-done f = done-is f f.start ∙ ap (λ (b : Bool). b || eqb (whole_of f) 0) (at_once (time f.fade) f.start)

@@ -1,5 +1,6 @@
 -- A lamp that fades as the schedule says: what holds between the two, over one call and at the start.
-use Rattle.std.specs.Prelude.{Option, Some, None}
+use Rattle.std.proofs.lemmas.Bool.{cases_Bool}
+use Rattle.std.specs.Prelude.{Some}
 use Prim.Native.Nat.{ℕ, ◌-◌, ◌≤◌, ◌<◌, min}
 use mathlib.Core.Bool.{Bool, true, false, not, ◌&&◌, ◌||◌, and-true, or-false}
 use mathlib.Core.Logic.{inl, inr}
@@ -25,7 +26,7 @@ use Rattle.commands.proofs.Kept.{valid-kept, quiet-command}
 use Rattle.schedule.specs.Calls.{next, accepts, idle, accepted_step, interrupts}
 use Rattle.schedule.specs.Schedule.{task_of, time, delta_from, Fed, Shown, over, shown_at, own, takes, when_taken, followed}
 use Rattle.matter.proofs.Laws.{or_left}
-use Rattle.schedule.proofs.Tests.{either, never, positive}
+use Rattle.schedule.proofs.Tests.{never, positive}
 use Rattle.schedule.proofs.Course.{Sane, Right, whole_of, at_right, step-open, followed-right, done-is, begins-done}
 use Rattle.schedule.proofs.Pass.{Shows, Meets, run_from, run_of, running_of, pass-ends, pass-goes}
 use Rattle.schedule.proofs.Accepts.{grounds, accepts-is, no-cause, refused-keeps, accepted-is}
@@ -67,7 +68,7 @@ unfolding stepped
 step-meets {f} {l} {s} k clock n d =
     let r : l.running ≡ Running.HueSaturationMoveTo (run_of f k.saturation) = k.shows.running ∙ ap (running_of f k.saturation) d in
     subst (λ (run : Running). Meets f k.saturation (stepped (at_clock l clock) run) (shown_at f clock)) (sym r)
-    (elim (either (over f (clock - f.start))) [
+    (elim (cases_Bool (over f (clock - f.start))) [
       | inl e ↦
           let t : time f.fade ≤ clock - f.start = leb-true (time f.fade) (clock - f.start) (from-over f (clock - f.start) (k.right.live d).1 e) in
           rw (permille-full (clock - f.start) (time f.fade) t) (pass-ends f n k.saturation (at_clock l clock) e)
@@ -96,7 +97,7 @@ module _ {f : Fed} {l : Lamp} {s : Shown} (k : Fading f l s) (n : Sane f) where
         valid = valid-kept l x k.valid;
         saturation = k.saturation;
         shows =
-            elim (either (takes s x)) [
+            elim (cases_Bool (takes s x)) [
               | inl e ↦ rw e (accepted-shows x q (accepts-takes k x ∙ e))
               | inr e ↦ rw (e, refused-keeps l x (accepts-takes k x ∙ e)) k.shows
             ];
@@ -122,7 +123,7 @@ start-pass : (f : Fed) → Sane f → (saturation : ℕ) (l : Lamp) → l.clock 
 start-pass f n saturation l c =
     let o : over f (l.clock - f.start) ≡ (eqb (time f.fade) 0 || eqb (whole_of f) 0) = ap (λ (t : ℕ). over f (t - f.start)) c ∙ sym (done-is f f.start) ∙ begins-done f in
     rw and-true
-    (elim (either (eqb (time f.fade) 0 || eqb (whole_of f) 0)) [
+    (elim (cases_Bool (eqb (time f.fade) 0 || eqb (whole_of f) 0)) [
       | inl e ↦ rw e (pass-ends f n saturation l (o ∙ e))
       | inr e ↦
           let z : permille_of (l.clock - f.start) (time f.fade) ≡ 0 = ap (λ (t : ℕ). permille_of (t - f.start) (time f.fade)) c ∙ permille-none f.start (time f.fade) (positive (time f.fade) (or_left _ _ e)) in

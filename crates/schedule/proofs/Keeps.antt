@@ -1,5 +1,6 @@
 -- The claim, proved: a move to a hue gives its task, and once that is started keeps its schedule, over every list of calls.
-use Rattle.std.specs.Prelude.{Option, Some, None}
+use Rattle.std.proofs.lemmas.Bool.{cases_Bool}
+use Rattle.std.specs.Prelude.{Some}
 use Prim.Native.Nat.{ℕ, ◌+◌, ◌-◌, ◌%◌, ◌≤◌, ◌<◌}
 use mathlib.Core.Bool.{not, ◌&&◌, true}
 use mathlib.Core.List.{List, ◌∷◌, ◌++◌}
@@ -23,7 +24,6 @@ use Rattle.commands.proofs.Kept.{valid-kept}
 use Rattle.schedule.specs.Calls.{next, after, accepts, interrupts, quiet, steps, paced}
 use Rattle.schedule.specs.Schedule.{HueCommand, as_request, target, time, task_of, Fed, Shown, shown_at, scheduled_from}
 use Rattle.schedule.specs.Claim.{Keeps, KeepsAt, KeptFade, fed, Kept, Claim}
-use Rattle.schedule.proofs.Tests.{either}
 use Rattle.schedule.proofs.Course.{Sane, followed-on, at_open, begins-done}
 use Rattle.schedule.proofs.Accepts.{timely, accepts-is, accepted-is}
 use Rattle.schedule.proofs.Fading.{Fading, idle-is, accepts-takes, fades-on, wait-is, Begins, begins}
@@ -36,7 +36,7 @@ module _ (f : Fed) (n : Sane f) (a : Answer) (b : Begins f a) where
   -- one step is left for each tenth, at most
   steps-left : (ys : List Call) → quiet a.lamp ys ≡ true → paced (f.start + a.wait) a.lamp ys ≡ true → steps a.lamp ys + left (scheduled_from f (shown_at f f.start) ys).done ≤ f.fade.tenths
   steps-left ys q h =
-      elim (either (shown_at f f.start).done) [
+      elim (cases_Bool (shown_at f f.start).done) [
         | inl d ↦ let z = done-stays ys n b.fading q d in omega arith
         | inr d ↦
             let o = at_open f f.start d in
@@ -59,7 +59,7 @@ module _ (f : Fed) (n : Sane f) (a : Answer) (b : Begins f a) where
               let z = steps-left ys q h in (
                 omega arith,
                 λ e.
-                    elim (either (scheduled_from f (shown_at f f.start) ys).done) [
+                    elim (cases_Bool (scheduled_from f (shown_at f f.start) ys).done) [
                       | inl d ↦ idle-is fading ∙ d
                       | inr d ↦ absurd (let k : steps a.lamp ys + 1 ≤ f.fade.tenths = rw d at z in omega arith)
                     ],
@@ -100,12 +100,12 @@ task-is : (l : Lamp) (h : HueCommand) (on_off : OnOff) (clock : ℕ) → accepts
 unfolding command_effect
 task-is l h on_off clock a e =
     rw (accepted-is l (Call.Command (as_request h) on_off clock) a)
-    (elim (either h.enhanced) [ inl z ↦ rw (z, e) | inr z ↦ rw (z, e) ])
+    (elim (cases_Bool h.enhanced) [ inl z ↦ rw (z, e) | inr z ↦ rw (z, e) ])
 
 -- the target of a command in range is a hue
 pub target_small : (h : HueCommand) → InRangeRequest (as_request h) → target h < 65536
 target_small h t =
-    elim (either h.enhanced) [
+    elim (cases_Bool h.enhanced) [
       | inl z ↦ rw z (let k = (rw z at t.command).0 in omega arith)
       | inr z ↦ rw z (let k = (rw z at t.command).0 in omega arith)
     ]

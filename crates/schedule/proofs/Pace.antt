@@ -1,5 +1,6 @@
 -- Over every quiet list the lamp fades as the schedule says, is done exactly from the time on, and takes at most a step for
 -- each tenth where every wait is kept.
+use Rattle.std.proofs.lemmas.Bool.{cases_Bool}
 use Prim.Native.Nat.{ℕ, ◌+◌, ◌*◌, ◌-◌, ◌≤◌, min}
 use mathlib.Core.Bool.{Bool, true, false, cond, ◌&&◌, ◌||◌, or-false, or_assoc}
 use mathlib.Core.List.{List, [], ◌∷◌}
@@ -15,7 +16,7 @@ use Rattle.lamp.specs.declared.Call.{Call}
 use Rattle.commands.specs.Answers.{answer, clock_of}
 use Rattle.schedule.specs.Calls.{next, after, accepted_step, is_step, quiet, steps, reached, paced}
 use Rattle.schedule.specs.Schedule.{time, Fed, Shown, followed, scheduled_from}
-use Rattle.schedule.proofs.Tests.{either, never}
+use Rattle.schedule.proofs.Tests.{never}
 use Rattle.schedule.proofs.Course.{Sane, step_taken, step-open, step_is, other-is, followed-done, at_open}
 use Rattle.schedule.proofs.Fading.{Fading, accepts-takes, fades-on, wait-is}
 use Rattle.schedule.proofs.Lists.{quiet-call}
@@ -46,7 +47,7 @@ abbrev pub left : Bool → ℕ
 left b = cond b 0 1
 
 no_step : {f : Fed} {l : Lamp} {s : Shown} → Fading f l s → (x : Call) → s.done ≡ true → accepted_step l x ≡ false
-no_step {f} {l} {s} k x d = elim (either (accepted_step l x)) [ inl e ↦ never d (step-open s x (sym (step_same k x) ∙ e)).0 | inr e ↦ e ]
+no_step {f} {l} {s} k x d = elim (cases_Bool (accepted_step l x)) [ inl e ↦ never d (step-open s x (sym (step_same k x) ∙ e)).0 | inr e ↦ e ]
 
 pub done-stays : {f : Fed} {l : Lamp} {s : Shown} (xs : List Call) → Sane f → Fading f l s → quiet l xs ≡ true → s.done ≡ true → steps l xs + left (scheduled_from f s xs).done ≡ 0
 unfolding steps scheduled_from
@@ -63,14 +64,14 @@ pace-kept due m [] n k q o h z = rw o (omega arith)
 pace-kept {f} {l} {s} due m (x ∷ xs) n k q o h z =
     let r = quiet-call l x xs q in
     let k' = fades-on k n x r.0 in
-    elim (either (accepted_step l x)) [
+    elim (cases_Bool (accepted_step l x)) [
       | inl e ↦
           let t = sym (step_same k x) ∙ e in
           let c : ℕ = clock_of x in
           let h' : (leb due c && paced (c + (answer l x).wait) (next l x) xs) ≡ true = rw e at h in
           let late : due ≤ c = leb-true due c (and_left (leb due c) _ h') in
           let from : f.start ≤ c = le_trans k.right.since (step-open s x t).1 in
-          elim (either (followed f s x).done) [
+          elim (cases_Bool (followed f s x).done) [
             | inl d ↦ let y = done-stays xs n k' r.1 d in rw e (omega arith)
             | inr d ↦
                 let i = step_is f s x t in

@@ -1,5 +1,6 @@
 -- One pass of a fade's running record shows what the schedule shows at the pass's clock.
-use Rattle.std.specs.Prelude.{Option, Some, None}
+use Rattle.std.proofs.lemmas.Bool.{cases_Bool}
+use Rattle.std.specs.Prelude.{Some, None}
 use Prim.Native.Nat.{ℕ, ◌-◌}
 use mathlib.Core.Bool.{Bool, true, false, not, cond}
 use mathlib.Core.Logic.{inl, inr}
@@ -15,7 +16,6 @@ use Rattle.lamp.specs.declared.Lamp.{Lamp}
 use Rattle.lamp.specs.Passes.{Effect, hue_saturation_pass, hue_saturation_moved, timed}
 use Rattle.schedule.specs.Schedule.{target, delta_from, time, Fed, Shown, over, shown_at}
 use Rattle.matter.proofs.Laws.{and_left, or_left}
-use Rattle.schedule.proofs.Tests.{either}
 use Rattle.schedule.proofs.Arithmetic.{whole-arrives, at-end, tenths-fit}
 use Rattle.schedule.proofs.Course.{Sane}
 
@@ -58,7 +58,7 @@ pub record Meets (f : Fed) (saturation : ℕ) (e : Effect) (s : Shown) : Type 0 
 pub set_is : (c : Color) (new : ℕ) (end enhanced : Bool) (clock : ℕ) → (hue_set c new end enhanced clock).hue ≡ new
 unfolding hue_set
 set_is c new end enhanced clock =
-    elim (either (same c.hue new end)) [
+    elim (cases_Bool (same c.hue new end)) [
       | inl e ↦ rw e (eqb-true c.hue new (and_left (eqb c.hue new) (not end) e))
       | inr e ↦ rw e
     ]

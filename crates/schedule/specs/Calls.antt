@@ -1,7 +1,6 @@
 -- A list of calls on a lamp, each given the lamp that the last one left, and what is asked of the list: demand 3
 -- (docs/DEMANDS.md), whose words are quoted here.
-use Rattle.std.specs.Prelude.{ℕ, suc, ◌+◌, Bool, true, false, not, cond, ◌&&◌, ◌||◌, List, [], ◌∷◌, leb, eqb}
-use Rattle.matter.specs.Causes.{accepted}
+use Rattle.std.specs.Prelude.{ℕ, suc, ◌+◌, Bool, true, false, not, cond, ◌&&◌, ◌||◌, List, [], ◌∷◌, leb, is_ok}
 use Rattle.tasks.specs.Runs.{runs}
 use Rattle.lamp.specs.declared.Lamp.{Lamp}
 use Rattle.lamp.specs.declared.Call.{Call}
@@ -18,7 +17,7 @@ after l [] = l
 after l (x ∷ xs) = after (next l x) xs
 
 abbrev pub accepts : Lamp → Call → Bool
-accepts l x = eqb (answer l x).number accepted
+accepts l x = is_ok (answer l x).verdict
 
 abbrev pub idle : Lamp → Bool
 idle l = not (runs l.running)

@@ -2,7 +2,7 @@
 -- ones too, from any valid lamp: each move to a hue that is accepted and may execute gives its task and, once a start
 -- of that task is accepted, keeps its schedule. One statement over a lamp and a whole list. Premises: the lamp is
 -- valid; lamp and calls are in range; the demand's own.
-use Rattle.std.specs.Prelude.{Option, Some, None}
+use Rattle.std.specs.Prelude.{Some}
 use Rattle.std.specs.Prelude.{ℕ, ◌+◌, ◌≤◌, true, cond, ◌||◌, List, [], ◌∷◌, ◌++◌, ◌≡◌, eqb, pos, nat_abs}
 use Rattle.std.specs.Int.Signed.{le_z}
 use Rattle.matter.specs.declared.enums.OnOff.{OnOff}

@@ -1,7 +1,7 @@
 -- The schedule of a fade: document 01, "Demand 3's schedule". A machine of its own. It is fed a move to a hue and the
 -- hue that the command found, and from the accepted start on the calls alone; the lamp's bounds have no say since A.12
 -- (docs/DECISIONS.md, point 12). It sees no lamp and no answer, and keeps its own clock and its own done.
-use Rattle.std.specs.Prelude.{Option, Some, None}
+use Rattle.std.specs.Prelude.{Some, None, is_ok}
 use Rattle.std.specs.Prelude.{ℕ, ◌-◌, ◌*◌, min, Bool, true, false, not, cond, ◌&&◌, ◌||◌, List, [], ◌∷◌, leb, eqb, ℤ, nat_abs}
 use Rattle.matter.specs.declared.commands.Command.{Command}
 use Rattle.matter.specs.declared.commands.CommandOptions.{CommandOptions}
@@ -92,7 +92,7 @@ shown_at f clock =
 -- "a call is accepted where it meets no cause below, the clock being the last accepted call's and the lamp idle once
 -- done": the clock, and what the call itself can be refused for
 abbrev pub own : Call → Bool → Bool
-own (Call.Command r on_off clock) done = (checks r.command).stop || eqb (checks r.command).cause 0
+own (Call.Command r on_off clock) done = (checks r.command).stop || is_ok (checks r.command).cause
 own (Call.Start task clock) done = task_valid task
 own (Call.Step clock) done = not done
 own (Call.Halt clock) done = true

@@ -21,6 +21,7 @@ use Rattle.worked_examples.specs.Cases.{plain, started, next, listed, idled, bar
 use Rattle.worked_examples.proofs.LampAnswers.{now, later}
 use Rattle.worked_examples.proofs.Runs.{Run, run, RunsReported, going, done, hue, enhanced, warmth}
 use Rattle.matter.specs.All.{all_true}
+use Rattle.matter.specs.Causes.{accepted}
 use Rattle.matter.specs.Flags.{has_flag}
 use Rattle.matter.specs.Rules.{default_color_mode}
 use Rattle.notices.specs.Notices.{filled}
@@ -84,7 +85,7 @@ BusyReported = RunsReported busy_transitions
 
 abbrev pub HaltLeaves : Type 0
 HaltLeaves =
-    halt_answer busy now ≡ bare 0 (idled (later busy))
+    halt_answer busy now ≡ bare accepted (idled (later busy))
 
 -- ---- the colour loop's action on a lamp that runs, halfway to hue 1280: on from the start hue, on again, off, off
 -- again

@@ -21,6 +21,7 @@ use Rattle.lamp.specs.declared.LoopSettings.{LoopSettings}
 use Rattle.lamp.specs.declared.Answer.{Answer}
 use Rattle.worked_examples.specs.Cases.{lamp, plain, listed, bare, busy, next}
 use Rattle.matter.specs.All.{all_true}
+use Rattle.matter.specs.Causes.{Verdict, accepted, number_of, constraint_error, invalid_command}
 use Rattle.matter.specs.Flags.{has_flag}
 use Rattle.matter.specs.Rules.{default_color_mode}
 use Rattle.notices.specs.Notices.{filled}
@@ -63,7 +64,7 @@ pub record Row : Type 0 where
 
 abbrev pub gave_with : Notices → Task → Lamp → Answer
 gave_with notices task l =
-    record { number = 0; lamp = later l; notices = notices; task = Some task; wait = 0 }
+    record { verdict = accepted; lamp = later l; notices = notices; task = Some task; wait = 0 }
 
 abbrev pub gave : Task → Lamp → Answer
 gave task l = gave_with (record { places = 17 ∷ replicate 15 0; len = 1 }) task l
@@ -85,13 +86,13 @@ abbrev pub gives_off : Command → Task → Row
 gives_off c task = record { command = c; on_off = OnOff.Off; answer = gave task }
 
 abbrev pub passes : Command → Row
-passes c = record { command = c; on_off = OnOff.Off; answer = λ (l : Lamp). bare 0 (later l) }
+passes c = record { command = c; on_off = OnOff.Off; answer = λ (l : Lamp). bare accepted (later l) }
 
-abbrev pub refuses : Command → ℕ → Row
-refuses c number = record { command = c; on_off = OnOff.On; answer = bare number }
+abbrev pub refuses : Command → Verdict → Row
+refuses c cause = record { command = c; on_off = OnOff.On; answer = bare cause }
 
-abbrev pub refuses_off : Command → ℕ → Row
-refuses_off c number = record { command = c; on_off = OnOff.Off; answer = bare number }
+abbrev pub refuses_off : Command → Verdict → Row
+refuses_off c cause = record { command = c; on_off = OnOff.Off; answer = bare cause }
 
 abbrev pub Says : Lamp → List Row → Type 0
 Says l rows =
@@ -177,8 +178,8 @@ commands =
     ∷ gives (Command.StepColorTemperature StepModeEnum.Down 90 7 200 100) (to_mireds 160)
     ∷ gives (ten_up 301 300) (to_mireds 260)
     ∷ passes (ten_up 400 300)
-    ∷ refuses (Command.StepColorTemperature StepModeEnum.Up 0 7 400 300) 2
-    ∷ refuses_off (Command.StepColorTemperature StepModeEnum.Up 0 7 400 300) 2
+    ∷ refuses (Command.StepColorTemperature StepModeEnum.Up 0 7 400 300) invalid_command
+    ∷ refuses_off (Command.StepColorTemperature StepModeEnum.Up 0 7 400 300) invalid_command
     -- Stop mode, before rate and off
     ∷ gives (Command.MoveHue MoveModeEnum.Stop 0 false) Task.Stop
     ∷ gives (Command.EnhancedMoveHue MoveModeEnum.Stop 0) Task.Stop
@@ -186,8 +187,8 @@ commands =
     ∷ gives (Command.MoveColorTemperature MoveModeEnum.Stop 0 400 300) Task.Stop
     ∷ gives_off (Command.MoveHue MoveModeEnum.Stop 0 false) Task.Stop
     -- the numbers before off; off that may not execute
-    ∷ refuses_off (Command.MoveToHue 255 DirectionEnum.Shortest 7) 1
-    ∷ refuses_off (Command.MoveSaturation MoveModeEnum.Up 0) 2
+    ∷ refuses_off (Command.MoveToHue 255 DirectionEnum.Shortest 7) constraint_error
+    ∷ refuses_off (Command.MoveSaturation MoveModeEnum.Up 0) invalid_command
     ∷ passes (Command.MoveToHue 128 DirectionEnum.Shortest 7)
     ∷ passes Command.StopMoveStep
     ∷ passes (Command.ColorLoopSet 15 ColorLoopActionEnum.ActivateFromEnhancedCurrentHue
@@ -250,7 +251,7 @@ flag_rows =
     ∷ []
 
 abbrev pub loop_said : Answer → ℕ × List ℕ × (Option Task) × LoopSettings × ℕ
-loop_said a = (a.number, listed a, a.task, a.lamp.looping, a.wait)
+loop_said a = (number_of a.verdict, listed a, a.task, a.lamp.looping, a.wait)
 
 abbrev pub with_flags : ℕ → ℕ → Answer
 with_flags flags seconds =

@@ -1,6 +1,6 @@
 -- Notice lists in their order, by computation: the three lines that document 01 gives for `fade`, and the lists that
 -- docs/DECISIONS.md fixes (points 1 and 5); and the numbers of the loop's snap.
-use Rattle.std.specs.Prelude.{Option, Some, None}
+use Rattle.std.specs.Prelude.{Option, Some, None, ℤ}
 use Prim.Native.Nat.{ℕ}
 use mathlib.Core.Bool.{Bool, true, false}
 use mathlib.Core.List.{[], ◌∷◌, map}

@@ -5,9 +5,8 @@ use mathlib.Core.List.{List, [], ◌∷◌, map}
 use mathlib.Core.Path.{◌≡◌, refl}
 use Rattle.matter.specs.declared.enums.ColorLoopDirectionEnum.{ColorLoopDirectionEnum}
 use Rattle.tasks.specs.declared.Running.{Running}
-use Rattle.std.specs.Prelude.{Result, Ok, Err}
-use Rattle.matter.specs.declared.refusals.Refusal.{Refusal}
-use Rattle.lamp.specs.Making.{making}
+use Rattle.std.specs.Prelude.{Some, None}
+use Rattle.lamp.specs.Making.{MadeValues, made_values, making}
 use Rattle.worked_examples.proofs.Runs.{Modes, xy, hue, warmth}
 use Rattle.matter.specs.Flags.{has_flag}
 use Rattle.matter.specs.Rules.{default_color_mode}
@@ -20,12 +19,12 @@ pub record Row : Type 0 where
   pub features : ℕ
   pub options : ℕ
   pub clock : ℕ
-  pub made : Result Lamp Refusal
+  pub made : MadeValues
 
 -- refused with a number; or made, with these mireds and modes
 abbrev pub refused : ℕ → ℕ → ℕ → ℕ → Row
 refused min max clock number =
-    record { min = min; max = max; features = 31; options = 0; clock = clock; made = Err number }
+    record { min = min; max = max; features = 31; options = 0; clock = clock; made = record { number = number; lamp = None } }
 
 abbrev pub makes : ℕ → ℕ → ℕ → ℕ → ℕ → ℕ → Modes → Row
 makes min max features options clock mireds modes =
@@ -36,31 +35,35 @@ makes min max features options clock mireds modes =
       options = options;
       clock = clock;
       made =
-          Ok
-          (record {
-            clock = clock;
-            bounds = record { min = min; max = max };
-            color =
-                record {
-                  hue = 0;
-                  saturation = 0;
-                  mireds = mireds;
-                  mode = modes.0;
-                  emode = modes.1;
-                  stamps = record { hue = 0; saturation = 0; mireds = 0 };
-                };
-            looping =
-                record {
-                  active = false;
-                  direction = ColorLoopDirectionEnum.Increment;
-                  time = 25;
-                  start = 8960;
-                  stored = 0;
-                };
-            remaining = record { tenths = 0 };
-            options = options;
-            running = Running.Idle;
-          });
+          record {
+            number = 0;
+            lamp =
+                Some
+                (record {
+                  clock = clock;
+                  bounds = record { min = min; max = max };
+                  color =
+                      record {
+                        hue = 0;
+                        saturation = 0;
+                        mireds = mireds;
+                        mode = modes.0;
+                        emode = modes.1;
+                        stamps = record { hue = 0; saturation = 0; mireds = 0 };
+                      };
+                  looping =
+                      record {
+                        active = false;
+                        direction = ColorLoopDirectionEnum.Increment;
+                        time = 25;
+                        start = 8960;
+                        stored = 0;
+                      };
+                  remaining = record { tenths = 0 };
+                  options = options;
+                  running = Running.Idle;
+                });
+          };
     }
 
 abbrev pub rows : List Row
@@ -86,7 +89,7 @@ rows =
 
 abbrev pub MakingReported : Type 0
 MakingReported =
-    map (λ (r : Row). making (record { min = r.min; max = r.max }) r.features r.options r.clock) rows
+    map (λ (r : Row). made_values (making (record { min = r.min; max = r.max }) r.features r.options r.clock)) rows
     ≡ map (λ (r : Row). r.made) rows
 
 -- ---- by computation

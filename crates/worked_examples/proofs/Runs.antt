@@ -16,6 +16,7 @@ use Rattle.lamp.specs.declared.Lamp.{Lamp}
 use Rattle.lamp.specs.declared.Answer.{Answer}
 use Rattle.worked_examples.specs.Cases.{lamp, started, answers_on, listed, idle, loop, up_between, next, steps_at}
 use Rattle.matter.specs.All.{all_true}
+use Rattle.matter.specs.Causes.{number_of}
 use Rattle.matter.specs.Flags.{has_flag}
 use Rattle.matter.specs.Rules.{default_color_mode}
 use Rattle.notices.specs.Notices.{filled}
@@ -51,7 +52,7 @@ pub record Pass : Type 0 where
 abbrev pub seen : Answer → Pass
 seen a =
     record {
-      number = a.number;
+      number = number_of a.verdict;
       modes = (a.lamp.color.mode, a.lamp.color.emode);
       hue = a.lamp.color.hue;
       saturation = a.lamp.color.saturation;

@@ -21,6 +21,7 @@ use Rattle.worked_examples.specs.Cases.{lamp, plain}
 use Rattle.worked_examples.proofs.LampAnswers.{hue_move, saturation_move, mireds_move}
 use Rattle.worked_examples.proofs.Runs.{Modes, xy, hue, enhanced, warmth}
 use Rattle.matter.specs.All.{all_true}
+use Rattle.matter.specs.Causes.{number_of}
 use Rattle.matter.specs.Flags.{has_flag}
 use Rattle.matter.specs.Rules.{default_color_mode}
 use Rattle.progress.specs.Progress.{clamp}
@@ -210,15 +211,16 @@ lamps =
 
 abbrev pub ValidityReported : Type 0
 ValidityReported =
-    (map (λ (r : Task × ℕ). (start_answer lamp r.0 5000).number) tasks ≡ map (λ (r : Task × ℕ). r.1) tasks)
-    × (map (λ (r : Lamp × ℕ). (halt_answer r.0 r.0.clock).number) lamps ≡ map (λ (r : Lamp × ℕ). r.1) lamps)
+    (map (λ (r : Task × ℕ). number_of (start_answer lamp r.0 5000).verdict) tasks ≡ map (λ (r : Task × ℕ). r.1) tasks)
+    × (map (λ (r : Lamp × ℕ). number_of (halt_answer r.0 r.0.clock).verdict) lamps ≡ map (λ (r : Lamp × ℕ). r.1) lamps)
 
 -- ---- which cause comes first: the numbers of a command, a start, a step and a halt at this clock
 
 abbrev pub numbers : Lamp → Command → Task → ℕ → List ℕ
 numbers l c task clock =
-    (plain l c OnOff.On clock).number ∷ (start_answer l task clock).number ∷ (step_answer l clock).number
-    ∷ (halt_answer l clock).number
+    number_of (plain l c OnOff.On clock).verdict ∷ number_of (start_answer l task clock).verdict
+    ∷ number_of (step_answer l clock).verdict
+    ∷ number_of (halt_answer l clock).verdict
     ∷ []
 
 -- with a command and a task that are in order, and with a hue of 255 and the Stop task

@@ -1,7 +1,7 @@
 -- The cases marked K in document 01: what a case says, and the list of all of them. A case of a transition goes through
 -- the command, its start and its steps.
-use Rattle.std.specs.Prelude.{Option, Some, None}
-use Rattle.std.specs.Prelude.{ℕ, ◌+◌, ◌<◌, Bool, true, false, not, cond, List, [], ◌∷◌, map, ◌≡◌, eqb, ℤ, pos, neg_ℤ, take, replicate}
+use Rattle.std.specs.Prelude.{ℕ, ◌+◌, ◌<◌, Bool, true, false, not, cond, List, [], ◌∷◌, map, ◌≡◌, ℤ, pos, neg_ℤ, take, replicate}
+use Rattle.std.specs.Prelude.{Option, Some, None, is_ok}
 use Rattle.matter.specs.declared.enums.ColorLoopActionEnum.{ColorLoopActionEnum}
 use Rattle.matter.specs.declared.enums.ColorLoopDirectionEnum.{ColorLoopDirectionEnum}
 use Rattle.matter.specs.declared.commands.Command.{Command}
@@ -9,11 +9,12 @@ use Rattle.matter.specs.Requests.{request, no_options}
 use Rattle.matter.specs.declared.enums.DirectionEnum.{DirectionEnum}
 use Rattle.matter.specs.declared.enums.MoveModeEnum.{MoveModeEnum}
 use Rattle.matter.specs.declared.enums.OnOff.{OnOff}
-use Rattle.matter.specs.Causes.{accepted, invalid_task}
+use Rattle.matter.specs.Causes.{Verdict, accepted, number_of, invalid_task}
 use Rattle.hue.specs.declared.HuePath.{HuePath}
 use Rattle.hue.specs.Hue.{hue_path}
 use Rattle.progress.specs.Progress.{permille_of, part_of, tenths_of}
 use Rattle.remaining_time.specs.RemainingTime.{reported}
+use Rattle.tasks.specs.declared.Task.{Task}
 use Rattle.tasks.specs.declared.Running.{Running}
 use Rattle.tasks.specs.Runs.{runs}
 use Rattle.lamp.specs.declared.Lamp.{Lamp}
@@ -40,7 +41,7 @@ given l c = plain l c OnOff.On l.clock
 -- a call behind another: where that one was refused, its refusal stays, so that number 0 at the end says that all were
 -- accepted
 unfoldable pub next : Answer → (Lamp → Answer) → Answer
-next a call = cond (eqb a.number accepted) (call a.lamp) a
+next a call = cond (is_ok a.verdict) (call a.lamp) a
 
 -- a start of the task that was given; where none was, no start is accepted
 abbrev start_of : Option Task → Lamp → Answer
@@ -85,17 +86,17 @@ idle a = not (runs a.lamp.running)
 
 -- its number, and a number of the lamp or the notices
 abbrev hue_seen : Answer → ℕ × ℕ
-hue_seen a = (a.number, a.lamp.color.hue)
+hue_seen a = (number_of a.verdict, a.lamp.color.hue)
 
 abbrev tenths_seen : Answer → ℕ × ℕ
-tenths_seen a = (a.number, a.lamp.remaining.tenths)
+tenths_seen a = (number_of a.verdict, a.lamp.remaining.tenths)
 
 abbrev list_seen : Answer → ℕ × List ℕ
-list_seen a = (a.number, listed a)
+list_seen a = (number_of a.verdict, listed a)
 
 -- and whether the lamp is idle
 abbrev mireds_seen : Answer → ℕ × ℕ × Bool
-mireds_seen a = (a.number, a.lamp.color.mireds, idle a)
+mireds_seen a = (number_of a.verdict, a.lamp.color.mireds, idle a)
 
 -- the lamp idle, all else as it was
 abbrev pub idled : Lamp → Lamp
@@ -110,11 +111,11 @@ idled l =
       running = Running.Idle;
     }
 
--- no notice, task or wait: this number and this lamp
-abbrev pub bare : ℕ → Lamp → Answer
-bare number l =
+-- no notice, task or wait: this verdict and this lamp
+abbrev pub bare : Verdict → Lamp → Answer
+bare verdict l =
     record {
-      number = number;
+      verdict = verdict;
       lamp = l;
       notices = record { places = replicate 16 0; len = 0 };
       task = None;
@@ -166,7 +167,8 @@ path delta tie = record { delta = delta; is_tie = tie }
 abbrev pub Holds : Case → Type 0
 Holds (way from to direction answer tie) = hue_path from to direction ≡ path answer tie
 Holds equal_hues = (hue : ℕ) (direction : DirectionEnum) → hue < 65536 → hue_path hue hue direction ≡ path (pos 0) false
-Holds (move_to_hue hue number) = (given lamp (Command.MoveToHue hue DirectionEnum.Shortest 10)).number ≡ number
+Holds (move_to_hue hue number) =
+    number_of (given lamp (Command.MoveToHue hue DirectionEnum.Shortest 10)).verdict ≡ number
 Holds (progress w time elapsed permille part) = progress_of w time elapsed ≡ (permille, part)
 Holds (hues c start points) =
     map hue_seen (answers c (map (λ (p : Point). p.0) points)) ≡ ((0, start) ∷ map (λ (p : Point). (0, p.1)) points)
@@ -176,9 +178,9 @@ Holds (mireds c start points) =
 Holds (left c start points) =
     map tenths_seen (answers c (map (λ (p : Point). p.0) points)) ≡ ((0, start) ∷ map (λ (p : Point). (0, p.1)) points)
 Holds (remaining old new start answer) = reported old new start ≡ answer
-Holds (start_reports times list) = list_seen (fades (bare 0 lamp) times) ≡ (0, list)
+Holds (start_reports times list) = list_seen (fades (bare accepted lamp) times) ≡ (0, list)
 Holds (tenths ms answer) = tenths_of ms ≡ answer
-Holds (stays l c) = started_on l c ≡ bare 0 (idled l)
+Holds (stays l c) = started_on l c ≡ bare accepted (idled l)
 
 -- every case of a list holds
 abbrev pub Each : List Case → Type 0

@@ -1,14 +1,8 @@
--- What is before the place, what is put there, and what is behind it.
-use Rattle.std.proofs.Common.{◌≡◌, arith, length, take}
-use Rattle.std.proofs.lemmas.List.{length-take-le}
-use Rattle.std.proofs.lemmas.Slice.{take-put_mid, drop-put_mid}
+-- What is behind the place stays.
+use Rattle.std.proofs.Common.{arith}
+use Rattle.std.proofs.lemmas.Slice.{drop-put_mid}
 use Rattle.rows.proofs.copy.Goals as goal
 
-pub returns : goal.returns
-returns c =
-    let n : length (take c.args.many c.args.from.now) ≡ c.args.many = length-take-le c.args.many c.args.from.now (omega arith) in
-    rw c.copy_from_slice.ensures.after
-    (record {
-      front = take-put_mid c.args.at _ c.args.out.now _ _ (omega (arith, n)) (omega arith);
-      back = drop-put_mid c.args.at _ c.args.out.now _ _ (omega arith) (omega arith) (omega (arith, n));
-    })
+pub returns-clause-back : goal.returns-clause-back
+returns-clause-back c =
+    rw c.copy_from_slice.ensures.after (drop-put_mid c.args.at _ c.args.out.now _ _ (omega arith) (omega arith) (omega arith))

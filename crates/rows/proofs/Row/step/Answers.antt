@@ -1,53 +1,62 @@
 -- The first cause refuses, the slice's or the worst of the lamps'; else the visits are the row's.
-use Rattle.std.proofs.Common.{◌≡◌, ℕ, max, ◌*◌, ◌++◌, sym, ◌∙◌, length, drop, take-append-drop, zero-add, ne_eqb, arith}
+use Rattle.std.proofs.Common.{◌≡◌, ℕ, ◌*◌, ◌≤◌, ◌++◌, sym, ap, ◌∙◌, List, length, take, drop, take-append-drop, zero-add, arith}
+use Rattle.std.specs.Prelude.{is_ok}
+use Rattle.matter.specs.Causes.{Verdict, accepted}
+use Rattle.std.proofs.lemmas.List.{length-take-le}
 use Rattle.rows.specs.declared.Row.{Row}
-use Rattle.rows.specs.Rows.{placed, bytes_of, slice_cause, limit_cause, visits_cause, row_cause, row_stepped, row_bytes}
+use Rattle.rows.specs.Rows.{placed, bytes_of, slice_cause, limit_cause, graver, visits_cause, row_cause, row_stepped, row_bytes}
 use Rattle.rows.proofs.Visiting.{by_parts}
-use Rattle.rows.proofs.Causes.{slice_first, lamps-next, slice_fits}
+use Rattle.rows.proofs.Causes.{slice_first, lamps-next, slice_fits, both-none}
 use Rattle.rows.proofs.Row.step.Goals as goal
 
 -- the worst of the lamps' own causes is the row's
-cause-is : (r : Row) (size clock number limit visits : ℕ) → slice_cause r size ≡ 0 → number ≡ max limit visits →
-    limit ≡ limit_cause clock → visits ≡ visits_cause clock (placed r) → number ≡ row_cause r size clock
-cause-is r size clock number limit visits ok n l v = n ∙ rw (l, v) (sym (lamps-next r size clock ok))
+cause-is : (r : Row) (size clock : ℕ) (verdict limit visits : Verdict) → slice_cause r size ≡ accepted → verdict ≡ graver limit visits →
+    limit ≡ limit_cause clock → visits ≡ visits_cause clock (placed r) → row_cause r size clock ≡ verdict
+cause-is r size clock verdict limit visits ok e l v = lamps-next r size clock ok ∙ rw (← l, ← v) (sym e)
 
-pub returns-then-early-ne-ACCEPTED : goal.returns-then-early-ne-ACCEPTED
+-- as many bytes are copied as the slice has room for
+copied : (r : Row) (size : ℕ) (bytes : List ℕ) → slice_cause r size ≡ accepted → length bytes ≡ 512 →
+    (length (take (16 * r.count) bytes) ≡ 16 * r.count) × (16 * r.count ≤ size)
+copied r size bytes ok long =
+    let f = slice_fits r size ok in
+    (length-take-le (16 * r.count) bytes (omega (arith, f.0, long)), f.1)
+
+pub returns-in-Err : goal.returns-in-Err
 unfolding row_stepped row_bytes
-returns-then-early-ne-ACCEPTED c =
-    let e = c.slice_cause-early.ensures in
-    let n = rw e at (ne_eqb _ _ c.if-early-ne-ACCEPTED.true) in
-    let first = slice_first c.args.self (length c.args.out.now) c.args.clock n in
-    record { answer = simp (first, n) (c.refused.ensures ∙ rw e); slice = simp (first, n) }
+returns-in-Err c =
+    let e = sym c.slice_cause.ensures ∙ c.in-Err.is in
+    let first = slice_first c.args.self (length c.args.out.now) c.args.clock (ap is_ok e) ∙ e in
+    record { answer = rw first c.refused.ensures; slice = rw first }
 
-pub visit_all-next-requires : goal.visit_all-next-requires
-visit_all-next-requires c =
-    let ok = slice_fits c.args.self (length c.args.out.now) (sym c.slice_cause-early.ensures ∙ c.if-early-ne-ACCEPTED.false) in
-    record { few = ok.0; room = omega (arith, ok.0) }
-
-pub returns-then-number-ne-ACCEPTED : goal.returns-then-number-ne-ACCEPTED
+pub returns-in-Err-first_of : goal.returns-in-Err-first_of
 unfolding row_stepped row_bytes
-returns-then-number-ne-ACCEPTED c =
-    let ok = sym c.slice_cause-early.ensures ∙ c.if-early-ne-ACCEPTED.false in
-    let e = cause-is c.args.self (length c.args.out.now) c.args.clock _ _ _ ok c.first_of-number.ensures c.limit_cause.ensures c.visit_all-next.ensures.cause in
-    let n = rw e at (ne_eqb _ _ c.if-number-ne-ACCEPTED.true) in
-    record { answer = simp n (c.refused-then-number-ne-ACCEPTED.ensures ∙ rw e); slice = simp n }
+returns-in-Err-first_of c =
+    let ok = sym c.slice_cause.ensures ∙ c.in_default.is in
+    let first = cause-is c.args.self (length c.args.out.now) c.args.clock _ _ _ ok c.first_of.ensures c.limit_cause.ensures c.visit_all-next.ensures.cause ∙ c.in-Err-first_of.is in
+    record { answer = rw first c.refused-in-Err-first_of.ensures; slice = rw first }
+
+pub slice_bounds-copy-end : goal.slice_bounds-copy-end
+slice_bounds-copy-end c =
+    let ok = sym c.slice_cause.ensures ∙ c.in_default.is in
+    sym (copied c.args.self _ c.visit_all-next.new.bytes ok c.visit_all-next.auto.bytes).0
 
 pub copy-requires : goal.copy-requires
 copy-requires c =
-    let ok = slice_fits c.args.self (length c.args.out.now) (sym c.slice_cause-early.ensures ∙ c.if-early-ne-ACCEPTED.false) in
-    record { given = omega (arith, ok.0, c.visit_all-next.auto.bytes); room = omega (arith, ok.1) }
+    let ok = sym c.slice_cause.ensures ∙ c.in_default.is in
+    let room = copied c.args.self _ c.visit_all-next.new.bytes ok c.visit_all-next.auto.bytes in
+    omega (arith, room.0, room.1)
 
 pub returns : goal.returns
 unfolding row_stepped row_bytes
 returns c =
-    let ok = sym c.slice_cause-early.ensures ∙ c.if-early-ne-ACCEPTED.false in
-    let e = cause-is c.args.self (length c.args.out.now) c.args.clock _ _ _ ok c.first_of-number.ensures c.limit_cause.ensures c.visit_all-next.ensures.cause in
-    let zero = sym e ∙ c.if-number-ne-ACCEPTED.false in
+    let ok = sym c.slice_cause.ensures ∙ c.in_default.is in
+    let none = cause-is c.args.self (length c.args.out.now) c.args.clock _ _ _ ok c.first_of.ensures c.limit_cause.ensures c.visit_all-next.ensures.cause ∙ c.in_default-first_of.is in
+    let both = both-none c.limit_cause.result c.visit_all-next.result.verdict (sym c.first_of.ensures ∙ c.in_default-first_of.is) in
     let visits = c.visit_all-next.ensures in
     let many = 16 * c.args.self.count in
-    let front = rw zero-add at c.copy.ensures.front in
-    let back = rw zero-add at c.copy.ensures.back in
+    let long = (copied c.args.self _ c.visit_all-next.new.bytes ok c.visit_all-next.auto.bytes).0 in
+    let front = rw (zero-add, long) at c.copy.ensures.front in
+    let back = rw (zero-add, long) at c.copy.ensures.back in
     let whole : c.copy.new.out ≡ bytes_of c.args.clock (placed c.args.self) ++ drop many c.args.out.now =
     sym (take-append-drop many c.copy.new.out) ∙ rw (front, back, visits.reported) in
-    let number : c.visit_all-next.result.number ≡ 0 = omega (arith, c.first_of-number.ensures, c.if-number-ne-ACCEPTED.false) in
-    record { answer = simp zero (by_parts _ number visits.row visits.wait); slice = simp zero whole }
+    record { answer = rw none (by_parts _ both.1 visits.row visits.wait); slice = rw none whole }

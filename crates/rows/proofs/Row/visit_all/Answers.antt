@@ -1,26 +1,31 @@
 -- A place visited is one that is left to visit no more.
-use Rattle.std.proofs.Common.{◌≡◌, ◌+◌, ◌*◌, ◌<◌, ◌≤◌, refl, length, take, arith}
+use Rattle.std.proofs.Common.{◌≡◌, ◌+◌, ◌*◌, ◌<◌, sym, ◌∙◌, length, take, drop_of_length-le, arith, rules}
+use Rattle.std.proofs.lemmas.List.{length-take-le}
+use Rattle.rows.specs.Rows.{placed}
+use Rattle.rows.proofs.Causes.{graver_none}
 use Rattle.rows.proofs.Visiting.{lamps-more, wait-more, cause-more, bytes-more}
 use Rattle.rows.proofs.Row.visit_all.Goals as goal
 
-pub loop-i-preserved : goal.loop-i-preserved
-loop-i-preserved c =
-    let a = c.args in
-    let l = c.loop-i in
+pub loop-place-preserved : goal.loop-place-preserved
+loop-place-preserved c =
+    let xs = placed c.args.self in
+    let l = c.loop-place in
+    let i = l.place in
+    let clock = c.args.clock in
     let was = l.invariant in
     let v = c.visit-a.ensures in
-    let low : l.i < a.self.count = omega (arith, c.loop-i-test.true, was.in_range, was.all) in
-    let room : a.self.count ≤ length a.self.lamps = omega (arith, was.array) in
-    let next16 : 16 * (l.i + 1) ≡ 16 * l.i + 16 = omega arith in record {
-      in_range = omega (arith, low);
-      all = refl;
-      array = was.array;
-      room = omega (arith, c.put.auto.out);
-      count = was.count;
-      lamps = rw v.lamp (lamps-more a.self.lamps a.self.count l.i a.clock low room _ l.next.lamps was.lamps);
-      wait = rw (c.least-wait.ensures, v.wait) (wait-more a.self.lamps a.self.count l.i a.clock low room _ l.wait was.wait);
-      cause = rw (c.first_of-number.ensures, v.cause) (cause-more a.self.lamps a.self.count l.i a.clock low room _ l.number was.cause);
+    let there : i < length xs = c.loop-place-test.true in
+    let array : length c.args.self.lamps ≡ 32 = search rules in
+    let low : i < c.args.self.count = omega (arith, there, length-take-le c.args.self.count c.args.self.lamps (omega (arith, array, c.requires.few))) in
+    let next16 : 16 * (i + 1) ≡ 16 * i + 16 = omega arith in record {
+      lamps = rw v.lamp (lamps-more c.args.self.lamps c.args.self.count i clock _ low l.lamps was.lamps);
+      wait = rw (c.least-wait.ensures, v.wait) (wait-more xs i clock there _ l.wait was.wait);
+      cause = rw (c.first_of-verdict.ensures, v.cause) (cause-more xs i clock there _ l.verdict was.cause);
       reported =
-          rw (next16, c.put.ensures.front, v.notices)
-          (bytes-more a.self.lamps a.self.count l.i a.clock low room _ (take (16 * l.i) l.bytes) was.reported);
+          rw (next16, c.put.ensures.front, v.notices) (bytes-more xs i clock there _ (take (16 * i) l.bytes) was.reported);
     }
+
+pub returns-clause-cause : goal.returns-clause-cause
+returns-clause-cause c =
+    let none = drop_of_length-le (placed c.args.self) {i = c.loop-place.place} c.loop-place-test.false in
+    sym (graver_none c.loop-place.verdict) ∙ (rw none at c.loop-place.invariant.cause)

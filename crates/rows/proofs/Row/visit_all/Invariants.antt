@@ -1,21 +1,12 @@
 -- What is visited, with what is left to visit, is the whole.
-use Rattle.std.proofs.Common.{◌≡◌, ◌≤◌, ◌-◌, ◌*◌, ◌++◌, max, length, take}
-use Rattle.rows.specs.Rows.{map_to, visited, visits_cause, lesser, least_wait, bytes_of}
-use Rattle.rows.proofs.Places.{left}
+use Rattle.std.proofs.Common.{◌≡◌, ◌*◌, ◌++◌, take, drop}
+use Rattle.rows.specs.Rows.{map_to, visited, graver, visits_cause, lesser, least_wait, bytes_of}
 use Rattle.rows.proofs.Row.visit_all.Given as goal
 
-abbrev pub invariant-loop-i : goal.invariant-loop-i
-invariant-loop-i l = record {
-  in_range : l.i ≤ l.n;
-  all : l.n ≡ l.self.count;
-  array : length l.self.lamps ≡ 32;
-  room : length l.bytes ≡ length l.initial.bytes;
-  count : l.next.count ≡ l.self.count;
-  lamps : l.next.lamps ≡ map_to l.i (λ x. (visited x l.clock).lamp) l.self.lamps;
-  wait : lesser l.wait (least_wait l.clock (left l.n l.i l.self.lamps)) ≡ least_wait l.clock (take l.n l.self.lamps);
-  cause : max l.number (visits_cause l.clock (left l.n l.i l.self.lamps)) ≡ visits_cause l.clock (take l.n l.self.lamps);
-  reported : take (16 * l.i) l.bytes ++ bytes_of l.clock (left l.n l.i l.self.lamps) ≡ bytes_of l.clock (take l.n l.self.lamps);
+abbrev pub invariant-loop-place : goal.invariant-loop-place
+invariant-loop-place l = record {
+  lamps : l.lamps ≡ map_to l.place (λ x. (visited x l.clock).lamp) l.fn.self.lamps;
+  wait : lesser l.wait (least_wait l.clock (drop l.place l.lamp-items)) ≡ least_wait l.clock l.lamp-items;
+  cause : graver l.verdict (visits_cause l.clock (drop l.place l.lamp-items)) ≡ visits_cause l.clock l.lamp-items;
+  reported : take (16 * l.place) l.bytes ++ bytes_of l.clock (drop l.place l.lamp-items) ≡ bytes_of l.clock l.lamp-items;
 }
-
-abbrev pub decreases-loop-i : goal.decreases-loop-i
-decreases-loop-i l = l.n - l.i
