@@ -1,6 +1,6 @@
 -- As many steps as the fade has tenths are enough: with more, the run is the same. So it ends because it is done, or refused,
 -- and never for want of steps.
-use Rattle.std.specs.Prelude.{Option, Some, None}
+use Rattle.std.specs.Prelude.{Some, None, is_ok}
 use Prim.Native.Nat.{ℕ, zero, suc, ◌+◌, ◌-◌, ◌*◌, ◌≤◌, ◌<◌, min}
 use mathlib.Core.Bool.{Bool, true, false, cond, ◌&&◌, ◌||◌, false≢true}
 use mathlib.Core.List.{List, [], ◌++◌}
@@ -8,14 +8,14 @@ use mathlib.Core.Path.{◌≡◌, refl, sym, ap, subst⁻¹, ◌∙◌}
 use native.Mathlib.Nat.{add-zero, add-suc}
 use native.Mathlib.Omega.{arith}
 use lib.Dec.{eqb, leb}
-use borrow.Author.Tests.{eqb-true, eqb-false, leb-false, leb-true, le-leb}
+use borrow.Author.Tests.{eqb-false, leb-false, leb-true, le-leb}
 use Rattle.matter.specs.declared.limits.Bounds.{Bounds}
 use Rattle.matter.specs.declared.commands.Command.{Command}
 use Rattle.matter.specs.declared.commands.Request.{Request}
 use Rattle.matter.specs.Requests.{request, no_options}
 use Rattle.matter.specs.declared.enums.OnOff.{OnOff}
-use Rattle.matter.specs.Causes.{accepted}
-use Rattle.matter.proofs.Laws.{cond_both, and_left, or_left}
+use Rattle.matter.specs.Causes.{accepted, Verdict, unless_refused}
+use Rattle.matter.proofs.Laws.{and_left, or_left, accepted-of}
 use Rattle.hue.specs.Hue.{path_delta}
 use Rattle.progress.specs.Progress.{permille_of, end_wait}
 use Rattle.progress.proofs.Laws.{permille-full}
@@ -25,8 +25,7 @@ use Rattle.tasks.specs.declared.Task.{Task}
 use Rattle.tasks.specs.declared.Running.{Running}
 use Rattle.tasks.specs.Runs.{runs}
 use Rattle.lamp.specs.declared.Lamp.{Lamp}
-use Rattle.std.specs.Prelude.{Result, Ok, Err}
-use Rattle.matter.specs.declared.refusals.Refusal.{Refusal}
+use Rattle.std.specs.Prelude.{Ok, Err}
 use Rattle.lamp.specs.declared.Answer.{Answer}
 use Rattle.lamp.specs.Answers.{at_clock, refusal}
 use Rattle.lamp.specs.Making.{fresh_lamp, making_cause, making}
@@ -51,8 +50,8 @@ record Left (n : ℕ) (a : Answer) (clock : ℕ) : Type 0 where
 abbrev Within : ℕ → Answer → ℕ → Type 0
 Within n a clock = goes_on a ≡ true → Left n a clock
 
-refused-within : (n : ℕ) (l : Lamp) (cause : ℕ) (clock : ℕ) → (cause ≡ 0 → ⊥) → Within n (refusal l cause) clock
-refused-within n l cause clock h g = absurd (h (eqb-true cause 0 (and_left (eqb cause 0) _ g)))
+refused-within : (n : ℕ) (l : Lamp) (cause : Verdict) (clock : ℕ) → (cause ≡ accepted → ⊥) → Within n (refusal l cause) clock
+refused-within n l cause clock h g = absurd (h (accepted-of cause (and_left (is_ok cause) _ g)))
 
 -- before permille 1000 the time is not up
 before-end : (e t : ℕ) → at_end (permille_of e t) ≡ false → e < t
@@ -165,7 +164,9 @@ module _ (w : Wanted) (j : ℕ) where
   -- with more steps allowed than the fade has tenths, the text is the same
   pub budget-enough : text (fade_within (j + w.tenths) w) ≡ text (fade_within w.tenths w)
   unfolding making
-  budget-enough =
-      cond_both (λ (m : Result Lamp Refusal). text (after_making (j + w.tenths) w m) ≡ text (after_making w.tenths w m)) (eqb (making_cause bounds w.clock) accepted) _ _
-      (λ t. commanded-enough (fresh_lamp bounds 31 0 w.clock))
-      (λ t. refl)
+  budget-enough = by (making_cause bounds w.clock)
+    where
+      by : (v : Verdict) → text (after_making (j + w.tenths) w (unless_refused v (fresh_lamp bounds 31 0 w.clock)))
+          ≡ text (after_making w.tenths w (unless_refused v (fresh_lamp bounds 31 0 w.clock)))
+      by (Ok u) = commanded-enough (fresh_lamp bounds 31 0 w.clock)
+      by (Err cause) = refl

@@ -1,14 +1,15 @@
 -- A run's text, a line at a time: the next line and the rest, the room that a line takes, and that what is left to write shrinks; and
 -- the clock of the next step, which fits in 64 bits.
+use Rattle.std.specs.Prelude.{is_ok}
 use Prim.Native.Nat.{ℕ, zero, suc, ◌+◌, ◌-◌, ◌^◌, ◌≤◌, ◌<◌, min}
 use mathlib.Core.Bool.{Bool, true, false, cond, ◌&&◌, ◌||◌, true≢false, or-true}
 use mathlib.Core.List.{List, [], ◌++◌, append-nil, append_assoc}
 use mathlib.Core.Path.{◌≡◌, refl, sym, ap, ◌∙◌}
 use native.Mathlib.Omega.{arith}
-use lib.Dec.{ltb, leb, eqb}
+use lib.Dec.{ltb, leb}
 use lib.ListN.{length, take, length-append, length-take}
 use borrow.Author.Tests.{lt-ltb, le-ltb, ltb-true}
-use Rattle.matter.specs.Causes.{accepted}
+use Rattle.matter.specs.Causes.{refusal_number, Verdict, number_of}
 use Rattle.matter.proofs.Laws.{cond_both}
 use Rattle.matter.specs.Limits.{saturation_limit}
 use Rattle.progress.specs.Progress.{clamped_sum, delta_at_rate}
@@ -57,7 +58,7 @@ further-is (suc left) a clock = simp (lt-ltb 0 (suc left) (omega arith)) (some (
 
 pub text-next : (f : Fade) → text f ≡ next_text f ++ text (rest f)
 text-next Fade.BadLine = refl
-text-next (Fade.Refused number) = sym (append-nil _)
+text-next (Fade.Refused refusal) = sym (append-nil _)
 text-next (Fade.Start s) = ap (λ (t : List ℕ). next_text (Fade.Start s) ++ t) (further-is s.left _ s.clock)
 text-next (Fade.Step s) = ap (λ (t : List ℕ). next_text (Fade.Step s) ++ t) (further-is s.left _ s.clock)
 text-next Fade.Over = refl
@@ -143,11 +144,11 @@ refused-some number = simp length-append (omega arith)
 
 one-some : (a : Answer) (clock : ℕ) → 0 < length (one_text a clock)
 one-some a clock =
-    cond_both (λ (t : List ℕ). 0 < length t) (eqb a.number accepted) _ _ (λ e. line-some (line_of a clock)) (λ e. refused-some a.number)
+    cond_both (λ (t : List ℕ). 0 < length t) (is_ok a.verdict) _ _ (λ e. line-some (line_of a clock)) (λ e. refused-some (number_of a.verdict))
 
 pub next-some : (f : Fade) → is_over f ≡ false → 0 < length (next_text f)
 next-some Fade.BadLine e = omega arith
-next-some (Fade.Refused number) e = refused-some number
+next-some (Fade.Refused refusal) e = refused-some (refusal_number refusal)
 next-some (Fade.Start s) e = one-some (start_answer s.lamp s.task s.clock) s.clock
 next-some (Fade.Step s) e = one-some (step_answer s.lamp s.clock) s.clock
 next-some Fade.Over e = absurd (true≢false e)
@@ -155,19 +156,19 @@ next-some Fade.Over e = absurd (true≢false e)
 one-short : (a : Answer) (clock : ℕ) → length (numbers a.notices) ≤ 16 → length (one_text a clock) ≤ 512
 unfolding line_of
 one-short a clock h =
-    cond_both (λ (t : List ℕ). length t ≤ 512) (eqb a.number accepted) _ _ (λ e. line-short (line_of a clock) h) (λ e. refused-short a.number)
+    cond_both (λ (t : List ℕ). length t ≤ 512) (is_ok a.verdict) _ _ (λ e. line-short (line_of a clock) h) (λ e. refused-short (number_of a.verdict))
 
 -- the notices of an effect, and of a refusal, are few
 effect-few : (e : Effect) → length e.reported ≤ 14 → length (numbers (done e).notices) ≤ 16
 effect-few e h = simp (numbers-noted e.reported) (omega (arith, h))
 
-refusal-few : (l : Lamp) (number : ℕ) → length (numbers (refusal l number).notices) ≤ 16
-refusal-few l number = omega arith
+refusal-few : (l : Lamp) (cause : Verdict) → length (numbers (refusal l cause).notices) ≤ 16
+refusal-few l cause = omega arith
 
 pub next-short : (f : Fade) → length (next_text f) ≤ 512
 unfolding start_answer step_answer
 next-short Fade.BadLine = omega arith
-next-short (Fade.Refused number) = refused-short number
+next-short (Fade.Refused refusal) = refused-short (refusal_number refusal)
 next-short (Fade.Start s) =
     one-short (start_answer s.lamp s.task s.clock) s.clock
     (choose-both (λ (a : Answer). length (numbers a.notices) ≤ 16) (start_cause s.lamp s.task s.clock) s.lamp _
