@@ -1,4 +1,5 @@
 -- *Together* for rows, proved: a step at the row call's clock shows each fade at that clock, whether its lamp still runs or is done.
+use Rattle.std.specs.Prelude.{is_ok}
 use Prim.Native.Nat.{ℕ, ◌+◌, ◌-◌, ◌≤◌}
 use mathlib.Core.Bool.{true, false, not, ◌&&◌, or-true, true≢false}
 use mathlib.Core.List.{List, [], ◌∷◌, ◌++◌, append-nil}
@@ -6,7 +7,8 @@ use mathlib.Core.Path.{◌≡◌, refl, sym, ap, ◌∙◌, subst}
 use native.Mathlib.Omega.{arith}
 use lib.Dec.{leb, eqb}
 use lib.IntN.{nat_abs}
-use borrow.Author.Tests.{leb-true, le-leb, eqb-true, eq-eqb}
+use borrow.Author.Tests.{leb-true, le-leb, eqb-true}
+use Rattle.matter.specs.Causes.{accepted}
 use Rattle.matter.proofs.Laws.{and_left, and_right}
 use Rattle.tasks.specs.Runs.{runs}
 use Rattle.lamp.specs.declared.Lamp.{Lamp}
@@ -95,7 +97,7 @@ abbrev ShowsAt : Fed → ℕ → Lamp → Type 0
 ShowsAt f clock l =
     (l.color.hue ≡ (shown_at f clock).hue) × (l.remaining.tenths ≡ (shown_at f clock).remaining) × (idle l ≡ (shown_at f clock).done)
 
-module _ (e : Fade) (p : Premised e) (clock : ℕ) (first : first_cause (later e e.calls) clock ≡ 0) where
+module _ (e : Fade) (p : Premised e) (clock : ℕ) (first : first_cause (later e e.calls) clock ≡ accepted) where
   abbrev l : Lamp
   l = later e e.calls
 
@@ -151,7 +153,7 @@ module _ (e : Fade) (p : Premised e) (clock : ℕ) (first : first_cause (later e
       (λ r.
       let k = kept (step_on e clock) on in
       let agrees = (k.everywhere (e.calls ++ (Call.Step clock ∷ [])) [] (sym (append-nil (e.calls ++ (Call.Step clock ∷ []))))).agrees in
-      let taken = sym (k.every_call e.calls (Call.Step clock) [] refl).accepted ∙ eq-eqb _ 0 (step-number l clock r ∙ first) in
+      let taken = sym (k.every_call e.calls (Call.Step clock) [] refl).accepted ∙ ap is_ok (step-number l clock r ∙ first) in
       let at = rw (after_one (begun e).lamp e.calls (Call.Step clock), scheduled-one f (shown_at f e.start) e.calls (Call.Step clock), taken) at agrees in
       (at.hue, at.remaining, at.done))
       (λ r. subst (ShowsAt f clock) (sym (idle-next l clock r)) (done-shows (rw r)))
@@ -160,8 +162,8 @@ module _ (e : Fade) (p : Premised e) (clock : ℕ) (first : first_cause (later e
 
 -- the lamp at the place of a fade, after the row call
 lamp-is : (r : Row) (calls : List RowCall) (size clock k : ℕ) (e : Fade) → RowValid r → FadeAt k r calls e →
-    row_cause (after_row r calls) size clock ≡ 0 →
-    (first_cause (later e e.calls) clock ≡ 0)
+    row_cause (after_row r calls) size clock ≡ accepted →
+    (first_cause (later e e.calls) clock ≡ accepted)
     × (lamp_at (after_row r (calls ++ (each size clock ∷ []))) k ≡ next (later e e.calls) (Call.Step clock))
 unfolding after_row
 lamp-is r calls size clock k e valid a z =

@@ -1,7 +1,7 @@
 -- The claim for rows, of rows that meet its premises by computation: the last of two lamps, given a move to a hue, started, and
 -- turned by row calls among refused ones and calls to its neighbour, ends at its target, and its row shows that; and the lamp at
 -- place 4 of ten, with each part of the tie read as numbers.
-use Rattle.std.specs.Prelude.{Option, Some, None}
+use Rattle.std.specs.Prelude.{Some}
 use Prim.Native.Nat.{ℕ}
 use mathlib.Core.Bool.{false}
 use mathlib.Core.List.{List, [], ◌∷◌, ◌++◌}
@@ -11,6 +11,7 @@ use lib.Dec.{lit<}
 use lib.ListN.{length, replicate, take, drop}
 use Rattle.matter.specs.declared.enums.DirectionEnum.{DirectionEnum}
 use Rattle.matter.specs.declared.enums.OnOff.{OnOff}
+use Rattle.matter.specs.Causes.{accepted, number_of}
 use Rattle.matter.specs.All.{all_true}
 use Rattle.matter.specs.Flags.{has_flag}
 use Rattle.matter.specs.InRange.{Clock}
@@ -132,11 +133,11 @@ single-by : (ys : List RowCall) (x : Call) (zs : List RowCall) → ten_calls ≡
 single-by = kept_at4.tied.single
 
 bytes-by : (bytes : List ℕ) (ys : List RowCall) (clock : ℕ) (out : List ℕ) (zs : List RowCall) → ten_calls ≡ ys ++ (each (length out) clock ∷ zs) →
-    row_cause (after_row ten ys) (length out) clock ≡ 0 → step_bytes (own 4 ten ys) clock ≡ bytes → take 16 (drop 64 (row_bytes (after_row ten ys) out clock)) ≡ bytes
+    row_cause (after_row ten ys) (length out) clock ≡ accepted → step_bytes (own 4 ten ys) clock ≡ bytes → take 16 (drop 64 (row_bytes (after_row ten ys) out clock)) ≡ bytes
 bytes-by bytes ys clock out zs e a computed = kept_at4.tied.bytes ys clock out zs e a ∙ computed
 
 wait_by : (wait : ℕ) (ys : List RowCall) (size clock : ℕ) (zs : List RowCall) → ten_calls ≡ ys ++ (each size clock ∷ zs) →
-    row_cause (after_row ten ys) size clock ≡ 0 → least_wait clock (owns 10 0 ten ys) ≡ wait → (row_stepped (after_row ten ys) size clock).wait ≡ wait
+    row_cause (after_row ten ys) size clock ≡ accepted → least_wait clock (owns 10 0 ten ys) ≡ wait → (row_stepped (after_row ten ys) size clock).wait ≡ wait
 wait_by wait ys size clock zs e a computed = kept_at4.tied.wait ys size clock zs e a ∙ computed
 
 -- `lamp`, and demand 3: its hue after the early row call, three quarters of the way, and at the end
@@ -159,13 +160,13 @@ pub singles-at-4 :
     ((answered_at ten 4 (move_to half OnOff.On 5000)).task ≡ Some down)
     × ((answered_at ten 4 (move_to half OnOff.On 5000)).notices.places ≡ 17 ∷ replicate 15 0)
     × ((answered_at (after_row ten begun) 4 (start_of half (lamp_at 0) 5050)).wait ≡ 100)
-    × ((answered_at (after_row ten early) 4 (Call.Step 5199)).number ≡ 4)
+    × (number_of (answered_at (after_row ten early) 4 (Call.Step 5199)).verdict ≡ 4)
 unfolding given after_row row_stepped row_cause answered_at place_cause visited after answer command_cause command_answer first_cause lamp_valid all_true color_valid running_valid move_to_valid task_valid command_effect start_answer step_answer halt_answer started stepped hue_saturation_start hue_saturation_moved timed hue_set permille_of path_delta is_tie distance moved_hue has_flag filled
 singles-at-4 = (
   (single-by [] (move_to half OnOff.On 5000) _ refl).task,
   ap (λ (n : Notices). n.places) (single-by [] (move_to half OnOff.On 5000) _ refl).notices,
   (single-by begun (start_of half (lamp_at 0) 5050) _ refl).wait,
-  (single-by early (Call.Step 5199) _ refl).number,
+  ap number_of (single-by early (Call.Step 5199) _ refl).verdict,
 )
 
 -- `bytes`: what the four accepted row calls write at place 4, over sevens

@@ -1,4 +1,5 @@
 -- The claim for rows: the tie by the lists, demand 3 by the claim of a lamp.
+use Rattle.std.specs.Prelude.{is_ok}
 use Prim.Native.Nat.{ℕ, zero, suc, ◌+◌, ◌≤◌, ◌<◌}
 use mathlib.Core.Bool.{Bool, true, false, cond}
 use mathlib.Core.List.{List, [], ◌∷◌, ◌++◌}
@@ -6,6 +7,7 @@ use mathlib.Core.Path.{◌≡◌, refl, ap, sym, ◌∙◌}
 use native.Mathlib.Omega.{arith}
 use lib.Dec.{eqb}
 use lib.ListN.{length, take, get_or}
+use Rattle.matter.specs.Causes.{accepted}
 use Rattle.notices.specs.Notices.{filled}
 use Rattle.tasks.specs.Runs.{runs}
 use Rattle.lamp.specs.declared.Lamp.{Lamp}
@@ -33,7 +35,7 @@ when true x t = (t, tt)
 when false x t = tt
 
 by_one : (k : ℕ) (r : Row) (x : RowCall) → InRangeRowCall x → InRangeCalls (given_by k r x)
-by_one k r (each size clock) t = when (eqb (row_cause r size clock) 0) (Call.Step clock) t
+by_one k r (each size clock) t = when (is_ok (row_cause r size clock)) (Call.Step clock) t
 by_one k r (at place x) t = when (eqb place k) x t
 
 pub given-in-range : (k : ℕ) (r : Row) (xs : List RowCall) → InRangeRowCalls xs → InRangeCalls (given k r xs)
@@ -59,7 +61,7 @@ module _ (r : Row) (valid : RowValid r) (k : ℕ) (h : k < r.count) where
   single-after : (ys : List RowCall) (x : Call) → AnswersAs (answered_at (after_row r ys) k x) (answer (own k r ys) x)
   single-after ys x = rw (its-calls k r ys in_true_row) at (single-is (after_row r ys) k x (true-kept-after k r ys in_true_row))
 
-  bytes_after : (ys : List RowCall) (clock : ℕ) (out : List ℕ) → row_cause (after_row r ys) (length out) clock ≡ 0 →
+  bytes_after : (ys : List RowCall) (clock : ℕ) (out : List ℕ) → row_cause (after_row r ys) (length out) clock ≡ accepted →
       sixteen_at k (row_bytes (after_row r ys) out clock) ≡ step_bytes (own k r ys) clock
   bytes_after ys clock out e =
       bytes-at (after_row r ys) out clock k (kept-after k r ys in_row) e
@@ -89,7 +91,7 @@ module _ (r : Row) (valid : RowValid r) (ys : List RowCall) where
       rw (its-calls j r ys (in_true_row r valid j (omega arith)), each-own n (suc j) (omega arith))
 
   module _ (k : ℕ) (h : k < r.count) where
-    wait-is : (size clock : ℕ) → row_cause (after_row r ys) size clock ≡ 0 →
+    wait-is : (size clock : ℕ) → row_cause (after_row r ys) size clock ≡ accepted →
         (row_stepped (after_row r ys) size clock).wait ≡ least_wait clock (owns r.count 0 r ys)
     unfolding row_stepped
     wait-is size clock e =

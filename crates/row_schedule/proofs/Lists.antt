@@ -1,4 +1,5 @@
 -- Over every list of row calls and single calls, a lamp of the row is the one that its own calls leave.
+use Rattle.std.specs.Prelude.{is_ok}
 use Prim.Native.Nat.{ℕ, zero, suc, ◌≤◌, ◌<◌}
 use mathlib.Core.Bool.{true, false, true≢false}
 use mathlib.Core.List.{List, [], ◌∷◌, ◌++◌, append_assoc}
@@ -9,7 +10,7 @@ use lib.ListN.{length, take, get_or, set, length-set}
 use borrow.Author.Tests.{eqb-true, eqb-false}
 use Rattle.lamp.specs.declared.Lamp.{Lamp}
 use Rattle.lamp.specs.declared.Call.{Call}
-use Rattle.matter.proofs.Laws.{and_left, and_right}
+use Rattle.matter.proofs.Laws.{and_left, and_right, accepted-of}
 use Rattle.lamp.specs.Valid.{lamp_valid}
 use Rattle.commands.specs.Answers.{answer}
 use Rattle.commands.proofs.Kept.{valid-kept}
@@ -24,21 +25,21 @@ use Rattle.row_schedule.specs.RowClaim.{RowValid}
 use Rattle.row_schedule.specs.RowCalls.{RowCall, each, at, next_row, after_row, given_by, given}
 
 -- the two sides of each call
-each-yes : (r : Row) (size clock : ℕ) → eqb (row_cause r size clock) 0 ≡ true →
+each-yes : (r : Row) (size clock : ℕ) → is_ok (row_cause r size clock) ≡ true →
     next_row r (each size clock) ≡ with_lamps r (map_to r.count (λ l. (visited l clock).lamp) r.lamps)
 unfolding row_stepped
 each-yes r size clock e = simp (next_row, e)
 
-each-no : (r : Row) (size clock : ℕ) → eqb (row_cause r size clock) 0 ≡ false → next_row r (each size clock) ≡ r
+each-no : (r : Row) (size clock : ℕ) → is_ok (row_cause r size clock) ≡ false → next_row r (each size clock) ≡ r
 unfolding row_stepped
 each-no r size clock e = simp (next_row, e)
 
-at-yes : (r : Row) (place : ℕ) (x : Call) → eqb (place_cause r place) 0 ≡ true →
+at-yes : (r : Row) (place : ℕ) (x : Call) → is_ok (place_cause r place) ≡ true →
     next_row r (at place x) ≡ with_lamps r (set r.lamps place (answer (lamp_at r place) x).lamp)
 unfolding answered_at
 at-yes r place x e = simp (next_row, e)
 
-at-no : (r : Row) (place : ℕ) (x : Call) → eqb (place_cause r place) 0 ≡ false → next_row r (at place x) ≡ r
+at-no : (r : Row) (place : ℕ) (x : Call) → is_ok (place_cause r place) ≡ false → next_row r (at place x) ≡ r
 unfolding answered_at
 at-no r place x e = simp (next_row, e)
 
@@ -47,8 +48,8 @@ one_each : (k : ℕ) (r : Row) (size clock : ℕ) → InRow k r →
     lamp_at (next_row r (each size clock)) k ≡ after (lamp_at r k) (given_by k r (each size clock))
 unfolding after
 one_each k r size clock h =
-    either (eqb (row_cause r size clock) 0)
-    (λ e. rw e (row-lamp r size clock k h (eqb-true _ _ e)))
+    either (is_ok (row_cause r size clock))
+    (λ e. rw e (row-lamp r size clock k h (accepted-of _ e)))
     (λ e. ap (λ (q : Row). lamp_at q k) (each-no r size clock e) ∙ rw e)
 
 one_at : (k : ℕ) (r : Row) (place : ℕ) (x : Call) → InTrueRow k r → lamp_at (next_row r (at place x)) k ≡ after (lamp_at r k) (given_by k r (at place x))
@@ -64,11 +65,11 @@ one k r (at place x) h = one_at k r place x h
 
 kept : (k : ℕ) (r : Row) (x : RowCall) → InRow k r → InRow k (next_row r x)
 kept k r (each size clock) h =
-    either (eqb (row_cause r size clock) 0)
+    either (is_ok (row_cause r size clock))
     (λ e. subst (InRow k) (sym (each-yes r size clock e)) (record { there = h.there; room = record { few = h.room.few; places = simp length-map_to h.room.places } }))
     (λ e. subst (InRow k) (sym (each-no r size clock e)) h)
 kept k r (at place x) h =
-    either (eqb (place_cause r place) 0)
+    either (is_ok (place_cause r place))
     (λ e. subst (InRow k) (sym (at-yes r place x e)) (record { there = h.there; room = record { few = h.room.few; places = simp length-set h.room.places } }))
     (λ e. subst (InRow k) (sym (at-no r place x e)) h)
 
@@ -78,11 +79,11 @@ True r = mask_true r ≡ true
 
 mask_kept : (r : Row) (x : RowCall) → mask_true r ≡ true → mask_true (next_row r x) ≡ true
 mask_kept r (each size clock) m =
-    either (eqb (row_cause r size clock) 0)
+    either (is_ok (row_cause r size clock))
     (λ e. subst True (sym (each-yes r size clock e)) (with-true r _))
     (λ e. subst True (sym (each-no r size clock e)) m)
 mask_kept r (at place x) m =
-    either (eqb (place_cause r place) 0)
+    either (is_ok (place_cause r place))
     (λ e. subst True (sym (at-yes r place x e)) (with-true r _))
     (λ e. subst True (sym (at-no r place x e)) m)
 
@@ -92,7 +93,7 @@ true_kept k r x h = record { in_row = kept k r x h.in_row; mask = mask_kept r x 
 -- no call changes the count
 count-one : (r : Row) (x : RowCall) → (next_row r x).count ≡ r.count
 count-one r (each size clock) =
-    either (eqb (row_cause r size clock) 0) (λ e. ap (λ (q : Row). q.count) (each-yes r size clock e)) (λ e. ap (λ (q : Row). q.count) (each-no r size clock e))
+    either (is_ok (row_cause r size clock)) (λ e. ap (λ (q : Row). q.count) (each-yes r size clock e)) (λ e. ap (λ (q : Row). q.count) (each-no r size clock e))
 count-one r (at place x) = single-count r place x
 
 pub count-after : (r : Row) (xs : List RowCall) → (after_row r xs).count ≡ r.count
@@ -145,12 +146,12 @@ each-valid (suc n) (suc k) (l ∷ ls) v h m = each-valid n k ls (and_right (lamp
 
 pub row-valid-kept : (r : Row) (x : RowCall) → RowValid r → RowValid (next_row r x)
 row-valid-kept r (each size clock) v =
-    either (eqb (row_cause r size clock) 0)
+    either (is_ok (row_cause r size clock))
     (λ e. subst RowValid (sym (each-yes r size clock e)) (record { places = simp length-map_to v.places; count = v.count; mask = with-true r _; lamps = all-visited clock r.count r.lamps v.lamps }))
     (λ e. subst RowValid (sym (each-no r size clock e)) v)
 row-valid-kept r (at place x) v =
-    either (eqb (place_cause r place) 0)
-    (λ e. let there = place-there r place (eqb-true _ _ e) in
+    either (is_ok (place_cause r place))
+    (λ e. let there = place-there r place (accepted-of _ e) in
     let old = each-valid r.count place r.lamps v.lamps there.1 (omega (arith, there, v.places)) in
     subst RowValid (sym (at-yes r place x e)) (record { places = simp length-set v.places; count = v.count; mask = with-true r _; lamps = all_set r.count place r.lamps _ (valid-kept (lamp_at r place) x old) v.lamps }))
     (λ e. subst RowValid (sym (at-no r place x e)) v)
@@ -178,12 +179,12 @@ given-append k r (x ∷ xs) ys =
 -- a row whose mask is not true is refused each call, and stays
 stuck_one : (r : Row) (x : RowCall) → mask_true r ≡ false → next_row r x ≡ r
 stuck_one r (each size clock) m =
-    either (eqb (row_cause r size clock) 0)
-    (λ e. absurd (true≢false (sym (accepted-mask r size clock (eqb-true _ _ e)) ∙ m)))
+    either (is_ok (row_cause r size clock))
+    (λ e. absurd (true≢false (sym (accepted-mask r size clock (accepted-of _ e)) ∙ m)))
     (λ e. each-no r size clock e)
 stuck_one r (at place x) m =
-    either (eqb (place_cause r place) 0)
-    (λ e. absurd (true≢false (sym (place-there r place (eqb-true _ _ e)).2 ∙ m)))
+    either (is_ok (place_cause r place))
+    (λ e. absurd (true≢false (sym (place-there r place (accepted-of _ e)).2 ∙ m)))
     (λ e. at-no r place x e)
 
 stuck : (r : Row) (xs : List RowCall) → mask_true r ≡ false → after_row r xs ≡ r
@@ -207,8 +208,8 @@ row-call-given r j k size clock = refl
 past_one : (k : ℕ) (r : Row) (x : RowCall) → r.count ≤ k → lamp_at (next_row r x) k ≡ lamp_at r k
 past_one k r (each size clock) h = row-past r size clock k h
 past_one k r (at place x) h =
-    either (eqb (place_cause r place) 0)
-    (λ e. let there = place-there r place (eqb-true _ _ e) in single-others r place k x (λ q. omega (arith, there.1, q, h)))
+    either (is_ok (place_cause r place))
+    (λ e. let there = place-there r place (accepted-of _ e) in single-others r place k x (λ q. omega (arith, there.1, q, h)))
     (λ e. ap (λ (q : Row). lamp_at q k) (at-no r place x e))
 
 pub past-stays : (k : ℕ) (r : Row) (xs : List RowCall) → r.count ≤ k → lamp_at (after_row r xs) k ≡ lamp_at r k

@@ -2,10 +2,12 @@
 use Prim.Native.Nat.{ℕ, ◌*◌, ◌<◌}
 use mathlib.Core.Bool.{Bool, true, false, cond, not, ◌||◌}
 use mathlib.Core.List.{List}
-use mathlib.Core.Path.{◌≡◌, sym, ◌∙◌, subst}
+use mathlib.Core.Path.{◌≡◌, sym, ap, ◌∙◌, subst}
 use native.Mathlib.Omega.{arith}
 use lib.Dec.{leb, ltb}
 use borrow.Author.Tests.{le-ltb, leb-true, leb-false}
+use Rattle.matter.specs.Causes as causes
+use Rattle.matter.specs.Causes.{accepted, clock_refused, invalid_lamp, short_slice}
 use Rattle.matter.specs.Limits.{clock_limit}
 use Rattle.tasks.specs.Valid.{task_valid}
 use Rattle.tasks.specs.Runs.{runs}
@@ -29,12 +31,12 @@ use Rattle.row_schedule.proofs.Lists.{each-valid, row-valid-after, its-calls, co
 use Rattle.row_schedule.proofs.Keeps.{in_true_row, given-in-range}
 
 -- a valid lamp refuses nothing with 8
-valid-no-8 : (l : Lamp) (x : Call) → lamp_valid l ≡ true → cause l x ≡ 8 → ⊥
+valid-no-8 : (l : Lamp) (x : Call) → lamp_valid l ≡ true → causes.number_of (cause l x) ≡ 8 → ⊥
 valid-no-8 l (Call.Command r on_off clock) v e =
     let t = table.commands l clock r on_off in
     either (bad_clock l clock) (λ b. omega (arith, t.command-4 v b, e))
     (λ b. either (checks r.command).stop (λ s. omega (arith, t.command-stop v b s, e))
-    (λ s. omega (arith, t.command-own v b s, table.own r.command, e)))
+    (λ s. omega (arith, ap causes.number_of (t.command-own v b s), table.own r.command, e)))
 valid-no-8 l (Call.Start task clock) v e =
     let t = table.starts l clock task in
     either (bad_clock l clock) (λ b. omega (arith, t.start-4 v b, e))
@@ -50,10 +52,11 @@ valid-no-8 l (Call.Halt clock) v e =
 
 -- the number of the answer to a call
 abbrev pub number_of : Row → RowCall → ℕ
-number_of r (each size clock) = (row_stepped r size clock).number
-number_of r (at place x) = (answered_at r place x).number
+number_of r (each size clock) = causes.number_of (row_stepped r size clock).verdict
+number_of r (at place x) = causes.number_of (answered_at r place x).verdict
 
-no-8 : (slice late : Bool) → ◌≡◌ {A = ℕ} (cond false 8 (cond slice 9 (cond (not true) 8 (cond late 4 0)))) 8 → ⊥
+no-8 : (slice late : Bool) →
+    causes.number_of (cond false invalid_lamp (cond slice short_slice (cond (not true) invalid_lamp (cond late clock_refused accepted)))) ≡ 8 → ⊥
 no-8 true late e = omega (arith, e)
 no-8 false true e = omega (arith, e)
 no-8 false false e = omega (arith, e)
@@ -61,26 +64,26 @@ no-8 false false e = omega (arith, e)
 valid-row-no-8 : (r : Row) (x : RowCall) → RowValid r → number_of r x ≡ 8 → ⊥
 unfolding row_cause
 valid-row-no-8 r (each size clock) v e =
-    no-8 (ltb size (16 * r.count)) (any_later (placed r) clock || ltb clock_limit clock) (rw (le-ltb 32 r.count v.count, v.mask, v.lamps) at (sym (row_number r size clock) ∙ e))
+    no-8 (ltb size (16 * r.count)) (any_later (placed r) clock || ltb clock_limit clock) (rw (le-ltb 32 r.count v.count, v.mask, v.lamps) at (ap causes.number_of (sym (row_number r size clock)) ∙ e))
 valid-row-no-8 r (at place x) v e =
     let t = table-of-rows.places r place x in
     either (leb r.count place)
     (λ h. omega (arith, t.place-10 v.count (leb-true _ _ h), e))
     (λ h. let there = leb-false r.count place h in
     valid-no-8 (lamp_at r place) x (each-valid r.count place r.lamps v.lamps there (omega (arith, v.places, v.count)))
-    (sym (number-is-cause (lamp_at r place) x) ∙ sym (t.own v.count there v.mask).number ∙ e))
+    (ap causes.number_of (sym (number-is-cause (lamp_at r place) x) ∙ sym (t.own v.count there v.mask).verdict) ∙ e))
 
 -- 8 never occurs in any list of calls
 pub never-8 : (r : Row) (ys : List RowCall) (x : RowCall) → RowValid r → number_of (after_row r ys) x ≡ 8 → ⊥
 never-8 r ys x v = valid-row-no-8 (after_row r ys) x (row-valid-after r ys v)
 
 -- nor 10 for a call to a place below the count
-pub never-10 : (r : Row) (ys : List RowCall) (k : ℕ) (x : Call) → RowValid r → k < r.count → (answered_at (after_row r ys) k x).number ≡ 10 → ⊥
+pub never-10 : (r : Row) (ys : List RowCall) (k : ℕ) (x : Call) → RowValid r → k < r.count → causes.number_of (answered_at (after_row r ys) k x).verdict ≡ 10 → ⊥
 never-10 r ys k x v h e =
     let w = row-valid-after r ys v in
     let l = lamp_at (after_row r ys) k in
-    let own = ((table-of-rows.places (after_row r ys) k x).own w.count (omega (arith, count-after r ys, h)) w.mask).number in
-    omega (arith, table.most l x, number-is-cause l x, own, e)
+    let own = ((table-of-rows.places (after_row r ys) k x).own w.count (omega (arith, count-after r ys, h)) w.mask).verdict in
+    omega (arith, table.most l x, ap causes.number_of (number-is-cause l x), ap causes.number_of own, e)
 
 -- the widths of every lamp of the row
 abbrev pub InRangeRow : Row → Type 0

@@ -1,6 +1,5 @@
 -- Lists of row calls and single calls, and what the lamp at one place is given by them: document 02, A.1.
-use Rattle.std.specs.Prelude.{ℕ, cond, List, [], ◌∷◌, ◌++◌, eqb}
-use Rattle.matter.specs.Causes.{accepted}
+use Rattle.std.specs.Prelude.{ℕ, cond, List, [], ◌∷◌, ◌++◌, eqb, is_ok}
 use Rattle.matter.specs.InRange.{Clock}
 use Rattle.lamp.specs.declared.Call.{Call}
 use Rattle.lamp.specs.InRange.{InRangeCall}
@@ -25,7 +24,7 @@ after_row r (x ∷ xs) = after_row (next_row r x) xs
 -- "a row call that the row's rules accept is an accepted step of each lamp that runs": a step, which an idle lamp
 -- refuses with 7; "a call to another place leaves it [..] as they were"
 abbrev pub given_by : ℕ → Row → RowCall → List Call
-given_by k r (each size clock) = cond (eqb (row_cause r size clock) accepted) (Call.Step clock ∷ []) []
+given_by k r (each size clock) = cond (is_ok (row_cause r size clock)) (Call.Step clock ∷ []) []
 given_by k r (at place x) = cond (eqb place k) (x ∷ []) []
 
 -- what the lamp at place k is given
