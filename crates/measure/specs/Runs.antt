@@ -1,18 +1,20 @@
 -- Calls one after another, each of ten words, on one lamp, with the sums over every number of every answer.
-use Rattle.std.specs.Prelude.{ℕ, zero, suc, ◌*◌, ◌/◌, List, length, take, drop}
+use Rattle.std.specs.Prelude.{ℕ, Option, Some, None, zero, suc, ◌*◌, ◌/◌, List, length, take, drop}
 use Rattle.lamp.specs.declared.Lamp.{Lamp}
 use Rattle.lamp.specs.declared.Answer.{Answer}
 use Rattle.measure.specs.declared.Ran.{Ran}
 use Rattle.exports.specs.Lamps.{lamp_of}
 use Rattle.exports.specs.Calls.{sent}
-use Rattle.measure.specs.Sums.{answer_added}
+use Rattle.measure.specs.Sums.{answer_added, unread_added}
 
 -- the words of the call k
 abbrev pub call_at : List ℕ → ℕ → List ℕ
 call_at calls k = take 10 (drop (k * 10) calls)
 
-abbrev pub after : Ran → Answer → Ran
-after r a = record { lamp = a.lamp; sums = answer_added r.sums a }
+-- one call more: its answer, or, of a kind past the last one, none
+abbrev pub after : Ran → Option Answer → Ran
+after r (Some a) = record { lamp = a.lamp; sums = answer_added r.sums a }
+after r None = record { lamp = r.lamp; sums = unread_added r.sums r.lamp }
 
 -- the lamp and the sums after the first k calls
 unfoldable pub ran : Lamp → List ℕ → ℕ → Ran

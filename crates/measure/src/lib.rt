@@ -6,7 +6,8 @@ mod sums;
 
 ghost use Rattle.std.specs.Prelude.{◌≡◌};
 ghost use Rattle.measure.specs.Readings.{masks_checksum, records_checksum};
-ghost use Rattle.measure.specs.Runs.{ran_all, checksum};
+ghost use Rattle.exports.specs.Calls as C;
+ghost use Rattle.measure.specs.Runs.{after, ran_all, checksum};
 
 use exports::{CALL_WORDS, lamp_of, sent};
 use lamp::Lamp;
@@ -19,24 +20,36 @@ pub struct Ran {
     pub sums: Sums,
 }
 
+impl Ran {
+    // One call more.
+    fn after(self, call: &[u64]) -> Ran
+        ensures { result ≡ after self (C.sent self.lamp call.now) }
+    {
+        match sent(self.lamp, call) {
+            Some(answer) => Ran {
+                lamp: answer.lamp,
+                sums: self.sums.add_answer(answer),
+            },
+            None => Ran {
+                lamp: self.lamp,
+                sums: self.sums.add_unread(self.lamp),
+            },
+        }
+    }
+}
+
 #[tactic(auto, unfolding(crate::specs::Runs::ran))]
 fn run(lamp: Lamp, calls: &[u64]) -> Ran
     ensures { result ≡ ran_all lamp calls.now }
 {
-    let mut now = lamp;
-    let mut sums = Sums { a: 0, b: 0 };
-    let count = calls.len() / CALL_WORDS;
-    for i in 0..count {
-        let from = i * CALL_WORDS;
-        let to = from + CALL_WORDS;
-        let answer = sent(now, &calls[from..to]);
-        sums = sums.add_answer(answer);
-        now = answer.lamp;
+    let mut ran = Ran {
+        lamp,
+        sums: Sums { a: 0, b: 0 },
+    };
+    for call in calls.chunks_exact(CALL_WORDS) {
+        ran = ran.after(call);
     }
-    Ran {
-        lamp: now,
-        sums: sums,
-    }
+    ran
 }
 
 // Runs the calls, ten words each, one after another on the lamp (28 words), and gives the checksum. The words are read
@@ -45,8 +58,7 @@ fn run(lamp: Lamp, calls: &[u64]) -> Ran
 pub extern "C" fn yemkruos_run(words: &[u64], calls: &[u64]) -> u64
     ensures { result ≡ checksum words.now calls.now }
 {
-    let ran = run(lamp_of(words), calls);
-    ran.sums.b
+    run(lamp_of(words), calls).sums.b
 }
 
 // Reads count and lowest place of 32 lamps from each of the masks, and gives the checksum.

@@ -26,19 +26,17 @@ fn of_mask(mask: u32) -> u64
     numbered(running_count(mask), lowest_running(mask))
 }
 
-// By the lamps, from the last to the first.
+// By the lamps.
 fn of_lamps(lamps: &[Lamp]) -> u64
     requires { length lamps.now ≤ 32 }
     ensures { result ≡ of_lamps lamps.now }
 {
     let mut count: u32 = 0;
     let mut lowest = None;
-    let mut i = lamps.len();
-    while 0 < i {
-        i -= 1;
-        if lamps[i].running.is_running() {
+    for (place, lamp) in lamps.iter().enumerate() {
+        if lamp.running.is_running() {
             count += 1;
-            lowest = Some(i as u8);
+            lowest = lowest.or(Some(place as u8));
         }
     }
     numbered(count, lowest)
@@ -61,10 +59,8 @@ pub(crate) fn masks(masks: &[u64]) -> Sums
     ensures { result ≡ masks_read (record { a = 0; b = 0 }) masks.now }
 {
     let mut sums = Sums { a: 0, b: 0 };
-    let mut i = 0;
-    while i < masks.len() {
-        sums = sums.add(of_mask((masks[i] % 4294967296) as u32));
-        i += 1;
+    for mask in masks {
+        sums = sums.add(of_mask((mask % 4294967296) as u32));
     }
     sums
 }
@@ -75,12 +71,9 @@ pub(crate) fn records(lamp: Lamp, turns: &[u64]) -> Sums
 {
     let mut lamps = [turned(lamp, 32); 32];
     let mut sums = Sums { a: 0, b: 0 };
-    let mut i = 0;
-    while i < turns.len() {
-        let turn = turns[i];
-        lamps[(turn % 32) as usize] = turned(lamp, turn);
+    for turn in turns {
+        lamps[(turn % 32) as usize] = turned(lamp, *turn);
         sums = sums.add(of_lamps(&lamps));
-        i += 1;
     }
     sums
 }

@@ -3,11 +3,12 @@
 ghost use Rattle.std.specs.Prelude.{◌≡◌};
 ghost use Rattle.exports.specs.Lamps.{color_words, looping_words, task_words, record_words, lamp_words};
 ghost use Rattle.exports.specs.Answers.{place_words};
-ghost use Rattle.measure.specs.Sums.{added, added_all, answer_added};
+ghost use Rattle.measure.specs.Sums.{added, added_all, answer_added, unread_added};
 
 use color::Color;
-use exports::{RecordNumbers, TaskNumbers, of_flag, of_given, of_running, place};
+use exports::{RecordNumbers, TaskNumbers, WordsError, of_flag, place};
 use lamp::{Answer, Lamp, LoopSettings};
+use matter::number_of;
 use notices::Notices;
 use std::num::wrapping_add_u64;
 
@@ -34,25 +35,22 @@ impl Sums {
         ensures { result ≡ added_all self (color_words color) }
     {
         let stamps = color.stamps;
-        let mode = color.mode;
-        let emode = color.emode;
         self.add(stamps.hue)
             .add(stamps.saturation)
             .add(stamps.mireds)
             .add(color.hue as u64)
             .add(color.saturation as u64)
             .add(color.mireds as u64)
-            .add(mode.number() as u64)
-            .add(emode.number() as u64)
+            .add(u8::from(color.mode) as u64)
+            .add(u8::from(color.emode) as u64)
     }
 
     #[tactic(auto, unfolding(crate::specs::Sums::added_all))]
     fn add_looping(self, looping: LoopSettings) -> Sums
         ensures { result ≡ added_all self (looping_words looping) }
     {
-        let direction = looping.direction;
         self.add(of_flag(looping.active))
-            .add(direction.number() as u64)
+            .add(u8::from(looping.direction) as u64)
             .add(looping.time as u64)
             .add(looping.start as u64)
             .add(looping.stored as u64)
@@ -75,29 +73,24 @@ impl Sums {
     fn add_record(self, record: RecordNumbers) -> Sums
         ensures { result ≡ added_all self (record_words «record») }
     {
-        let task = record.task;
         self.add(record.start)
             .add(record.x)
             .add(record.y)
-            .add_task(task)
+            .add_task(record.task)
     }
 
     #[tactic(auto, unfolding(crate::specs::Sums::added_all))]
     fn add_lamp(self, lamp: Lamp) -> Sums
         ensures { result ≡ added_all self (lamp_words lamp) }
     {
-        let remaining = lamp.remaining;
-        let color = lamp.color;
-        let looping = lamp.looping;
-        let running = lamp.running;
         self.add(lamp.bounds.min as u64)
             .add(lamp.bounds.max as u64)
             .add(lamp.clock)
             .add(lamp.options as u64)
-            .add(remaining.tenths as u64)
-            .add_color(color)
-            .add_looping(looping)
-            .add_record(of_running(running))
+            .add(lamp.remaining.tenths as u64)
+            .add_color(lamp.color)
+            .add_looping(lamp.looping)
+            .add_record(RecordNumbers::from(lamp.running))
     }
 
     #[tactic(auto, unfolding(crate::specs::Sums::added_all))]
@@ -127,13 +120,22 @@ impl Sums {
     pub(crate) fn add_answer(self, answer: Answer) -> Sums
         ensures { result ≡ answer_added self answer }
     {
-        let lamp = answer.lamp;
-        let notices = answer.notices;
-        let task = answer.task;
-        self.add_lamp(lamp)
-            .add(answer.number as u64)
-            .add_notices(notices)
-            .add_task(of_given(task))
+        self.add_lamp(answer.lamp)
+            .add(number_of(answer.verdict) as u64)
+            .add_notices(answer.notices)
+            .add_task(TaskNumbers::from(answer.task))
             .add(answer.wait)
+    }
+
+    // Of words that are no call: their number, and nothing given.
+    #[tactic(auto, unfolding(crate::specs::Sums::added_all, exports::specs::Moves::given_numbers))]
+    pub(crate) fn add_unread(self, lamp: Lamp) -> Sums
+        ensures { result ≡ unread_added self lamp }
+    {
+        self.add_lamp(lamp)
+            .add(u64::from(WordsError::UnreadableCall))
+            .add_notices(Notices::new())
+            .add_task(TaskNumbers::from(None))
+            .add(0)
     }
 }
