@@ -6,8 +6,7 @@ use mathlib.Core.List.{List, ◌++◌}
 use borrow.Author.Tests.{le-leb}
 use lib.Dec.{leb}
 use lib.ListN.{length}
-use Rattle.std.specs.Prelude.{Result, Ok, Err}
-use Rattle.matter.specs.declared.refusals.Refusal.{Refusal}
+use Rattle.std.specs.Prelude.{Ok}
 use Rattle.lamp.specs.Making.{making}
 use Rattle.rows.specs.declared.Row.{Row}
 use Rattle.rows.specs.declared.RowStepped.{RowStepped}

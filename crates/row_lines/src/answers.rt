@@ -94,20 +94,14 @@ fn shown<S: Sink>(row: Row, out: &mut S) -> RowTurn
 {
     text(out, b"ok");
     then_row(out, row);
-    RowTurn {
-        row,
-        task: None,
-    }
+    RowTurn { row, task: None }
 }
 
 fn error<S: Sink>(row: Row, out: &mut S) -> RowTurn
     ensures { Turned (unread row) S.push out.old out.new result }
 {
     text(out, b"error");
-    RowTurn {
-        row,
-        task: None,
-    }
+    RowTurn { row, task: None }
 }
 
 // A lamp as `new 153 500 31 0 0` makes it.
@@ -188,10 +182,7 @@ fn row_turning<S: Sink>(row: Row, out: &mut S) -> RowTurn
     ensures { Turned (says row (turning_text row.running_mask)) S.push out.old out.new result }
 {
     turning(row.running_mask, out);
-    RowTurn {
-        row,
-        task: None,
-    }
+    RowTurn { row, task: None }
 }
 
 // The byte at a place of a slice that is lent.
