@@ -3,8 +3,8 @@
 use call_lines::lines::{Line, Making, OnLamp};
 use call_lines::{leaves, lines};
 use lamp::{Answer, Call, Lamp};
-use tasks::Task;
 use lamp_lines::answers;
+use tasks::Task;
 use text::writer::{Sink, text};
 
 // The lamp, where there is one, and the task that was given last.
