@@ -21,13 +21,7 @@ pub fn permille(elapsed: u64, time: u32) -> u16 {
 
 /// A way or a rate beyond ±65,535, which no valid task has, is read as that limit.
 fn limited(signed: i64) -> i64 {
-    if 65535 < signed {
-        return 65535;
-    }
-    if signed < -65535 {
-        return -65535;
-    }
-    signed
+    signed.clamp(-65535, 65535)
 }
 
 /// The part of a signed way at so many thousandths. The fraction is dropped toward zero.
@@ -37,11 +31,7 @@ pub fn part(way: i64, permille: u16) -> i64 {
 
 /// An elapsed time past the limit of clocks is read as the limit.
 fn within_limit(elapsed: u64) -> u64 {
-    if CLOCK_LIMIT < elapsed {
-        CLOCK_LIMIT
-    } else {
-        elapsed
-    }
+    elapsed.min(CLOCK_LIMIT)
 }
 
 /// The signed way that a move at a rate per second has gone. The fraction is dropped toward zero.
@@ -85,11 +75,7 @@ pub fn loop_delta(direction: ColorLoopDirectionEnum, elapsed: u64, seconds: u16)
 
 /// Milliseconds in tenths of a second, rounded up.
 pub fn tenths(ms: u64) -> u64 {
-    let whole = ms / 100;
-    if ms % 100 == 0 {
-        return whole;
-    }
-    whole + 1
+    ms.div_ceil(100)
 }
 
 /// The sum of a start and a signed part, clamped to `lo` and `hi`; `lo` is checked first.
@@ -110,36 +96,21 @@ pub fn moved_saturation(start: u8, part: i64) -> u8 {
 
 /// The time from one clock to a later one; 0 where it is not later.
 pub fn elapsed(start: u64, clock: u64) -> u64 {
-    if clock < start {
-        return 0;
-    }
-    clock - start
+    clock.saturating_sub(start)
 }
 
 /// What is left of a move-to's time.
 pub fn time_left(elapsed: u64, time: u32) -> u64 {
-    let total = time as u64;
-    if total < elapsed {
-        return 0;
-    }
-    total - elapsed
+    u64::from(time).saturating_sub(elapsed)
 }
 
 /// The wait before a move-to's next step: its end, if that is nearer than a tick.
 pub fn wait_for_end(elapsed: u64, time: u32) -> u64 {
-    let left = time_left(elapsed, time);
-    if left < TICK {
-        return left;
-    }
-    TICK
+    time_left(elapsed, time).min(TICK)
 }
 
 /// The wait before the colour loop's next step: its next whole turn, if that is nearer than a tick.
 pub fn wait_for_turn(elapsed: u64, seconds: u16) -> u64 {
     let total = loop_ms(seconds);
-    let left = total - elapsed % total;
-    if left < TICK {
-        return left;
-    }
-    TICK
+    (total - elapsed % total).min(TICK)
 }

@@ -18,17 +18,12 @@ pub struct Written {
     pub remaining: RemainingTime,
 }
 
-/// How far apart two numbers are.
-fn abs_diff(a: u16, b: u16) -> u16 {
-    if a < b { b - a } else { a - b }
-}
-
 /// Whether a change from `prev` to `new_ds` is reported: to 0, from 0 to more than a second, or, at a transition's start,
 /// by more than a second.
 fn is_reported(prev: u16, new_ds: u16, is_start_of_transition: bool) -> bool {
     let changed_to_zero = (new_ds == 0) & !(prev == 0);
     let changed_from_zero_gt_10 = (prev == 0) & (10 < new_ds);
-    let changed_by_gt_10 = (10 < abs_diff(new_ds, prev)) & is_start_of_transition;
+    let changed_by_gt_10 = (10 < new_ds.abs_diff(prev)) & is_start_of_transition;
     changed_to_zero | changed_from_zero_gt_10 | changed_by_gt_10
 }
 

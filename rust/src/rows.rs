@@ -6,18 +6,17 @@ use crate::commands::call;
 use crate::lamp::Answer;
 use crate::lamp::Call;
 use crate::lamp::Lamp;
-use crate::matter::ACCEPTED;
 use crate::matter::CLOCK_LIMIT;
-use crate::matter::CLOCK_REFUSED;
-use crate::matter::INVALID_LAMP;
-use crate::matter::NO_PLACE;
-use crate::matter::SHORT_SLICE;
+use crate::matter::Refusal;
+use crate::matter::number_of;
 use crate::notices::Notices;
+use crate::tasks::Task;
 
 /// The most lamps of a row.
 pub const MOST: u8 = 32;
 
-/// The first `count` lamps are the row; those behind them are no part of it. Bit k of the running mask is set exactly where
+/// The first `count` lamps are the row; those behind them are no part of it. An array with a count beside it, since a row's
+/// memory is fixed and no heap is used. Bit k of the running mask is set exactly where
 /// lamp k of the row runs; a row whose mask says otherwise is invalid.
 #[derive(Clone, Copy, Debug, PartialEq, Eq)]
 pub struct Row {
@@ -26,17 +25,11 @@ pub struct Row {
     pub lamps: [Lamp; 32],
 }
 
-/// The lowest place of a row at which a lamp runs.
-#[derive(Clone, Copy, Debug, PartialEq, Eq)]
-pub enum Option<u8> {
-    Nothing,
-    At(u8),
-}
-
-/// What a row call gives: 0 or the number of its refusal, the row after it, and the least wait of the lamps that run on.
+/// What a row call gives: that it is accepted or why it is refused, the row after it, and the least wait of the lamps that
+/// run on.
 #[derive(Clone, Copy, Debug, PartialEq, Eq)]
 pub struct RowStepped {
-    pub number: u8,
+    pub verdict: Result<(), Refusal>,
     pub row: Row,
     pub wait: u64,
 }
@@ -44,7 +37,7 @@ pub struct RowStepped {
 /// What a call at a place gives: its lamp's answer, with the row in place of the lamp.
 #[derive(Clone, Copy, Debug, PartialEq, Eq)]
 pub struct RowAnswer {
-    pub number: u8,
+    pub verdict: Result<(), Refusal>,
     pub row: Row,
     pub notices: Notices,
     pub task: Option<Task>,
@@ -67,10 +60,8 @@ pub fn lowest_running(mask: u32) -> Option<u8> {
 /// The mask of these lamps.
 fn mask_of(lamps: &[Lamp]) -> u32 {
     let mut mask: u32 = 0;
-    let mut i = lamps.len();
-    while 0 < i {
-        i -= 1;
-        mask = 2 * mask + (lamps[i].running.is_running() as u32);
+    for (place, lamp) in lamps.iter().enumerate() {
+        mask |= (lamp.running.is_running() as u32) << place;
     }
     mask
 }
@@ -82,17 +73,16 @@ fn with_bit(mask: u32, place: u8, is_set: bool) -> u32 {
 }
 
 /// How many places of the array are a row's.
-fn placed_count(count: u8) -> usize {
-    if count < MOST { count as usize } else { 32 }
+pub fn placed_count(count: u8) -> usize {
+    count.min(MOST) as usize
 }
 
-/// What a row call does at one place: a lamp that runs is stepped, an idle one stays. The number is the lamp's own cause.
+/// What a row call does at one place: a lamp that runs is stepped, an idle one stays. The verdict is the lamp's own cause.
 fn visit(lamp: Lamp, clock: u64) -> Answer {
-    let running = lamp.running;
-    if running.is_running() {
+    if lamp.running.is_running() {
         return lamp.step(clock);
     }
-    lamp.refused(lamp.first_cause(clock))
+    lamp.unchanged(lamp.first_cause(clock))
 }
 
 /// The lesser of two waits, where 0 is none.
@@ -103,32 +93,30 @@ fn least(a: u64, b: u64) -> u64 {
     if b == 0 {
         return a;
     }
-    if a < b { a } else { b }
+    a.min(b)
 }
 
 /// Of two causes the one that is checked first: 8 before 4, and either before none.
-fn first_of(a: u8, b: u8) -> u8 {
-    if a < b { b } else { a }
+fn first_of(a: Result<(), Refusal>, b: Result<(), Refusal>) -> Result<(), Refusal> {
+    if number_of(a) < number_of(b) { b } else { a }
 }
 
 /// A clock above the limit, which a row of no lamps refuses too.
-fn limit_cause(clock: u64) -> u8 {
+fn limit_cause(clock: u64) -> Result<(), Refusal> {
     if CLOCK_LIMIT < clock {
-        CLOCK_REFUSED
-    } else {
-        ACCEPTED
+        return Err(Refusal::Clock);
     }
+    Ok(())
 }
 
-/// The first bytes of one slice at a place of another.
-fn copy(from: &[u8], many: usize, out: &mut [u8], at: usize) {
-    let end = at + many;
-    out[at..end].copy_from_slice(&from[..many]);
+/// The bytes of one slice at a place of another.
+fn copy(from: &[u8], out: &mut [u8], at: usize) {
+    out[at..at + from.len()].copy_from_slice(from);
 }
 
 /// Sixteen bytes at a place of a slice.
 fn put(bytes: [u8; 16], out: &mut [u8], at: usize) {
-    copy(&bytes, 16, out, at)
+    copy(&bytes, out, at)
 }
 
 impl Row {
@@ -163,17 +151,17 @@ impl Row {
         self.running_mask == mask_of(&self.lamps[..placed_count(self.count)])
     }
 
-    fn refused(self, number: u8) -> RowStepped {
+    fn refused(self, cause: Refusal) -> RowStepped {
         RowStepped {
-            number,
+            verdict: Err(cause),
             row: self,
             wait: 0,
         }
     }
 
-    fn refused_at(self, number: u8) -> RowAnswer {
+    fn refused_at(self, cause: Refusal) -> RowAnswer {
         RowAnswer {
-            number,
+            verdict: Err(cause),
             row: self,
             notices: Notices::new(),
             task: None,
@@ -187,94 +175,80 @@ impl Row {
     }
 
     /// What is checked before the lamps' own causes: the count, the slice, and the mask.
-    fn slice_cause(self, size: usize) -> u8 {
+    fn slice_cause(self, size: usize) -> Result<(), Refusal> {
         if self.too_many() {
-            return INVALID_LAMP;
+            return Err(Refusal::InvalidLamp);
         }
         if size < 16 * (self.count as usize) {
-            return SHORT_SLICE;
+            return Err(Refusal::ShortSlice);
         }
         if !self.is_mask_true() {
-            return INVALID_LAMP;
+            return Err(Refusal::InvalidLamp);
         }
-        ACCEPTED
+        Ok(())
     }
 
     /// Every lamp of the row is visited, in rising place: the row then, the least wait, and the first of their causes. What
     /// they report goes into `bytes`.
     fn visit_all(self, bytes: &mut [u8], clock: u64) -> RowStepped {
-        let n = self.count as usize;
-        let mut next = self;
+        let mut lamps = self.lamps;
         let mut wait: u64 = 0;
-        let mut number: u8 = ACCEPTED;
-        let mut i: usize = 0;
-        while i < n {
-            let lamp = self.lamps[i];
-            let a = visit(lamp, clock);
-            let l = a.lamp;
-            next.lamps[i] = l;
-            let reported = a.notices;
-            let places = reported.places;
-            put(places, bytes, 16 * i);
+        let mut verdict: Result<(), Refusal> = Ok(());
+        let n = self.count as usize;
+        for (place, lamp) in self.lamps[..n].iter().enumerate() {
+            let a = visit(*lamp, clock);
+            lamps[place] = a.lamp;
+            put(a.notices.places, bytes, 16 * place);
             wait = least(wait, a.wait);
-            number = first_of(number, a.number);
-            i += 1;
+            verdict = first_of(verdict, a.verdict);
         }
-        next.running_mask = mask_of(&next.lamps[..n]);
         RowStepped {
-            number,
-            row: next,
+            verdict,
+            row: Row::new(self.count, lamps),
             wait,
         }
     }
 
     /// One call at one clock: every lamp that runs is stepped, in rising place, and reports into its sixteen bytes.
     pub fn step(self, out: &mut [u8], clock: u64) -> RowStepped {
-        let early = self.slice_cause(out.len());
-        if early != ACCEPTED {
-            return self.refused(early);
+        if let Err(cause) = self.slice_cause(out.len()) {
+            return self.refused(cause);
         }
         let mut bytes: [u8; 512] = [0; 512];
         let next = self.visit_all(&mut bytes, clock);
-        let number = first_of(limit_cause(clock), next.number);
-        if number != ACCEPTED {
-            return self.refused(number);
+        if let Err(cause) = first_of(limit_cause(clock), next.verdict) {
+            return self.refused(cause);
         }
-        copy(&bytes, 16 * (self.count as usize), out, 0);
+        copy(&bytes[..16 * (self.count as usize)], out, 0);
         next
     }
 
     /// What is checked before the lamp: the count, the place, and the mask.
-    fn place_cause(self, place: u8) -> u8 {
+    fn place_cause(self, place: u8) -> Result<(), Refusal> {
         if self.too_many() {
-            return INVALID_LAMP;
+            return Err(Refusal::InvalidLamp);
         }
         if self.count <= place {
-            return NO_PLACE;
+            return Err(Refusal::NoPlace);
         }
         if !self.is_mask_true() {
-            return INVALID_LAMP;
+            return Err(Refusal::InvalidLamp);
         }
-        ACCEPTED
+        Ok(())
     }
 
     /// Any call of the lamp at a place.
     pub fn call_at(self, place: u8, asked: Call) -> RowAnswer {
-        let number = self.place_cause(place);
-        if number != ACCEPTED {
-            return self.refused_at(number);
+        if let Err(cause) = self.place_cause(place) {
+            return self.refused_at(cause);
         }
-        let at = place as usize;
-        let lamp = self.lamps[at];
+        let lamp = self.lamps[place as usize];
         let a = call(lamp, asked);
-        let next = a.lamp;
-        let reported = a.notices;
-        let task = a.task;
         RowAnswer {
-            number: a.number,
-            row: self.with_lamp_at(place, next),
-            notices: reported,
-            task: task,
+            verdict: a.verdict,
+            row: self.with_lamp_at(place, a.lamp),
+            notices: a.notices,
+            task: a.task,
             wait: a.wait,
         }
     }
