@@ -120,7 +120,7 @@ fn start(task: Task, clock: u64) -> lamp::Call {
 
 /// The answer where nothing but the lamp is changed, and nothing reported.
 fn quiet(lamp: Lamp) -> Answer {
-    lamp.refused(0)
+    lamp.unchanged(Ok(()))
 }
 
 /// A command by the function of its name.
