@@ -93,6 +93,7 @@ impl Sums {
             .add_record(RecordNumbers::from(lamp.running))
     }
 
+    // Place by place: the definition lists them, and the proof of a loop would need a case for each.
     #[tactic(auto, unfolding(crate::specs::Sums::added_all))]
     fn add_notices(self, notices: Notices) -> Sums
         ensures { result ≡ added_all self (place_words notices) }
