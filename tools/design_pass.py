@@ -171,7 +171,7 @@ def point6():
 def point7():
     for path in FILES:
         for n, sign, body in functions(bare(path.read_text())):
-            k = len(re.findall(r"\bif (?:words::is\(|self\.kind (?:==|<=)|kind ==)", body))
+            k = len(re.findall(r"\bif (?:words::is\(|name == b|self\.kind (?:==|<=)|kind ==)", body))
             if k >= 3:
                 yield path, f"fn {n}: {k} tests of one word or kind, one after the other"
 
