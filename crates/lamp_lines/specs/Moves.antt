@@ -1,6 +1,5 @@
 -- Tasks by their names, each with what it asks for.
-use Rattle.std.specs.Prelude.{Option, Some, None, ℤ}
-use Rattle.std.specs.Prelude.{ℕ, List, [], ◌∷◌, Option, Some, None, option_map}
+use Rattle.std.specs.Prelude.{ℕ, ℤ, List, [], ◌∷◌, Option, Some, None, option_map}
 use Rattle.tasks.specs.declared.Task.{Task}
 use Rattle.text.specs.Numbers.{number_of, signed_of}
 use Rattle.text.specs.Readers.{Reader, give, ◌then◌, by_word, number16, number32, flag, signed, or_dash, Row}
@@ -12,10 +11,10 @@ abbrev pub dashed : {A : Type 0} → (List ℕ → Option A) → Reader (Option 
 dashed of = by_word (or_dash None (λ w. option_map (λ x. Some x) (of w)))
 
 unfoldable pub delta_at : Reader (Option ℤ)
-delta_at = by_word (or_dash None (λ w. option_map (λ delta. Some delta) (signed_of w)))
+delta_at = dashed signed_of
 
 unfoldable pub target_at : Reader (Option ℕ)
-target_at = by_word (or_dash None (λ w. option_map (λ n. Some n) (number_of 255 w)))
+target_at = dashed (number_of 255)
 
 -- <way|-> <sat|-> <ms> <enhanced>
 unfoldable pub move_to_at : Reader Task

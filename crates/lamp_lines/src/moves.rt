@@ -1,6 +1,6 @@
 // Reading a task: by its name, what it asks for. A record has the same numbers after its initial values.
 ghost use Rattle.text.specs.Readers.{Reads};
-ghost use Rattle.lamp_lines.specs.Moves.{dashed, delta_at, target_at, move_to_at, hue_move_at, saturation_move_at, mireds_to_at, mireds_move_at, color_loop_at, task_at};
+ghost use Rattle.lamp_lines.specs.Moves.{dashed, move_to_at, hue_move_at, saturation_move_at, mireds_to_at, mireds_move_at, color_loop_at, task_at};
 
 use crate::enums::enumerated;
 use tasks::{
@@ -20,33 +20,13 @@ fn dashed<T: FromWord>(words: &mut Words) -> Option<Option<T>>
     }
 }
 
-#[tactic(auto, unfolding(crate::specs::Moves::delta_at))]
-fn delta(words: &mut Words) -> Option<Option<i64>>
-    ensures { Reads (delta_at words.old) result words.new }
-{
-    match dashed(words)? {
-        Some(delta) => Some(Some(delta)),
-        None => Some(None),
-    }
-}
-
-#[tactic(auto, unfolding(crate::specs::Moves::target_at))]
-fn target(words: &mut Words) -> Option<Option<u8>>
-    ensures { Reads (target_at words.old) result words.new }
-{
-    match dashed(words)? {
-        Some(saturation) => Some(Some(saturation)),
-        None => Some(None),
-    }
-}
-
-#[tactic(auto, unfolding(crate::specs::Moves::move_to_at))]
+#[tactic(auto, unfolding(crate::specs::Moves::move_to_at, crate::specs::Moves::delta_at, crate::specs::Moves::target_at))]
 fn move_to(words: &mut Words) -> Option<Task>
     ensures { Reads (move_to_at words.old) result words.new }
 {
     Some(Task::HueSaturationMoveTo(HueSaturationMoveTo {
-        delta: delta(words)?,
-        saturation: target(words)?,
+        delta: dashed(words)?,
+        saturation: dashed(words)?,
         ms: words.read()?,
         enhanced: words.read()?,
     }))
