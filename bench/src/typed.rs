@@ -4,6 +4,7 @@
 use crate_side::{Ours, Theirs};
 use yemkruos::lamp::{Answer, Call, Lamp};
 use yemkruos::matter::number_of;
+use yemkruos::notices::Notices;
 use yemkruos::tasks::Running;
 
 use crate::rows::Row;
@@ -44,21 +45,22 @@ fn call(timed: &words::Timed) -> Option<Call> {
 }
 
 #[inline(always)]
-fn fold(sums: &mut Sums, answer: &Answer) {
-    sums.add_all(&words::of_fields(&crate_side::fields(&answer.lamp)));
-    let record = crate_side::record(&answer.lamp.running);
+fn fold(sums: &mut Sums, lamp: &Lamp, number: u8, given: Option<&Answer>) {
+    sums.add_all(&words::of_fields(&crate_side::fields(lamp)));
+    let record = crate_side::record(&lamp.running);
     sums.add_all(&record.map_or(IDLE, |r| words::of_record(&r)));
-    sums.add(number_of(answer.verdict).into());
+    sums.add(number.into());
     let mut places = [0u8; 16];
-    for (place, notice) in places.iter_mut().zip(answer.notices) {
+    let notices = given.map_or_else(Notices::new, |answer| answer.notices);
+    for (place, notice) in places.iter_mut().zip(notices) {
         *place = notice.number();
     }
     for place in places {
         sums.add(place.into());
     }
-    let task = answer.given_task();
+    let task = given.and_then(Answer::given_task);
     sums.add_all(&task.map_or(NO_TASK, |t| words::of_task(&t.theirs())));
-    sums.add(answer.wait);
+    sums.add(given.map_or(0, |answer| answer.wait));
 }
 
 /// A lamp with its record as words.
@@ -77,12 +79,14 @@ pub fn run(row: &Typed) -> u64 {
     let mut lamp = row.lamp;
     let mut sums = Sums::default();
     for call in &row.calls {
-        let answer = match call {
-            Some(call) => yemkruos::commands::call(lamp, *call),
-            None => lamp.refused(UNREADABLE),
-        };
-        fold(&mut sums, &answer);
-        lamp = answer.lamp;
+        match call {
+            Some(call) => {
+                let answer = yemkruos::commands::call(lamp, *call);
+                lamp = answer.lamp;
+                fold(&mut sums, &lamp, number_of(answer.verdict), Some(&answer));
+            }
+            None => fold(&mut sums, &lamp, UNREADABLE, None),
+        }
     }
     sums.b
 }
