@@ -2,8 +2,8 @@
 //! row call every tenth of a second.
 
 use yemkruos::{
-    ALL_FEATURES, Bounds, Command, DirectionEnum, NewLamp, Notice, OnOff, Refusal, Row,
-    Task, lowest_running, notices_at, running_count,
+    ALL_FEATURES, Bounds, Command, DirectionEnum, NewLamp, Notice, OnOff, Refusal, Row, Task,
+    lowest_running, notices_at, running_count,
 };
 
 const BLOCKS: u8 = 10;

@@ -25,8 +25,10 @@ macro_rules! numbered {
             pub const ALL: &'static [Self] = &[$(Self::$case),*];
 
             /// The number of documents 01 and 02.
-            pub fn number(self) -> u8 {
-                self.into()
+            pub const fn number(self) -> u8 {
+                match self {
+                    $(Self::$case => $number,)*
+                }
             }
 
             /// What has this number, if anything has.

@@ -2,7 +2,7 @@
 
 use yemkruos::hue;
 use yemkruos::matter::{self, CLOCK_LIMIT};
-use yemkruos::tasks::{HueSaturationMoveTo};
+use yemkruos::tasks::HueSaturationMoveTo;
 use yemkruos::{
     ALL_FEATURES, Band, Bounds, Call, Command, DirectionEnum, Lamp, NewLamp, Notice, OnOff,
     Refusal, Row, Task, lowest_running, notices_at, passes_through, plain_passes_through,
@@ -29,14 +29,14 @@ fn numbers_and_names_agree() {
     assert!(
         refusals
             .into_iter()
-            .all(|(n, r)| Refusal::of_number(n) == Some(r))
+            .all(|(n, r)| Refusal::of_number(n) == Some(r) && n == u8::from(r))
     );
     let notices = Notice::ALL.iter().map(|n| (n.number(), *n));
     assert!(notices.clone().map(|(n, _)| n).eq(1..=18));
     assert!(
         notices
             .into_iter()
-            .all(|(n, r)| Notice::of_number(n) == Some(r))
+            .all(|(n, r)| Notice::of_number(n) == Some(r) && n == u8::from(r))
     );
     assert_eq!(matter::number_of(Ok(())), 0);
     assert_eq!(Refusal::of_number(0), None);
@@ -256,9 +256,7 @@ fn read_each(row: &Row) -> (u32, Option<u8>) {
     let runs: Vec<u8> = (0..row.count)
         .filter(|place| row.lamps[usize::from(*place)].running.is_running())
         .collect();
-    let lowest = runs
-        .first()
-        .map_or(None, |place| Some(*place));
+    let lowest = runs.first().map_or(None, |place| Some(*place));
     (runs.len() as u32, lowest)
 }
 

@@ -1,9 +1,9 @@
 //! An answer as its line.
 
-use yemkruos::{Answer, Refusal};
 use yemkruos::lamp::Lamp;
 use yemkruos::notices::Notices;
 use yemkruos::tasks::Task;
+use yemkruos::{Answer, Refusal};
 
 fn fields(lamp: &Lamp) -> String {
     let (color, looping) = (&lamp.color, &lamp.looping);
@@ -93,7 +93,13 @@ pub fn answer(answer: &Answer) -> String {
     )
 }
 
-pub fn parts(verdict: Result<(), Refusal>, lamp: &Lamp, notices: &Notices, given: Option<Task>, wait: u64) -> String {
+pub fn parts(
+    verdict: Result<(), Refusal>,
+    lamp: &Lamp,
+    notices: &Notices,
+    given: Option<Task>,
+    wait: u64,
+) -> String {
     let notices: Vec<String> = notices.iter().map(|n| n.number().to_string()).collect();
     let parts = [
         status(verdict),
