@@ -88,8 +88,6 @@ commands =
     ∷ "stop_move_step" means give Command.StopMoveStep
     ∷ []
 
--- and before them those of the hue
-
 -- the command of a name, with its arguments behind it
 unfoldable pub command_at : List ℕ → Reader Command
 command_at = named commands unknown

@@ -5,7 +5,7 @@ use Rattle.tasks.specs.declared.Running.{Running}
 use Rattle.lamp.specs.declared.Answer.{Answer}
 use Rattle.lamp.specs.declared.Call.{Call}
 use Rattle.lamp.specs.declared.Lamp.{Lamp}
-use Rattle.std.specs.Prelude.{Result, Ok, Err}
+use Rattle.std.specs.Prelude.{Result}
 use Rattle.matter.specs.declared.refusals.Refusal.{Refusal}
 use Rattle.lamp.specs.Answers.{refusal}
 use Rattle.lamp.specs.Making.{making}

@@ -70,6 +70,7 @@ fn report<S: Sink>(out: &mut S, line: Line)
     out.byte(b'\n');
 }
 
+// The number as it is printed, whatever byte it is: the text is defined for each.
 #[tactic(auto, unfolding(crate::specs::Text::refused_text))]
 fn refusal<S: Sink>(out: &mut S, number: u8)
     ensures { out.new ≡ fold S.push out.old (refused_text number) }
@@ -91,6 +92,7 @@ pub fn write_line(out: &mut [u8], at: usize, line: Line) -> usize
     to.at
 }
 
+// The number is printed as it is.
 pub fn write_refused(out: &mut [u8], at: usize, number: u8) -> usize
     ensures value { result ≡ at + length (fitting out.old at (refused_text number)) }
     ensures out_after { out.new ≡ pasted out.old at (fitting out.old at (refused_text number)) }

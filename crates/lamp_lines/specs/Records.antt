@@ -1,8 +1,8 @@
 -- Running records: a task's name, the clock and the initial values at its start, and the task's numbers.
-use Rattle.std.specs.Prelude.{ℕ, List, [], ◌∷◌, Option, Some, None, option_and_then, option_map}
+use Rattle.std.specs.Prelude.{ℕ, List, [], ◌∷◌, Option, Some, None}
 use Rattle.tasks.specs.declared.Running.{Running}
 use Rattle.tasks.specs.declared.Task.{Task}
-use Rattle.text.specs.Readers.{Read, Reader, give, ◌then◌, number8, number16, number64, ◌means◌, named, by_next}
+use Rattle.text.specs.Readers.{Reader, give, behind, ◌then◌, number8, number16, number64, ◌means◌, named, by_next}
 use Rattle.lamp_lines.specs.declared.records.Initial.{Initial}
 use Rattle.lamp_lines.specs.Moves.{task_at}
 
@@ -45,8 +45,7 @@ record_of s Task.Stop = None
 -- a record by its task's name: the initial values, and the task's numbers
 abbrev pub record_at : List ℕ → Reader Running
 record_at name line =
-    option_and_then
-    (λ (r : Read (Option Running)). option_map (λ running. record { value = running; rest = r.rest }) r.value)
+    behind (λ made rest. record { value = made; rest = rest })
     ((give record_of then initial_at name then task_at name) line)
 
 -- `idle`, or a record

@@ -4,7 +4,7 @@ use Rattle.std.specs.Str.{bytes_eq}
 use Prim.Native.String.{String}
 use Rattle.text.specs.Ascii.{ascii}
 use Rattle.text.specs.Words.{first_word, behind_word}
-use Rattle.text.specs.Readers.{Read, Reader, Row, give, ◌then◌, number8, number16, number32, number64, word, by_next, at_end, ◌means◌, named}
+use Rattle.text.specs.Readers.{Reader, Row, give, ◌then◌, number8, number16, number32, number64, word, by_next, at_end, ◌means◌, named}
 use Rattle.call_lines.specs.Lines.{line_at}
 use Rattle.row_lines.specs.declared.lines.OnRow.{OnRow}
 use Rattle.row_lines.specs.declared.lines.RowLine.{RowLine}
@@ -41,7 +41,7 @@ lamp_line_at name = give RowLine.Lamp then line_at name
 
 -- whether a word is the next
 abbrev pub is_next : String → List ℕ → Bool
-is_next name line = unwrap_or (option_map (λ (w : Read (List ℕ)). bytes_eq w.value (ascii name)) (word line)) false
+is_next name line = unwrap_or (option_map (λ w. bytes_eq w (ascii name)) (word line).value) false
 
 -- `leaf running <word>`; any other leaf is the lamp's
 unfoldable pub leaf_line_at : Reader RowLine

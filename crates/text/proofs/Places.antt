@@ -1,5 +1,5 @@
 -- The words of a line by places in it: what the readers read of what is left behind a place, said of the whole line.
-use Prim.Native.Nat.{ℕ, ◌+◌, ◌*◌, ◌-◌, ◌≤◌, ◌<◌}
+use Prim.Native.Nat.{ℕ, ◌+◌, ◌≤◌, ◌<◌}
 use native.Mathlib.Omega.{arith}
 use mathlib.Core.Path.{◌≡◌, refl, sym}
 use mathlib.Core.Logic.{⊎_elim}
@@ -9,11 +9,11 @@ use borrow.Author.Tests.{eq-eqb, ne_eqb}
 use lib.Dec.{eqb, leb}
 use lib.ListN.{length, get_or, drop, drop_of_length-le, get_or-eq_default}
 use lib.Seq.{drop-drop}
-use Rattle.std.proofs.Common.{Option, Some, None}
+use Rattle.std.proofs.Common.{Some}
 use Rattle.std.proofs.lemmas.List.{drop_more}
 use Rattle.text.specs.Digits.{not_empty, digits_alone, value_from, value}
-use Rattle.text.specs.Words.{up_to, first_word, behind_word}
-use Rattle.text.specs.Readers.{Read, word}
+use Rattle.text.specs.Words.{up_to, first_word}
+use Rattle.text.specs.Readers.{word, unknown}
 use Rattle.text.proofs.WriteLaws.{side}
 
 -- the place of the first such byte from a place on
@@ -34,7 +34,7 @@ end_of line from = from + length (word_at line from)
 
 -- behind a blank at a place, the next word is read, and what is left is what stands behind its end
 pub read_at : (line : List ℕ) (at : ℕ)
-    → word (drop at line) ≡ cond (eqb (get_or line at 0) 32) (Some (record { value = word_at line (at + 1); rest = drop (end_of line (at + 1)) line })) None
+    → word (drop at line) ≡ cond (eqb (get_or line at 0) 32) (record { value = Some (word_at line (at + 1)); rest = drop (end_of line (at + 1)) line }) (unknown (drop at line))
 unfolding word
 read_at line at =
     ⊎_elim

@@ -1,7 +1,7 @@
 -- Bytes that are a word of a line: two hexadecimal digits each.
 use Rattle.std.specs.Prelude.{ℕ, ◌+◌, ◌*◌, Bool, true, false, cond, ◌&&◌, List, [], ◌∷◌, leb, length, Option, Some, None, unwrap_or, option_map}
 use Rattle.text.specs.Digits.{not_empty, is_hex_digit, hex_value}
-use Rattle.text.specs.Readers.{Read, Reader, by_word}
+use Rattle.text.specs.Readers.{Reader, by_word}
 
 unfoldable pub is_pairs : List ℕ → Bool
 is_pairs [] = true
@@ -27,7 +27,7 @@ or_none bytes = unwrap_or bytes []
 
 -- those of the next word
 abbrev pub bytes_taken : ℕ → List ℕ → List ℕ
-bytes_taken room line = or_none (option_map (λ (r : Read (List ℕ)). r.value) (by_word (bytes_in room) line))
+bytes_taken room line = or_none (by_word (bytes_in room) line).value
 
 -- how many they are
 abbrev pub bytes_read : ℕ → Reader ℕ

@@ -1,4 +1,4 @@
--- What writing a text into a slice does. Every writer has one contract, `Written`.
+-- Writing a text into a slice. `buffer::write` has the contract `Written`; a writer puts its text into any sink.
 use Rattle.std.specs.Prelude.{ℕ, ◌+◌, ◌-◌, ◌≡◌, List, ◌++◌, length, take, drop}
 
 -- a slice's bytes with a text in them from `at` on
