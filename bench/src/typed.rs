@@ -4,7 +4,6 @@
 use crate_side::{Ours, Theirs};
 use yemkruos::lamp::{Answer, Call, Lamp};
 use yemkruos::matter::number_of;
-use yemkruos::notices::Notices;
 use yemkruos::tasks::Running;
 
 use crate::rows::Row;
@@ -45,22 +44,21 @@ fn call(timed: &words::Timed) -> Option<Call> {
 }
 
 #[inline(always)]
-fn fold(sums: &mut Sums, lamp: &Lamp, number: u8, given: Option<&Answer>) {
-    sums.add_all(&words::of_fields(&crate_side::fields(lamp)));
-    let record = crate_side::record(&lamp.running);
+fn fold(sums: &mut Sums, answer: &Answer, number: u8) {
+    sums.add_all(&words::of_fields(&crate_side::fields(&answer.lamp)));
+    let record = crate_side::record(&answer.lamp.running);
     sums.add_all(&record.map_or(IDLE, |r| words::of_record(&r)));
     sums.add(number.into());
     let mut places = [0u8; 16];
-    let notices = given.map_or_else(Notices::new, |answer| answer.notices);
-    for (place, notice) in places.iter_mut().zip(notices) {
+    for (place, notice) in places.iter_mut().zip(answer.notices) {
         *place = notice.number();
     }
     for place in places {
         sums.add(place.into());
     }
-    let task = given.and_then(Answer::given_task);
+    let task = answer.given_task();
     sums.add_all(&task.map_or(NO_TASK, |t| words::of_task(&t.theirs())));
-    sums.add(given.map_or(0, |answer| answer.wait));
+    sums.add(answer.wait);
 }
 
 /// A lamp with its record as words.
@@ -79,14 +77,15 @@ pub fn run(row: &Typed) -> u64 {
     let mut lamp = row.lamp;
     let mut sums = Sums::default();
     for call in &row.calls {
-        match call {
+        let (answer, number) = match call {
             Some(call) => {
                 let answer = yemkruos::commands::call(lamp, *call);
-                lamp = answer.lamp;
-                fold(&mut sums, &lamp, number_of(answer.verdict), Some(&answer));
+                (answer, number_of(answer.verdict))
             }
-            None => fold(&mut sums, &lamp, UNREADABLE, None),
-        }
+            None => (lamp.unchanged(Ok(())), UNREADABLE),
+        };
+        fold(&mut sums, &answer, number);
+        lamp = answer.lamp;
     }
     sums.b
 }
