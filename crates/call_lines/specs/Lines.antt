@@ -7,7 +7,7 @@ use Rattle.lamp.specs.declared.Call.{Call}
 use Rattle.lamp.specs.declared.Lamp.{Lamp}
 use Rattle.std.specs.Prelude.{Result}
 use Rattle.matter.specs.declared.refusals.Refusal.{Refusal}
-use Rattle.lamp.specs.Answers.{refusal}
+use Rattle.lamp.specs.Answers.{unchanged}
 use Rattle.lamp.specs.Making.{making}
 use Rattle.lamp.specs.Passes.{changed}
 use Rattle.commands.specs.Answers.{answer}
@@ -78,7 +78,7 @@ made m = making m.bounds m.features m.options m.clock
 
 -- a lamp that was put in place or shown: nothing is reported
 abbrev pub shown_answer : Lamp → Answer
-shown_answer l = refusal l accepted
+shown_answer l = unchanged l accepted
 
 -- the lamp with another running record
 abbrev pub with_record : Lamp → Running → Lamp

@@ -120,7 +120,7 @@ fn poked(lamp: Lamp, fields: Lamp) -> Answer
 {
     let running = lamp.running;
     shown(Lamp {
-        running: running,
+        running,
         ..fields
     })
 }
@@ -129,7 +129,7 @@ fn recorded(lamp: Lamp, running: Running) -> Answer
     ensures { result ≡ shown_answer (with_record lamp running) }
 {
     shown(Lamp {
-        running: running,
+        running,
         ..lamp
     })
 }

@@ -85,7 +85,7 @@ commands-bytes l r on_off =
 
 -- the answer from the lamp before, the clock and the outcome, where there is one
 abbrev pub answer_of : Lamp → ℕ → Result Outcome Refusal → Answer
-answer_of l clock (Err cause) = refusal l (Err cause)
+answer_of l clock (Err cause) = refusal l cause
 answer_of l clock (Ok o) =
     record {
       verdict = accepted;

@@ -29,7 +29,7 @@ use Rattle.tasks.specs.declared.Task.{Task}
 use Rattle.lamp.specs.declared.Lamp.{Lamp}
 use Rattle.lamp.specs.declared.LoopSettings.{LoopSettings}
 use Rattle.lamp.specs.declared.Answer.{Answer}
-use Rattle.lamp.specs.Answers.{at_clock, first_cause, refusal}
+use Rattle.lamp.specs.Answers.{at_clock, first_cause, unchanged}
 use Rattle.lamp.specs.Calls.{start_cause, step_cause, start_answer, step_answer, halt_answer}
 use Rattle.lamp.specs.Valid.{lamp_valid}
 use Rattle.lamp.proofs.Kept.{valid-clock, valid-color, valid-running, valid-of, no-cause, ready, start-ready, step-ready, choose-both, start-valid, step-valid, halt-valid}
@@ -45,7 +45,7 @@ use Rattle.commands.specs.Commands.{CommandEffect, skip, giving_with, checks, wi
 
 module _ (l : Lamp) where
   -- what holds of both holds of the answer
-  pub answer-both : (P : Answer → Type 0) (x : Call) → (cause l x ≡ accepted → P (granted l x)) → ((cause l x ≡ accepted → ⊥) → P (refusal l (cause l x))) → P (answer l x)
+  pub answer-both : (P : Answer → Type 0) (x : Call) → (cause l x ≡ accepted → P (granted l x)) → ((cause l x ≡ accepted → ⊥) → P (unchanged l (cause l x))) → P (answer l x)
   unfolding cause answer command_answer start_answer step_answer halt_answer
   answer-both P (Call.Command r on_off clock) h k = choose-both P (command_cause l r clock) l _ h k
   answer-both P (Call.Start task clock) h k = choose-both P (start_cause l task clock) l _ h k
@@ -64,8 +64,8 @@ module _ (l : Lamp) where
   number-is-cause x = answer-both (λ a. a.verdict ≡ cause l x) x (λ e. granted-number x ∙ sym e) (λ e. refl)
 
   -- a call with a cause is refused
-  pub refused-same : (x : Call) → (cause l x ≡ accepted → ⊥) → answer l x ≡ refusal l (cause l x)
-  refused-same x n = answer-both (λ a. a ≡ refusal l (cause l x)) x (λ e. absurd (n e)) (λ e. refl)
+  pub refused-same : (x : Call) → (cause l x ≡ accepted → ⊥) → answer l x ≡ unchanged l (cause l x)
+  refused-same x n = answer-both (λ a. a ≡ unchanged l (cause l x)) x (λ e. absurd (n e)) (λ e. refl)
 
   -- where a call is accepted, the lamp at its clock is valid
   pub granted-ready : (x : Call) → cause l x ≡ accepted → lamp_valid (at_clock l (clock_of x)) ≡ true

@@ -18,7 +18,7 @@ use Rattle.tasks.specs.Valid.{task_valid}
 use Rattle.tasks.specs.Runs.{runs}
 use Rattle.lamp.specs.declared.Lamp.{Lamp}
 use Rattle.lamp.specs.declared.Answer.{Answer}
-use Rattle.lamp.specs.Answers.{at_clock, bad_clock, first_cause, refusal}
+use Rattle.lamp.specs.Answers.{at_clock, bad_clock, first_cause, unchanged}
 use Rattle.lamp.specs.Making.{making_cause}
 use Rattle.lamp.specs.Valid.{lamp_valid}
 use Rattle.lamp.specs.Calls.{started, stepped, start_answer, step_answer, halt_answer, choose, start_cause, step_cause}
@@ -160,7 +160,7 @@ making-not-3 bounds clock =
 -- ---- at most 14 notices: an answer's list is some list of at most 14 in its places, with zeros behind
 
 chosen : (n : Verdict) (l : Lamp) (a : Answer) → Few a → Few (choose n l a)
-chosen n l a f = cond_both Few (is_ok n) a (refusal l n) (λ e. f) (λ e. record { reported = []; listed = refl; few = omega arith })
+chosen n l a f = cond_both Few (is_ok n) a (unchanged l n) (λ e. f) (λ e. record { reported = []; listed = refl; few = omega arith })
 
 pub answer-few : (l : Lamp) (x : Call) → Few (answer l x)
 unfolding answer command_answer start_answer step_answer halt_answer

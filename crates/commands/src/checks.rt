@@ -4,7 +4,7 @@ ghost use Rattle.commands.specs.Commands.{is_stop, cause_if, constrained, nonzer
 
 use matter::{Command, MoveModeEnum, Refusal};
 
-// Whether it is a move in Stop mode, and the cause that its numbers give.
+// Whether it is a move in Stop mode, and the cause that its numbers give; a move in Stop mode can have a cause too.
 #[derive(Clone, Copy, Debug, PartialEq, Eq)]
 pub struct Checks {
     pub stop: bool,

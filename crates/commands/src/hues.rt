@@ -56,9 +56,9 @@ fn by_delta(
 {
     let task = HueSaturationMoveTo {
         delta: Some(delta),
-        saturation: saturation,
+        saturation,
         ms: (tenths as u32) * 100,
-        enhanced: enhanced,
+        enhanced,
     };
     given_with(lamp, Task::HueSaturationMoveTo(task), is_tie)
 }
@@ -144,8 +144,8 @@ pub(crate) fn move_hue(lamp: Lamp, mode: MoveModeEnum, rate: u32, enhanced: bool
 {
     let task = HueMove {
         direction: mode,
-        rate: rate,
-        enhanced: enhanced,
+        rate,
+        enhanced,
     };
     given(lamp, Task::HueMove(task))
 }

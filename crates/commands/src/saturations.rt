@@ -17,11 +17,8 @@ fn saturation_step(mode: StepModeEnum, now: u8, size: u8) -> u8
     ensures { result ≡ saturation_step mode now size }
 {
     match mode {
-        StepModeEnum::Up => {
-            let sum = (now as u16) + (size as u16);
-            if 254 < sum { 254 } else { sum as u8 }
-        }
-        StepModeEnum::Down => { if now < size { 0 } else { now - size } }
+        StepModeEnum::Up => now.saturating_add(size).min(254),
+        StepModeEnum::Down => now.saturating_sub(size),
     }
 }
 

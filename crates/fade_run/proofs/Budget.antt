@@ -27,7 +27,7 @@ use Rattle.tasks.specs.Runs.{runs}
 use Rattle.lamp.specs.declared.Lamp.{Lamp}
 use Rattle.std.specs.Prelude.{Ok, Err}
 use Rattle.lamp.specs.declared.Answer.{Answer}
-use Rattle.lamp.specs.Answers.{at_clock, refusal}
+use Rattle.lamp.specs.Answers.{at_clock, unchanged}
 use Rattle.lamp.specs.Making.{fresh_lamp, making_cause, making}
 use Rattle.lamp.specs.Passes.{at_end, unless, waiting, hue_saturation_pass, hue_saturation_moved, timed}
 use Rattle.lamp.specs.Calls.{done, started, stepped, start_cause, step_cause, start_answer, step_answer, no_hue_delta, no_saturation_delta, hue_saturation_start}
@@ -50,7 +50,7 @@ record Left (n : ℕ) (a : Answer) (clock : ℕ) : Type 0 where
 abbrev Within : ℕ → Answer → ℕ → Type 0
 Within n a clock = goes_on a ≡ true → Left n a clock
 
-refused-within : (n : ℕ) (l : Lamp) (cause : Verdict) (clock : ℕ) → (cause ≡ accepted → ⊥) → Within n (refusal l cause) clock
+refused-within : (n : ℕ) (l : Lamp) (cause : Verdict) (clock : ℕ) → (cause ≡ accepted → ⊥) → Within n (unchanged l cause) clock
 refused-within n l cause clock h g = absurd (h (accepted-of cause (and_left (is_ok cause) _ g)))
 
 -- before permille 1000 the time is not up

@@ -21,7 +21,7 @@ use Rattle.tasks.specs.declared.ColorLoopRun.{ColorLoopRun}
 use Rattle.tasks.specs.Runs.{loop_run}
 use Rattle.lamp.specs.declared.Lamp.{Lamp}
 use Rattle.lamp.specs.declared.Answer.{Answer}
-use Rattle.lamp.specs.Answers.{at_clock, refusal}
+use Rattle.lamp.specs.Answers.{at_clock, unchanged}
 use Rattle.matter.specs.Rules.{signed}
 use Rattle.lamp.specs.declared.passes.Found.{Found}
 use Rattle.lamp.specs.declared.passes.Moved.{Moved}
@@ -162,7 +162,7 @@ one-short a clock h =
 effect-few : (e : Effect) → length e.reported ≤ 14 → length (numbers (done e).notices) ≤ 16
 effect-few e h = simp (numbers-noted e.reported) (omega (arith, h))
 
-refusal-few : (l : Lamp) (cause : Verdict) → length (numbers (refusal l cause).notices) ≤ 16
+refusal-few : (l : Lamp) (cause : Verdict) → length (numbers (unchanged l cause).notices) ≤ 16
 refusal-few l cause = omega arith
 
 pub next-short : (f : Fade) → length (next_text f) ≤ 512

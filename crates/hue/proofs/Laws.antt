@@ -1,7 +1,6 @@
 -- What follows from the definitions of hues: a hue moved up and down, the distance as one remainder, that a way is small,
 -- arrives, and is zero between equal hues alone, where it is a tie, and CurrentHue. The documents' sums come first.
 use Rattle.std.proofs.Common.{◌≡◌, ℕ, zero, suc, ◌+◌, ◌-◌, ◌/◌, ◌%◌, ◌<◌, ◌≤◌, Bool, true, false, cond, ltb, leb, ℤ, pos, negsuc, ◌+ℤ◌, ◌-ℤ◌, neg_ℤ, nat_abs, refl, ap, arith, ltb-false, ltb-true, ne_eqb}
-use lib.Signed.{rem_z}
 use Rattle.integers.proofs.Sizes.{abs_neg}
 use Rattle.matter.specs.declared.enums.DirectionEnum.{DirectionEnum}
 use Rattle.hue.specs.Hue.{modulo, distance, chosen, path_delta, both_half, is_tie, hue_path, moved_hue, current_hue}
@@ -32,7 +31,7 @@ current-ends = (refl, refl, refl, refl)
 
 -- ---- a hue that is moved
 
-modulo-small : (z : ℤ) → modulo z < 65536
+pub modulo-small : (z : ℤ) → modulo z < 65536
 modulo-small (pos n) = omega arith
 modulo-small (negsuc n) = omega arith
 
@@ -55,11 +54,6 @@ pub moved_down : (s k : ℕ) → moved_hue s (neg_ℤ (pos k)) ≡ (s + (65536 -
 unfolding moved_hue
 moved_down s zero = omega arith
 moved_down s (suc k) = down_by s k (ltb s (suc k)) refl
-
--- whole turns move nothing
-pub moved-turns : (s : ℕ) (z : ℤ) → moved_hue s (rem_z z (pos 65536)) ≡ moved_hue s z
-moved-turns s (pos n) = rw (moved_up s (n % 65536), moved_up s n) (omega arith)
-moved-turns s (negsuc n) = rw (moved_down s (suc n % 65536), moved_down s (suc n)) (omega arith)
 
 -- ---- the distance
 

@@ -1,17 +1,17 @@
--- The sizes of integers: of a negation, a product, a quotient, a remainder and a sum; that an integer fits a width by its size;
--- and an i32 read as an i64. Each law goes by the cases of the sign.
+-- The sizes of integers: of a negation, a product, a quotient and a difference; and that an integer fits a width by its size.
+-- Each law goes by the cases of the sign.
 use mathlib.Core.Path.{◌≡◌, refl}
 use mathlib.Core.Bool.{Bool, true, false, cond}
-use Prim.Native.Nat.{ℕ, zero, suc, ◌+◌, ◌-◌, ◌*◌, ◌/◌, ◌%◌, ◌^◌, ◌≤◌, ◌<◌, max}
-use native.Mathlib.Nat.{le_refl, lt_of_le_of_lt, lt_of_lt_of_le, div-le_self}
+use Prim.Native.Nat.{ℕ, zero, suc, ◌-◌, ◌*◌, ◌/◌, ◌^◌, ◌≤◌, ◌<◌, max}
+use native.Mathlib.Nat.{le_refl, lt_of_le_of_lt, div-le_self}
 use native.Mathlib.Omega.{arith}
-use lib.Dec.{ltb, lit≤}
-use lib.IntN.{ℤ, pos, negsuc, neg_ℤ, nat_abs, ◌+ℤ◌, ◌-ℤ◌, ◌*ℤ◌}
-use lib.Signed.{mag, quot_z, rem_z, nat_abs-le}
+use lib.Dec.{ltb}
+use lib.IntN.{ℤ, pos, negsuc, neg_ℤ, nat_abs, ◌-ℤ◌, ◌*ℤ◌}
+use lib.Signed.{mag, quot_z, nat_abs-le}
 use borrow.Author.Tests.{ltb-true}
-use mir.Syntax.{Width, w32, w64}
-use mir.Val.{SFits, hbits, to_z, of_z}
-use mir.ValLaws.{to_z-of_z, sfits_le}
+use mir.Syntax.{Width}
+use mir.Val.{SFits, hbits}
+use mir.ValLaws.{sfits_le}
 
 pub abs_neg : (z : ℤ) → nat_abs (neg_ℤ z) ≡ nat_abs z
 abs_neg (pos zero) = refl
@@ -25,21 +25,6 @@ abs-mul (negsuc n) p = abs_neg (pos (suc n * p))
 pub abs-quot : (z : ℤ) (d : ℕ) → nat_abs (quot_z z (pos d)) ≡ nat_abs z / d
 abs-quot (pos n) d = refl
 abs-quot (negsuc n) d = abs_neg (pos (suc n / d))
-
-pub abs-rem : (z : ℤ) (d : ℕ) → nat_abs (rem_z z (pos d)) ≡ nat_abs z % d
-abs-rem (pos n) d = refl
-abs-rem (negsuc n) d = abs_neg (pos (suc n % d))
-
--- a difference of naturals is no larger than their sum
-diff-size : (a b : ℕ) (t : Bool) → nat_abs (cond t (negsuc (suc b - suc a)) (pos (a - suc b))) ≤ a + suc b
-diff-size a b true = omega arith
-diff-size a b false = omega arith
-
-pub abs-add : (y z : ℤ) → nat_abs (y +ℤ z) ≤ nat_abs y + nat_abs z
-abs-add (pos m) (pos n) = le_refl (m + n)
-abs-add (pos m) (negsuc n) = diff-size m n (ltb m (suc n))
-abs-add (negsuc m) (pos n) = omega (arith, diff-size n m (ltb n (suc m)))
-abs-add (negsuc m) (negsuc n) = omega arith
 
 -- a difference of naturals is no larger than the larger
 difference-by : (a b : ℕ) (t : Bool) → ltb a (suc b) ≡ t → nat_abs (cond t (negsuc (suc b - suc a)) (pos (a - suc b))) ≤ max a (suc b)
@@ -75,11 +60,3 @@ mag-quot (negsuc n) d = mag-neg (suc n / d) n (div-le_self (suc n) d)
 -- a quotient fits where the dividend does
 pub quot_fits : {w : Width} {z : ℤ} (d : ℕ) → SFits w z → SFits w (quot_z z (pos d))
 quot_fits {z = z} d f = sfits_le (mag-quot z d) f
-
--- ---- an i32 as an i64
-
-pub wider : {z : ℤ} → SFits w32 z → SFits w64 z
-wider {z} f = record { sfits = lt_of_lt_of_le f.sfits (lit≤ tt) }
-
-pub read-wider : (z : ℤ) → SFits w32 z → to_z w64 (of_z w64 (to_z w32 (of_z w32 z))) ≡ z
-read-wider z f = rw (to_z-of_z w32 z f) (to_z-of_z w64 z (wider f))

@@ -43,7 +43,7 @@ use Rattle.tasks.specs.Runs.{runs, loop_run, loop_running}
 use Rattle.tasks.specs.Valid.{time_valid, rate_valid, saturation_valid, move_to_valid, within_bounds, task_valid, running_valid}
 use Rattle.lamp.specs.declared.Lamp.{Lamp}
 use Rattle.lamp.specs.declared.Answer.{Answer}
-use Rattle.lamp.specs.Answers.{at_clock, bad_clock, first_cause, refusal}
+use Rattle.lamp.specs.Answers.{at_clock, bad_clock, first_cause, unchanged}
 use Rattle.matter.specs.Bounds.{lower, upper}
 use Rattle.lamp.specs.Calls.{full_written, start_permille, hue_saturation_start, temperature_to_start, temperature_start, started, stepped, choose, start_cause, step_cause, start_answer, step_answer, halt_answer}
 use Rattle.lamp.specs.Valid.{lamp_valid}
@@ -307,8 +307,8 @@ module _ (l : Lamp) (clock : ℕ) where
 -- ---- answers keep validity
 
 -- what holds of a refusal, and of the answer where there is no cause, holds of the one chosen
-pub choose-both : (P : Answer → Type 0) (v : Verdict) (l : Lamp) (a : Answer) → (v ≡ accepted → P a) → ((v ≡ accepted → ⊥) → P (refusal l v)) → P (choose v l a)
-choose-both P v l a h k = cond_both P (is_ok v) a (refusal l v) (λ e. h (accepted-of v e)) (λ e. k (refused-of v e))
+pub choose-both : (P : Answer → Type 0) (v : Verdict) (l : Lamp) (a : Answer) → (v ≡ accepted → P a) → ((v ≡ accepted → ⊥) → P (unchanged l v)) → P (choose v l a)
+choose-both P v l a h k = cond_both P (is_ok v) a (unchanged l v) (λ e. h (accepted-of v e)) (λ e. k (refused-of v e))
 
 module _ (l : Lamp) (clock : ℕ) (validity : lamp_valid l ≡ true) where
   -- a start's answer

@@ -1,7 +1,7 @@
 -- What the answers of all calls share: document 01, "Why a call is turned away".
-use Rattle.std.specs.Prelude.{None}
-use Rattle.std.specs.Prelude.{ℕ, Bool, not, cond, ◌||◌, [], ltb}
+use Rattle.std.specs.Prelude.{ℕ, Bool, not, cond, ◌||◌, [], ltb, None, Err}
 use Rattle.matter.specs.Causes.{Verdict, accepted, clock_refused, invalid_lamp}
+use Rattle.matter.specs.declared.refusals.Refusal.{Refusal}
 use Rattle.matter.specs.Limits.{clock_limit}
 use Rattle.notices.specs.Notices.{noted}
 use Rattle.lamp.specs.declared.Lamp.{Lamp}
@@ -29,6 +29,10 @@ bad_clock l clock = ltb clock l.clock || ltb clock_limit clock
 unfoldable pub first_cause : Lamp → ℕ → Verdict
 first_cause l clock = cond (not (lamp_valid l)) invalid_lamp (cond (bad_clock l clock) clock_refused accepted)
 
+-- the lamp as it was, with a verdict: an empty list, no task, wait 0
+abbrev pub unchanged : Lamp → Verdict → Answer
+unchanged l verdict = record { verdict = verdict; lamp = l; notices = noted []; task = None; wait = 0 }
+
 -- "the number", the lamp as it was, "list empty"; "A refusal has no task and wait 0"
-abbrev pub refusal : Lamp → Verdict → Answer
-refusal l verdict = record { verdict = verdict; lamp = l; notices = noted []; task = None; wait = 0 }
+abbrev pub refusal : Lamp → Refusal → Answer
+refusal l cause = unchanged l (Err cause)

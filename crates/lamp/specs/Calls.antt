@@ -19,7 +19,7 @@ use Rattle.tasks.specs.Runs.{runs, loop_run}
 use Rattle.lamp.specs.declared.Lamp.{Lamp}
 use Rattle.lamp.specs.declared.Answer.{Answer}
 use Rattle.lamp.specs.declared.passes.Left.{Left}
-use Rattle.lamp.specs.Answers.{at_clock, bad_clock, first_cause, refusal}
+use Rattle.lamp.specs.Answers.{at_clock, bad_clock, first_cause, unchanged}
 use Rattle.lamp.specs.Valid.{lamp_valid}
 use Rattle.lamp.specs.Passes.{Effect, found_with, left_by, left_effect, idled, hue_saturation_passed}
 use Rattle.lamp.specs.Passes.{hue_saturation_pass, temperature_to_passed, temperature_to_pass, hue_pass, saturation_pass}
@@ -114,7 +114,7 @@ done e =
 
 -- the choice between a refusal and an effect
 abbrev pub choose : Verdict → Lamp → Answer → Answer
-choose verdict l answer = cond (is_ok verdict) answer (refusal l verdict)
+choose verdict l answer = cond (is_ok verdict) answer (unchanged l verdict)
 
 -- "starts 8, 4, 6"
 abbrev pub start_cause : Lamp → Task → ℕ → Verdict

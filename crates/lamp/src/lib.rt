@@ -9,7 +9,7 @@ mod passes;
 ghost use Rattle.std.specs.Prelude.{◌≡◌};
 ghost use Rattle.lamp.specs.Valid.{lamp_valid};
 ghost use Rattle.lamp.specs.Making.{fresh_lamp, making, made_values, making_values};
-ghost use Rattle.lamp.specs.Answers.{at_clock, first_cause, refusal};
+ghost use Rattle.lamp.specs.Answers.{at_clock, first_cause, unchanged, refusal};
 
 use color::Color;
 use matter::{Bounds, CLOCK_LIMIT, ColorLoopDirectionEnum, OnOff, Refusal, Request};
@@ -40,7 +40,7 @@ pub struct Lamp {
 }
 
 // What a call gives: that it is accepted or why it is refused, the lamp after it, what it reports, the task it gives where it
-// gives one, and how long to wait for the next step, in milliseconds.
+// gives one, and how long to wait for the next step, in milliseconds: 0 where nothing runs (document 01, "wait 0").
 #[derive(Clone, Copy, Debug, PartialEq, Eq)]
 pub struct Answer {
     pub verdict: Result<(), Refusal>,
@@ -75,8 +75,8 @@ fn fresh(bounds: Bounds, feature_map: u32, options: u8, clock: u64) -> Lamp
     ensures { result ≡ fresh_lamp bounds feature_map options clock }
 {
     Lamp {
-        clock: clock,
-        bounds: bounds,
+        clock,
+        bounds,
         color: Color::new(feature_map, bounds),
         looping: LoopSettings {
             active: false,
@@ -86,7 +86,7 @@ fn fresh(bounds: Bounds, feature_map: u32, options: u8, clock: u64) -> Lamp
             stored: 0,
         },
         remaining: RemainingTime { tenths: 0 },
-        options: options,
+        options,
         running: Running::Idle,
     }
 }
@@ -139,7 +139,7 @@ impl Lamp {
 
     // The lamp as it was, with this verdict: an empty list, no task, wait 0.
     pub fn unchanged(self, verdict: Result<(), Refusal>) -> Answer
-        ensures { result ≡ refusal self verdict }
+        ensures { result ≡ unchanged self verdict }
     {
         Answer {
             verdict,
@@ -152,7 +152,7 @@ impl Lamp {
 
     // A refusal.
     pub fn refused(self, cause: Refusal) -> Answer
-        ensures { result ≡ refusal self (Err cause) }
+        ensures { result ≡ refusal self cause }
     {
         self.unchanged(Err(cause))
     }

@@ -77,6 +77,29 @@ pub not-ok : (v : Verdict) → (v ≡ accepted → ⊥) → is_ok v ≡ false
 not-ok (Ok u) n = absurd (n refl)
 not-ok (Err refusal) n = refl
 
+-- no two verdicts have one number
+of_number : ℕ → Verdict
+of_number =
+    case_numbered refusal_number Err accepted
+    (Refusal.ConstraintError ∷ Refusal.InvalidCommand ∷ Refusal.Clock ∷ Refusal.CrossedBounds ∷ Refusal.InvalidTask ∷ Refusal.StepWhileIdle
+    ∷ Refusal.InvalidLamp ∷ Refusal.ShortSlice ∷ Refusal.NoPlace ∷ [])
+
+back : (v : Verdict) → of_number (number_of v) ≡ v
+unfolding of_number
+back (Ok u) = refl
+back (Err Refusal.ConstraintError) = refl
+back (Err Refusal.InvalidCommand) = refl
+back (Err Refusal.Clock) = refl
+back (Err Refusal.CrossedBounds) = refl
+back (Err Refusal.InvalidTask) = refl
+back (Err Refusal.StepWhileIdle) = refl
+back (Err Refusal.InvalidLamp) = refl
+back (Err Refusal.ShortSlice) = refl
+back (Err Refusal.NoPlace) = refl
+
+pub same_number : (v w : Verdict) → number_of v ≡ number_of w → v ≡ w
+same_number v w e = sym (back v) ∙ ap of_number e ∙ back w
+
 -- ---- what is at most a number is at most a later one
 
 pub leb-later : (n a b : ℕ) → leb n a ≡ true → a ≤ b → leb n b ≡ true

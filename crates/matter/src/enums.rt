@@ -1,14 +1,24 @@
 // The Color Control cluster's enums, with their numbers. An enum's number is what a command or an attribute carries; a
 // number that no case has is reserved.
 // Carried over from project-chip/rs-matter, commit 43f61585a4 (Apache-2.0, see NOTICE), and changed.
-ghost use Rattle.std.specs.Prelude.{◌≡◌};
+ghost use Rattle.std.specs.Prelude.{◌≡◌, ℕ, List, Result};
+ghost use Rattle.matter.specs.declared.enums.Reserved.{Reserved};
 ghost use Rattle.matter.specs.Rules.{signed, color_mode_of};
-ghost use Rattle.matter.specs.Numbers.{direction_number, direction_found, move_mode_number, move_mode_found, step_mode_number, step_mode_found, loop_action_number, loop_action_found, loop_direction_number, loop_direction_found, color_mode_number, color_mode_found, enhanced_color_mode_number, enhanced_color_mode_found, on_off_number, on_off_found};
+ghost use Rattle.matter.specs.Numbers.{found_in, direction_number, directions, direction_found, move_mode_number, move_modes, move_mode_found, step_mode_number, step_modes, step_mode_found, loop_action_number, loop_actions, loop_action_found, loop_direction_number, loop_directions, loop_direction_found, color_mode_number, color_modes, color_mode_found, enhanced_color_mode_number, enhanced_color_modes, enhanced_color_mode_found, on_off_number, on_offs, on_off_found};
 
 // A number that no case of an enum has.
 #[derive(Clone, Copy, Debug, PartialEq, Eq)]
 pub struct Reserved {
     pub number: u8,
+}
+
+// An enum of the cluster: its cases are found by their numbers.
+pub trait Numbered: TryFrom<u8, Error = Reserved> + Copy {
+    ghost number: { Self → ℕ };
+
+    ghost cases: { List Self };
+
+    ghost finds: { (n : ℕ) (r : Result Self Reserved) → Self.try_from_gives n r → r ≡ found_in number cases n };
 }
 
 // Which way round the circle of hues a move-to goes.
@@ -47,6 +57,14 @@ impl TryFrom<u8> for DirectionEnum {
             _ => Err(Reserved { number }),
         }
     }
+}
+
+impl Numbered for DirectionEnum {
+    ghost number = { direction_number };
+
+    ghost cases = { directions };
+
+    ghost finds = { λ _ _ e. e };
 }
 
 // What a move at a rate does: stop, or go up or down.
@@ -97,6 +115,14 @@ impl TryFrom<u8> for MoveModeEnum {
     }
 }
 
+impl Numbered for MoveModeEnum {
+    ghost number = { move_mode_number };
+
+    ghost cases = { move_modes };
+
+    ghost finds = { λ _ _ e. e };
+}
+
 // Which way a step goes.
 #[derive(Clone, Copy, Debug, PartialEq, Eq)]
 pub enum StepModeEnum {
@@ -127,6 +153,14 @@ impl TryFrom<u8> for StepModeEnum {
             _ => Err(Reserved { number }),
         }
     }
+}
+
+impl Numbered for StepModeEnum {
+    ghost number = { step_mode_number };
+
+    ghost cases = { step_modes };
+
+    ghost finds = { λ _ _ e. e };
 }
 
 // What the colour-loop command does with the loop.
@@ -164,6 +198,14 @@ impl TryFrom<u8> for ColorLoopActionEnum {
     }
 }
 
+impl Numbered for ColorLoopActionEnum {
+    ghost number = { loop_action_number };
+
+    ghost cases = { loop_actions };
+
+    ghost finds = { λ _ _ e. e };
+}
+
 // Which way the colour loop turns.
 #[derive(Clone, Copy, Debug, PartialEq, Eq)]
 pub enum ColorLoopDirectionEnum {
@@ -194,6 +236,14 @@ impl TryFrom<u8> for ColorLoopDirectionEnum {
             _ => Err(Reserved { number }),
         }
     }
+}
+
+impl Numbered for ColorLoopDirectionEnum {
+    ghost number = { loop_direction_number };
+
+    ghost cases = { loop_directions };
+
+    ghost finds = { λ _ _ e. e };
 }
 
 // Which attributes the colour is read from.
@@ -229,6 +279,14 @@ impl TryFrom<u8> for ColorModeEnum {
             _ => Err(Reserved { number }),
         }
     }
+}
+
+impl Numbered for ColorModeEnum {
+    ghost number = { color_mode_number };
+
+    ghost cases = { color_modes };
+
+    ghost finds = { λ _ _ e. e };
 }
 
 // ColorModeEnum, and the enhanced hue.
@@ -269,6 +327,14 @@ impl TryFrom<u8> for EnhancedColorModeEnum {
     }
 }
 
+impl Numbered for EnhancedColorModeEnum {
+    ghost number = { enhanced_color_mode_number };
+
+    ghost cases = { enhanced_color_modes };
+
+    ghost finds = { λ _ _ e. e };
+}
+
 // What the on/off cluster beside the lamp says: off, on, or that there is none.
 #[derive(Clone, Copy, Debug, PartialEq, Eq)]
 pub enum OnOff {
@@ -302,6 +368,14 @@ impl TryFrom<u8> for OnOff {
             _ => Err(Reserved { number }),
         }
     }
+}
+
+impl Numbered for OnOff {
+    ghost number = { on_off_number };
+
+    ghost cases = { on_offs };
+
+    ghost finds = { λ _ _ e. e };
 }
 
 // The ColorMode that matches an EnhancedColorMode.

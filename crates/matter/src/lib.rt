@@ -10,7 +10,7 @@ mod refusals;
 pub use commands::{Command, CommandOptions, Request};
 pub use enums::{
     ColorLoopActionEnum, ColorLoopDirectionEnum, ColorModeEnum, DirectionEnum,
-    EnhancedColorModeEnum, MoveModeEnum, OnOff, Reserved, StepModeEnum, color_mode_of,
+    EnhancedColorModeEnum, MoveModeEnum, Numbered, OnOff, Reserved, StepModeEnum, color_mode_of,
 };
 pub use limits::{Bounds, CLOCK_LIMIT};
 pub use options::{

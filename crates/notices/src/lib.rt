@@ -1,4 +1,5 @@
-// What a call reports, in the order in which it comes: a list of notice numbers in sixteen places, unused places 0.
+// What a call reports, in the order in which it comes: a list of notice numbers in sixteen places, unused places 0. An array
+// with a length beside it: document 01's list is fixed memory.
 #![tactic(auto)]
 
 ghost use Rattle.std.specs.Prelude.{◌≡◌, []};
@@ -100,7 +101,7 @@ impl Numeral {
         }
     }
 
-    // A digit in front: the number of a notice.
+    // A digit in front: the number of a notice. A digit is any byte, so this takes one, not a notice.
     #[tactic(auto, unfolding(crate::specs::Numerals::consed))]
     pub fn cons(self, number: u8) -> Self
         ensures { result ≡ consed self number }
@@ -112,7 +113,7 @@ impl Numeral {
         }
     }
 
-    // A digit in front where the test holds.
+    // A digit in front where the test holds: any byte too.
     #[tactic(auto, unfolding(crate::specs::Numerals::in_front))]
     pub fn cons_if(self, test: bool, number: u8) -> Self
         ensures { result ≡ in_front (only test number) self }
@@ -138,27 +139,11 @@ impl Numeral {
     pub fn notices(self) -> Notices
         ensures { result ≡ placed self }
     {
-        let low = self.low;
-        let high = self.high;
+        let mut places = [0; 16];
+        places[..8].copy_from_slice(&self.low.to_le_bytes());
+        places[8..].copy_from_slice(&self.high.to_le_bytes());
         Notices {
-            places: [
-                (low % 256) as u8,
-                (low / 256 % 256) as u8,
-                (low / 65536 % 256) as u8,
-                (low / 16777216 % 256) as u8,
-                (low / 4294967296 % 256) as u8,
-                (low / 1099511627776 % 256) as u8,
-                (low / 281474976710656 % 256) as u8,
-                (low / 72057594037927936 % 256) as u8,
-                (high % 256) as u8,
-                (high / 256 % 256) as u8,
-                (high / 65536 % 256) as u8,
-                (high / 16777216 % 256) as u8,
-                (high / 4294967296 % 256) as u8,
-                (high / 1099511627776 % 256) as u8,
-                (high / 281474976710656 % 256) as u8,
-                (high / 72057594037927936 % 256) as u8,
-            ],
+            places,
             len: self.len,
         }
     }

@@ -10,8 +10,7 @@ use lib.Dec.{ltb, leb}
 use Rattle.matter.specs.Causes.{Verdict, accepted, number_of, refusal_number, clock_refused, invalid_lamp}
 use Rattle.matter.specs.declared.refusals.Refusal.{Refusal}
 use Rattle.matter.specs.Limits.{clock_limit}
-use Rattle.matter.specs.Numbers.{case_numbered}
-use Rattle.matter.proofs.Laws.{refused-of, number-0}
+use Rattle.matter.proofs.Laws.{refused-of, number-0, same_number}
 use Rattle.lamp.specs.declared.Lamp.{Lamp}
 use Rattle.lamp.specs.Valid.{lamp_valid}
 use Rattle.lamp.specs.Answers.{first_cause}
@@ -19,29 +18,6 @@ use Rattle.rows.specs.declared.Row.{Row}
 use Rattle.rows.specs.Rows.{placed, mask_true, all_valid, any_later, row_cause, slice_cause, limit_cause, graver, visits_cause, place_cause}
 
 -- ---- the graver of two verdicts
-
--- no two verdicts have one number
-of_number : ℕ → Verdict
-of_number =
-    case_numbered refusal_number Err accepted
-    (Refusal.ConstraintError ∷ Refusal.InvalidCommand ∷ Refusal.Clock ∷ Refusal.CrossedBounds ∷ Refusal.InvalidTask ∷ Refusal.StepWhileIdle
-    ∷ Refusal.InvalidLamp ∷ Refusal.ShortSlice ∷ Refusal.NoPlace ∷ [])
-
-back : (v : Verdict) → of_number (number_of v) ≡ v
-unfolding of_number
-back (Ok u) = refl
-back (Err Refusal.ConstraintError) = refl
-back (Err Refusal.InvalidCommand) = refl
-back (Err Refusal.Clock) = refl
-back (Err Refusal.CrossedBounds) = refl
-back (Err Refusal.InvalidTask) = refl
-back (Err Refusal.StepWhileIdle) = refl
-back (Err Refusal.InvalidLamp) = refl
-back (Err Refusal.ShortSlice) = refl
-back (Err Refusal.NoPlace) = refl
-
-same_number : (v w : Verdict) → number_of v ≡ number_of w → v ≡ w
-same_number v w e = sym (back v) ∙ ap of_number e ∙ back w
 
 -- its number is the greater
 pub graver-number : (v w : Verdict) → number_of (graver v w) ≡ max (number_of v) (number_of w)

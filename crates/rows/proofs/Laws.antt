@@ -16,7 +16,7 @@ use Rattle.tasks.specs.Runs.{runs}
 use Rattle.lamp.specs.declared.Lamp.{Lamp}
 use Rattle.lamp.specs.declared.Answer.{Answer}
 use Rattle.lamp.specs.declared.Call.{Call}
-use Rattle.lamp.specs.Answers.{at_clock, bad_clock, first_cause, refusal}
+use Rattle.lamp.specs.Answers.{at_clock, bad_clock, first_cause, unchanged}
 use Rattle.lamp.specs.Valid.{lamp_valid}
 use Rattle.lamp.specs.Calls.{choose, done, stepped, step_cause, step_answer}
 use Rattle.commands.specs.Answers.{cause, answer}
@@ -68,11 +68,11 @@ past-stays f (suc n) (suc k) (x ∷ xs) d h = past-stays f n k xs d (omega arith
 
 -- a visit is what the lamp's own step gives: an idle lamp refuses it, stays, and has nothing to report and no wait
 idle-refuses : (v bad : Bool) (l : Lamp) (a : Answer) →
-    let n : Verdict = cond (not v) invalid_lamp (cond (not false) step_while_idle (cond bad clock_refused accepted)) in choose n l a ≡ refusal l n
+    let n : Verdict = cond (not v) invalid_lamp (cond (not false) step_while_idle (cond bad clock_refused accepted)) in choose n l a ≡ unchanged l n
 idle-refuses true bad l a = refl
 idle-refuses false bad l a = refl
 
-pub idle-answer : (l : Lamp) (clock : ℕ) → runs l.running ≡ false → step_answer l clock ≡ refusal l (step_cause l clock)
+pub idle-answer : (l : Lamp) (clock : ℕ) → runs l.running ≡ false → step_answer l clock ≡ unchanged l (step_cause l clock)
 unfolding step_answer
 idle-answer l clock e = rw e (idle-refuses (lamp_valid l) (bad_clock l clock) l (done (stepped (at_clock l clock) l.running)))
 

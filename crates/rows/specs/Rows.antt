@@ -13,7 +13,7 @@ use Rattle.tasks.specs.Runs.{runs}
 use Rattle.lamp.specs.declared.Lamp.{Lamp}
 use Rattle.lamp.specs.declared.Answer.{Answer}
 use Rattle.lamp.specs.declared.Call.{Call}
-use Rattle.lamp.specs.Answers.{first_cause, refusal}
+use Rattle.lamp.specs.Answers.{first_cause, unchanged}
 use Rattle.lamp.specs.Calls.{step_answer}
 use Rattle.lamp.specs.Valid.{lamp_valid}
 use Rattle.commands.specs.Answers.{answer}
@@ -46,7 +46,7 @@ with_lamps r ls = row_of r.count ls
 
 -- what it does at one place: "One call at one clock steps every running lamp [..]; idle lamps stay"
 unfoldable pub visited : Lamp → ℕ → Answer
-visited l clock = cond (runs l.running) (step_answer l clock) (refusal l accepted)
+visited l clock = cond (runs l.running) (step_answer l clock) (unchanged l accepted)
 
 -- "If any lamp, idle ones included, is out of form"
 abbrev pub all_valid : List Lamp → Bool

@@ -55,13 +55,17 @@ move_to_valid t =
     all_true (time_valid t.ms ∷ delta_valid t.delta ∷ saturation_valid t.saturation
     ∷ (delta_given t.delta || saturation_given t.saturation) ∷ [])
 
--- not: "rate 0", "hue rate above 65,535", "Stop as a move's direction"
-unfoldable pub hue_move_valid : HueMove → Bool
-hue_move_valid t = all_true (ltb 0 t.rate ∷ leb t.rate 65535 ∷ moves t.direction ∷ [])
+-- a move at a rate: not "rate 0", not above the most, not "Stop as a move's direction"
+abbrev pub move_valid : ℕ → ℕ → MoveModeEnum → Bool
+move_valid rate most direction = all_true (ltb 0 rate ∷ leb rate most ∷ moves direction ∷ [])
 
--- not: "rate 0", "saturation rate above 255", "Stop as a move's direction"
+-- not: "hue rate above 65,535"
+unfoldable pub hue_move_valid : HueMove → Bool
+hue_move_valid t = move_valid t.rate 65535 t.direction
+
+-- not: "saturation rate above 255"
 unfoldable pub saturation_move_valid : SaturationMove → Bool
-saturation_move_valid t = all_true (ltb 0 t.rate ∷ leb t.rate 255 ∷ moves t.direction ∷ [])
+saturation_move_valid t = move_valid t.rate 255 t.direction
 
 -- a valid task, not "the Stop task itself"
 unfoldable pub task_valid : Task → Bool

@@ -4,7 +4,7 @@
 #![tactic(auto)]
 
 ghost use Rattle.std.specs.Prelude.{◌≡◌};
-ghost use Rattle.tasks.specs.Valid.{time_valid, delta_valid, saturation_valid, moves, within_bounds, rate_valid, move_to_valid, hue_move_valid, saturation_move_valid, task_valid, running_valid};
+ghost use Rattle.tasks.specs.Valid.{time_valid, delta_valid, saturation_valid, moves, within_bounds, rate_valid, move_to_valid, move_valid, hue_move_valid, saturation_move_valid, task_valid, running_valid};
 ghost use Rattle.tasks.specs.Runs.{runs};
 
 use matter::{Bounds, ColorLoopDirectionEnum, MoveModeEnum};
@@ -67,7 +67,8 @@ pub enum Task {
     Stop,
 }
 
-// What runs: the clock at its start, the numbers found there, and the task.
+// What runs: the clock at its start, the numbers found there, and the task. Each kind of task has a record of its own; a record
+// generic in its task would be shared by two of the six, the hue's moves at a rate and in the loop.
 #[derive(Clone, Copy, Debug, PartialEq, Eq)]
 pub struct HueSaturationRun {
     pub start: u64,
@@ -177,6 +178,14 @@ fn is_valid_saturation(target: Option<u8>) -> bool
     }
 }
 
+// A rate in its range, in a direction that moves.
+#[tactic(auto, unfolding(matter::specs::All::all_true))]
+fn is_valid_move(rate: u32, most: u32, direction: MoveModeEnum) -> bool
+    ensures { result ≡ move_valid rate most direction }
+{
+    (0 < rate) & (rate <= most) & moving(direction)
+}
+
 impl HueSaturationMoveTo {
     #[tactic(auto, unfolding(crate::specs::Valid::move_to_valid, matter::specs::All::all_true))]
     fn is_valid(self) -> bool
@@ -190,20 +199,20 @@ impl HueSaturationMoveTo {
 }
 
 impl HueMove {
-    #[tactic(auto, unfolding(crate::specs::Valid::hue_move_valid, matter::specs::All::all_true))]
+    #[tactic(auto, unfolding(crate::specs::Valid::hue_move_valid))]
     fn is_valid(self) -> bool
         ensures { result ≡ hue_move_valid self }
     {
-        (0 < self.rate) & (self.rate <= 65535) & moving(self.direction)
+        is_valid_move(self.rate, 65535, self.direction)
     }
 }
 
 impl SaturationMove {
-    #[tactic(auto, unfolding(crate::specs::Valid::saturation_move_valid, matter::specs::All::all_true))]
+    #[tactic(auto, unfolding(crate::specs::Valid::saturation_move_valid))]
     fn is_valid(self) -> bool
         ensures { result ≡ saturation_move_valid self }
     {
-        (0 < self.rate) & (self.rate <= 255) & moving(self.direction)
+        is_valid_move(self.rate, 255, self.direction)
     }
 }
 

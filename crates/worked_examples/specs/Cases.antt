@@ -19,7 +19,7 @@ use Rattle.tasks.specs.declared.Running.{Running}
 use Rattle.tasks.specs.Runs.{runs}
 use Rattle.lamp.specs.declared.Lamp.{Lamp}
 use Rattle.lamp.specs.declared.Answer.{Answer}
-use Rattle.lamp.specs.Answers.{refusal}
+use Rattle.lamp.specs.Answers.{unchanged}
 use Rattle.lamp.specs.Making.{fresh_lamp}
 use Rattle.lamp.specs.Calls.{start_answer, step_answer}
 use Rattle.commands.specs.Answers.{command_answer}
@@ -45,7 +45,7 @@ next a call = cond (is_ok a.verdict) (call a.lamp) a
 
 -- a start of the task that was given; where none was, no start is accepted
 abbrev start_of : Option Task → Lamp → Answer
-start_of None l = refusal l invalid_task
+start_of None l = unchanged l invalid_task
 start_of (Some task) l = start_answer l task l.clock
 
 -- a command to a lamp, and its task started
