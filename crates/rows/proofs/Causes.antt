@@ -1,5 +1,5 @@
 -- Why a row call is refused, as the code goes through it; and what an accepted one has shown.
-use Rattle.std.specs.Prelude.{Ok, Err, is_ok}
+use Rattle.std.specs.Prelude.{is_ok}
 use Prim.Native.Nat.{ℕ, ◌*◌, ◌≤◌, ◌<◌, max}
 use mathlib.Core.Path.{◌≡◌, refl, sym, ap, ◌∙◌}
 use mathlib.Core.Bool.{Bool, true, false, cond, not, ◌&&◌, ◌||◌}
@@ -7,8 +7,7 @@ use mathlib.Core.List.{List, [], ◌∷◌}
 use native.Mathlib.Omega.{arith}
 use borrow.Author.Tests.{ltb-true, ltb-false, leb-false}
 use lib.Dec.{ltb, leb}
-use Rattle.matter.specs.Causes.{Verdict, accepted, number_of, refusal_number, clock_refused, invalid_lamp}
-use Rattle.matter.specs.declared.refusals.Refusal.{Refusal}
+use Rattle.matter.specs.Causes.{Verdict, accepted, number_of, clock_refused, invalid_lamp}
 use Rattle.matter.specs.Limits.{clock_limit}
 use Rattle.matter.proofs.Laws.{refused-of, number-0, same_number}
 use Rattle.lamp.specs.declared.Lamp.{Lamp}

@@ -1,4 +1,3 @@
-pub mod Places
 pub mod Visiting
 pub mod Causes
 pub mod Masks

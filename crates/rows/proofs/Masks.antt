@@ -1,11 +1,11 @@
 -- The running mask: its bits, its readings, and one bit set or cleared in it.
 use Rattle.std.specs.Prelude.{Option, Some, None}
-use Rattle.std.proofs.Common.{◌≡◌, ℕ, zero, suc, ◌+◌, ◌*◌, ◌^◌, ◌%◌, ◌<◌, ◌≤◌, Bool, true, false, cond, not, List, [], ◌∷◌, ◌++◌, bit_or, map, length, set, take, get_or, eqb, refl, ap, sym, ◌∙◌, arith, w32, count_ones, length-take-le, eqb-true, ne_eqb}
+use Rattle.std.proofs.Common.{◌≡◌, ℕ, zero, suc, ◌+◌, ◌*◌, ◌^◌, ◌%◌, ◌<◌, ◌≤◌, Bool, true, false, cond, not, List, [], ◌∷◌, map, length, set, take, get_or, eqb, refl, ap, sym, ◌∙◌, arith, w32, count_ones, length-take-le, eqb-true, ne_eqb}
 use Rattle.std.proofs.lemmas.Bool.{eqb-false}
 use Rattle.std.specs.Int.{bit_at, bit_not}
 use Rattle.std.specs.List.{prefix_len}
 use Rattle.std.proofs.Math.ListN.{get_or-map}
-use Rattle.std.proofs.Math.Nat.{one-mul, zero-mul, two-pow-succ, mod-eq_of_lt, zero-add, add-zero}
+use Rattle.std.proofs.Math.Nat.{one-mul, mod-eq_of_lt, zero-add, add-zero}
 use Rattle.std.proofs.Math.Seq.{take-set-lt, get_or-set_same, get_or-set_other}
 use Rattle.std.proofs.Math.Pow.{pow_mono}
 use Rattle.std.proofs.lemmas.List.{length-map, length-set, get_or-take, get_or_past}
@@ -14,10 +14,7 @@ use Rattle.std.proofs.lemmas.Simd.{mask_l-lt, bit_mask_l, ones-mask_l, trailing_
 use Rattle.tasks.specs.Runs.{runs}
 use Rattle.lamp.specs.declared.Lamp.{Lamp}
 use Rattle.rows.specs.declared.Row.{Row}
-use mir.Val.{bool_byte}
-use Rattle.std.specs.Simd.Lanes.{mask_l}
-use Rattle.std.proofs.lemmas.List.{take_more, map-append}
-use Rattle.std.proofs.lemmas.Nat.{or_comm, or_shifted, or_of_32, and_le_l}
+use Rattle.std.proofs.lemmas.Nat.{or_of_32, and_le_l}
 use Rattle.rows.proofs.Laws.{either}
 use Rattle.rows.specs.Rows.{mask_of, mask_true, placed, with_lamps, with_bit, stored, no_lamp, lowest_of, first_running, Readings}
 
@@ -79,28 +76,6 @@ stored-true r k l m there few len =
     ap (λ n. with_bit n k (runs l.running)) (eqb-true _ _ m) ∙ mask-set (placed r) k l (omega arith) (omega arith)
     ∙ ap mask_of (sym (take-set-lt r.count r.lamps k l there)) in
     ap (λ n. record { count = r.count; running_mask = n; lamps = set r.lamps k l }) mask
-
--- one lamp more behind them: a bit more above theirs
-mask_end : (ms : List Bool) (b : Bool) → mask_l (ms ++ b ∷ []) ≡ bool_byte b * 2 ^ length ms + mask_l ms
-mask_end [] true = refl
-mask_end [] false = refl
-mask_end (m ∷ ms) true = omega (arith, mask_end ms true, two-pow-succ (length ms))
-mask_end (m ∷ ms) false = omega (arith, mask_end ms false)
-
--- a shift that loses no bit, of one bit
-bit_shifted : (b : Bool) (k : ℕ) → k < 32 → bool_byte b * 2 ^ k % 2 ^ 32 ≡ bool_byte b * 2 ^ k
-bit_shifted true k h = shifted k h ∙ sym (one-mul (2 ^ k))
-bit_shifted false k h = rw (zero-mul (2 ^ k)) refl
-
-pub mask-more : (ls : List Lamp) (k : ℕ) (d : Lamp) → k < length ls → length ls ≤ 32 →
-    bit_or (mask_of (take k ls)) (bool_byte (runs (get_or ls k d).running) * 2 ^ k % 2 ^ 32) ≡ mask_of (take (k + 1) ls)
-mask-more ls k d there few =
-    let b = runs (get_or ls k d).running in
-    let before = take k ls in
-    let many : length before ≡ k = length-take-le k ls (omega arith) in
-    let long : length (map running before) ≡ k = length-map before running ∙ many in
-    rw (take_more ls k d there, map-append running before (get_or ls k d ∷ []), mask_end (map running before) b, long, bit_shifted b k (omega arith), or_comm (mask_of before) (bool_byte b * 2 ^ k))
-    (or_shifted (bool_byte b) k (mask_of before) (omega (arith, mask-lt before k (omega arith))))
 
 -- ---- readings
 

@@ -10,7 +10,7 @@ use lib.ListN.{length, get_or, set, take, drop}
 use lib.Seq.{drop-drop, drop-cons, get_or-take}
 use Rattle.lamp.specs.declared.Lamp.{Lamp}
 use Rattle.lamp.specs.declared.Answer.{Answer}
-use Rattle.lamp.specs.Answers.{at_clock, first_cause, unchanged}
+use Rattle.lamp.specs.Answers.{at_clock, first_cause}
 use Rattle.lamp.specs.Calls.{choose, done, stepped, step_cause, step_answer}
 use Rattle.tasks.specs.Runs.{runs}
 use mathlib.Core.Bool.{true}

@@ -1,7 +1,7 @@
--- The mask of the lamps so far.
-use Rattle.std.proofs.Common.{◌≡◌, take}
+-- The mask of the lamps from `place` on.
+use Rattle.std.proofs.Common.{◌≡◌, drop}
 use Rattle.rows.specs.Rows.{mask_of}
 use Rattle.rows.proofs.mask_of.Given as goal
 
 abbrev pub invariant-loop-place : goal.invariant-loop-place
-invariant-loop-place l = l.mask ≡ mask_of (take l.place l.lamps)
+invariant-loop-place l = l.mask ≡ mask_of (drop l.place l.lamps)
