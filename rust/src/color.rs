@@ -115,7 +115,7 @@ impl Color {
             saturation: 0,
             mireds: clamped_sum(bounds.min, bounds.max, 250, 0),
             mode: color_mode_of(emode),
-            emode: emode,
+            emode,
             stamps: Stamps {
                 hue: 0,
                 saturation: 0,
@@ -135,12 +135,11 @@ impl Color {
         let stamps = self.stamps;
         let due = is_due(is_end, stamps.hue, clock);
         let stamp = stamp_at(due, clock, stamps.hue);
-        let emode = hue_mode(is_enhanced);
         ColorSet {
             color: Color {
                 hue: new_eh,
                 mode: ColorModeEnum::CurrentHueAndCurrentSaturation,
-                emode: emode,
+                emode: hue_mode(is_enhanced),
                 stamps: Stamps {
                     hue: stamp,
                     ..stamps
@@ -166,13 +165,11 @@ impl Color {
         let stamps = self.stamps;
         let due = is_due(is_end, stamps.saturation, clock);
         let stamp = stamp_at(due, clock, stamps.saturation);
-        let old = self.emode;
-        let emode = kept_hue_mode(old);
         ColorSet {
             color: Color {
                 saturation: new_sat,
                 mode: ColorModeEnum::CurrentHueAndCurrentSaturation,
-                emode: emode,
+                emode: kept_hue_mode(self.emode),
                 stamps: Stamps {
                     saturation: stamp,
                     ..stamps
@@ -219,14 +216,11 @@ impl Color {
 
     /// Whether a lamp with this colour, these bounds and this clock can be valid.
     pub fn is_valid(self, bounds: Bounds, clock: u64) -> bool {
-        let mode = self.mode;
-        let emode = self.emode;
-        let agree = modes_agree(mode, emode);
         (self.saturation <= 254)
             & (bounds.min <= self.mireds)
             & (self.mireds <= bounds.max)
             & (bounds.min <= bounds.max)
-            & agree
+            & modes_agree(self.mode, self.emode)
             & (self.stamps.hue <= clock)
             & (self.stamps.saturation <= clock)
             & (self.stamps.mireds <= clock)

@@ -1,6 +1,7 @@
 // Made by rust/make from crates/commands/src/lib.rt: not to be edited.
 //! The commands: document 01, leaf 7 and "Commands in their order". `invoke` makes the checks that all commands share and
-//! executes one; the `cmd_` functions are the source's names for it; `call` takes any call of a lamp.
+//! executes one; the `cmd_` functions have the names and parameters of the source's handlers, one for each command, also where
+//! two read alike; `call` takes any call of a lamp.
 //!
 //! Carried over from project-chip/rs-matter, commit 43f61585a4 (Apache-2.0, see NOTICE), and changed.
 

@@ -11,7 +11,8 @@ fn distance_up(from: u16, to: u16) -> u16 {
     to.wrapping_sub(from)
 }
 
-/// The signed delta from one hue to another. A tie: Shortest or Longest was asked, and both distances are 32,768.
+/// The signed delta from one hue to another, and whether it is a tie: Shortest or Longest was asked, and both distances are
+/// 32,768. There is a delta with a tie too.
 #[derive(Clone, Copy, Debug, PartialEq, Eq)]
 pub struct HuePath {
     pub delta: i32,
@@ -63,12 +64,7 @@ pub fn hue_path_delta(current: u16, target: u16, direction: DirectionEnum) -> Hu
 
 /// The hue a signed part away from `start`. It wraps past 65,535 to 0, and below 0 to 65,535, on purpose.
 pub fn moved_hue(start: u16, part: i64) -> u16 {
-    let turn = part % 65536;
-    if turn >= 0 {
-        start.wrapping_add(turn as u16)
-    } else {
-        start.wrapping_sub((0 - turn) as u16)
-    }
+    start.wrapping_add(part.rem_euclid(65536) as u16)
 }
 
 /// The last CurrentHue.

@@ -42,7 +42,7 @@ pub struct Lamp {
 }
 
 /// What a call gives: that it is accepted or why it is refused, the lamp after it, what it reports, the task it gives where it
-/// gives one, and how long to wait for the next step, in milliseconds.
+/// gives one, and how long to wait for the next step, in milliseconds: 0 where nothing runs (document 01, "wait 0").
 #[derive(Clone, Copy, Debug, PartialEq, Eq)]
 pub struct Answer {
     pub verdict: Result<(), Refusal>,
@@ -75,8 +75,8 @@ pub enum Call {
 /// A lamp as it is made, with these bounds, features, options and clock.
 fn fresh(bounds: Bounds, feature_map: u32, options: u8, clock: u64) -> Lamp {
     Lamp {
-        clock: clock,
-        bounds: bounds,
+        clock,
+        bounds,
         color: Color::new(feature_map, bounds),
         looping: LoopSettings {
             active: false,
@@ -86,7 +86,7 @@ fn fresh(bounds: Bounds, feature_map: u32, options: u8, clock: u64) -> Lamp {
             stored: 0,
         },
         remaining: RemainingTime { tenths: 0 },
-        options: options,
+        options,
         running: Running::Idle,
     }
 }

@@ -16,6 +16,7 @@ pub use enums::ColorModeEnum;
 pub use enums::DirectionEnum;
 pub use enums::EnhancedColorModeEnum;
 pub use enums::MoveModeEnum;
+pub use enums::Numbered;
 pub use enums::OnOff;
 pub use enums::Reserved;
 pub use enums::StepModeEnum;

@@ -1,5 +1,6 @@
 // Made by rust/make from crates/notices/src/lib.rt: not to be edited.
-//! What a call reports, in the order in which it comes: a list of notice numbers in sixteen places, unused places 0.
+//! What a call reports, in the order in which it comes: a list of notice numbers in sixteen places, unused places 0. An array
+//! with a length beside it: document 01's list is fixed memory.
 
 /// What a call reports: document 01's notices, and after them document 02's.
 #[derive(Clone, Copy, Debug, PartialEq, Eq)]
@@ -88,7 +89,7 @@ impl Numeral {
         }
     }
 
-    /// A digit in front: the number of a notice.
+    /// A digit in front: the number of a notice. A digit is any byte, so this takes one, not a notice.
     pub fn cons(self, number: u8) -> Self {
         Numeral {
             low: self.low % LAST * DIGIT + u64::from(number),
@@ -97,7 +98,7 @@ impl Numeral {
         }
     }
 
-    /// A digit in front where the test holds.
+    /// A digit in front where the test holds: any byte too.
     pub fn cons_if(self, test: bool, number: u8) -> Self {
         if test { self.cons(number) } else { self }
     }
@@ -114,27 +115,11 @@ impl Numeral {
 
     /// The list in its places.
     pub fn notices(self) -> Notices {
-        let low = self.low;
-        let high = self.high;
+        let mut places = [0; 16];
+        places[..8].copy_from_slice(&self.low.to_le_bytes());
+        places[8..].copy_from_slice(&self.high.to_le_bytes());
         Notices {
-            places: [
-                (low % 256) as u8,
-                (low / 256 % 256) as u8,
-                (low / 65536 % 256) as u8,
-                (low / 16777216 % 256) as u8,
-                (low / 4294967296 % 256) as u8,
-                (low / 1099511627776 % 256) as u8,
-                (low / 281474976710656 % 256) as u8,
-                (low / 72057594037927936 % 256) as u8,
-                (high % 256) as u8,
-                (high / 256 % 256) as u8,
-                (high / 65536 % 256) as u8,
-                (high / 16777216 % 256) as u8,
-                (high / 4294967296 % 256) as u8,
-                (high / 1099511627776 % 256) as u8,
-                (high / 281474976710656 % 256) as u8,
-                (high / 72057594037927936 % 256) as u8,
-            ],
+            places,
             len: self.len,
         }
     }

@@ -69,7 +69,7 @@ pub fn loop_delta(direction: ColorLoopDirectionEnum, elapsed: u64, seconds: u16)
     let turn = loop_turn(elapsed, seconds) as i64;
     match direction {
         ColorLoopDirectionEnum::Increment => turn,
-        ColorLoopDirectionEnum::Decrement => 0 - turn,
+        ColorLoopDirectionEnum::Decrement => -turn,
     }
 }
 
@@ -78,7 +78,8 @@ pub fn tenths(ms: u64) -> u64 {
     ms.div_ceil(100)
 }
 
-/// The sum of a start and a signed part, clamped to `lo` and `hi`; `lo` is checked first.
+/// The sum of a start and a signed part, clamped to `lo` and `hi`; `lo` is checked first, also where the two cross, for which
+/// the library's `clamp` has no answer.
 pub fn clamped_sum(lo: u16, hi: u16, start: u16, part: i64) -> u16 {
     if part < (lo as i64) - (start as i64) {
         return lo;

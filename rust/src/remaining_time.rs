@@ -11,7 +11,7 @@ pub struct RemainingTime {
     pub tenths: u16,
 }
 
-/// The attribute after a write, and whether the change is reported.
+/// The attribute after a write, and whether the change is reported; there is an attribute either way.
 #[derive(Clone, Copy, Debug, PartialEq, Eq)]
 pub struct Written {
     pub reported: bool,

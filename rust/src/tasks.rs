@@ -66,7 +66,8 @@ pub enum Task {
     Stop,
 }
 
-/// What runs: the clock at its start, the numbers found there, and the task.
+/// What runs: the clock at its start, the numbers found there, and the task. Each kind of task has a record of its own; a record
+/// generic in its task would be shared by two of the six, the hue's moves at a rate and in the loop.
 #[derive(Clone, Copy, Debug, PartialEq, Eq)]
 pub struct HueSaturationRun {
     pub start: u64,
@@ -164,6 +165,11 @@ fn is_valid_saturation(target: Option<u8>) -> bool {
     }
 }
 
+/// A rate in its range, in a direction that moves.
+fn is_valid_move(rate: u32, most: u32, direction: MoveModeEnum) -> bool {
+    (0 < rate) & (rate <= most) & moving(direction)
+}
+
 impl HueSaturationMoveTo {
     fn is_valid(self) -> bool {
         is_valid_time(self.ms)
@@ -175,13 +181,13 @@ impl HueSaturationMoveTo {
 
 impl HueMove {
     fn is_valid(self) -> bool {
-        (0 < self.rate) & (self.rate <= 65535) & moving(self.direction)
+        is_valid_move(self.rate, 65535, self.direction)
     }
 }
 
 impl SaturationMove {
     fn is_valid(self) -> bool {
-        (0 < self.rate) & (self.rate <= 255) & moving(self.direction)
+        is_valid_move(self.rate, 255, self.direction)
     }
 }
 

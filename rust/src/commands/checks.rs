@@ -5,7 +5,7 @@ use crate::matter::Command;
 use crate::matter::MoveModeEnum;
 use crate::matter::Refusal;
 
-/// Whether it is a move in Stop mode, and the cause that its numbers give.
+/// Whether it is a move in Stop mode, and the cause that its numbers give; a move in Stop mode can have a cause too.
 #[derive(Clone, Copy, Debug, PartialEq, Eq)]
 pub struct Checks {
     pub stop: bool,

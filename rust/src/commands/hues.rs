@@ -52,9 +52,9 @@ fn by_delta(
 ) -> Outcome {
     let task = HueSaturationMoveTo {
         delta: Some(delta),
-        saturation: saturation,
+        saturation,
         ms: (tenths as u32) * 100,
-        enhanced: enhanced,
+        enhanced,
     };
     given_with(lamp, Task::HueSaturationMoveTo(task), is_tie)
 }
@@ -138,8 +138,8 @@ pub(in crate::commands) fn move_hue(
 ) -> Outcome {
     let task = HueMove {
         direction: mode,
-        rate: rate,
-        enhanced: enhanced,
+        rate,
+        enhanced,
     };
     given(lamp, Task::HueMove(task))
 }

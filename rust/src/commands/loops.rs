@@ -63,19 +63,17 @@ fn deactivate(lamp: Lamp) -> Outcome {
     if !lamp.looping.active {
         return skipped(lamp);
     }
-    let old = lamp.looping;
-    let color = lamp.color;
-    let set = color.set_hue(lamp.looping.stored, true, true, lamp.clock);
-    let next = set.color;
-    let change = set.change;
+    let set = lamp
+        .color
+        .set_hue(lamp.looping.stored, true, true, lamp.clock);
     let device = Numeral::new().note(Notice::DeviceHueSaturation);
     Outcome {
-        color: next,
+        color: set.color,
         looping: LoopSettings {
             active: false,
-            ..old
+            ..lamp.looping
         },
-        reported: cons_change(change, device, false)
+        reported: cons_change(set.change, device, false)
             .note(Notice::ColorLoopActive)
             .note(Notice::TaskGiven),
         task: Some(Task::Stop),
@@ -86,27 +84,22 @@ fn deactivate(lamp: Lamp) -> Outcome {
 fn activate(lamp: Lamp, seed: u16) -> Outcome {
     let old = lamp.looping;
     let active = old.active;
-    let color = lamp.color;
-    let set = color.set_hue(seed, true, true, lamp.clock);
-    let next = set.color;
-    let change = set.change;
+    let set = lamp.color.set_hue(seed, true, true, lamp.clock);
     let given = Numeral::new()
         .note(Notice::TaskGiven)
         .note(Notice::DeviceHueSaturation);
-    let stored = choice(active, old.stored, lamp.color.hue);
-    let direction = old.direction;
     Outcome {
-        color: next,
+        color: set.color,
         looping: LoopSettings {
             active: true,
-            stored: stored,
+            stored: choice(active, old.stored, lamp.color.hue),
             ..old
         },
-        reported: cons_change(change, given, true)
+        reported: cons_change(set.change, given, true)
             .note_if(!active, Notice::ColorLoopActive)
             .note_if(!active, Notice::ColorLoopStoredEnhancedHue),
         task: Some(Task::ColorLoop(ColorLoop {
-            direction: direction,
+            direction: old.direction,
             seconds: old.time,
         })),
     }
@@ -136,17 +129,14 @@ pub(in crate::commands) fn set_loop(
     time: u16,
     start_hue: u16,
 ) -> Outcome {
-    let old = lamp.looping;
-    let updated = updated_settings(old, flags, direction, time, start_hue);
     let changed = Lamp {
-        clock: clock,
-        looping: updated,
+        clock,
+        looping: updated_settings(lamp.looping, flags, direction, time, start_hue),
         ..lamp
     };
     let done = act(changed, contains(flags as u32, UPDATE_ACTION), action);
-    let reported = done.reported;
     Outcome {
-        reported: cons_updated(reported, flags),
+        reported: cons_updated(done.reported, flags),
         ..done
     }
 }

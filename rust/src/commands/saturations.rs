@@ -18,11 +18,8 @@ use crate::tasks::Task;
 
 fn saturation_step(mode: StepModeEnum, now: u8, size: u8) -> u8 {
     match mode {
-        StepModeEnum::Up => {
-            let sum = (now as u16) + (size as u16);
-            if 254 < sum { 254 } else { sum as u8 }
-        }
-        StepModeEnum::Down => { if now < size { 0 } else { now - size } }
+        StepModeEnum::Up => now.saturating_add(size).min(254),
+        StepModeEnum::Down => now.saturating_sub(size),
     }
 }
 

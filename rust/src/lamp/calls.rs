@@ -51,12 +51,10 @@ fn start_permille(ms: u32, no_delta: bool) -> u16 {
 
 /// The colour loop's record as what runs.
 fn loop_running(run: ColorLoopRun) -> Running {
-    let task = run.task;
-    let direction = task.direction;
     Running::ColorLoop {
-        direction: direction,
+        direction: run.task.direction,
         hue: run.hue,
-        seconds: task.seconds,
+        seconds: run.task.seconds,
         start: run.start,
     }
 }
@@ -64,52 +62,49 @@ fn loop_running(run: ColorLoopRun) -> Running {
 impl Lamp {
     /// What a pass at this clock is given of the lamp, with this remaining time.
     fn found(self, remaining: RemainingTime, clock: u64) -> Found {
-        let bounds = self.bounds;
-        let color = self.color;
         Found {
-            clock: clock,
-            bounds: bounds,
-            remaining: remaining,
-            color: color,
+            clock,
+            bounds: self.bounds,
+            remaining,
+            color: self.color,
         }
     }
 
     /// The two move-to starts write the full time first; then comes the first pass.
     fn start_hue_saturation(self, task: HueSaturationMoveTo, clock: u64) -> Left {
-        let remaining = self.remaining;
-        let w = remaining.write_remaining_time_quietly(task.ms as u64, true);
-        let left = w.remaining;
-        let delta = task.delta;
-        let target = task.saturation;
-        let no_delta = no_hue_delta(delta) & no_saturation_delta(target, self.color.saturation);
+        let w = self
+            .remaining
+            .write_remaining_time_quietly(task.ms as u64, true);
+        let no_delta = no_hue_delta(task.delta)
+            & no_saturation_delta(task.saturation, self.color.saturation);
         let permille = start_permille(task.ms, no_delta);
         let run = HueSaturationRun {
             start: clock,
             hue: self.color.hue,
             saturation: self.color.saturation,
-            task: task,
+            task,
         };
-        let found = self.found(left, clock);
+        let found = self.found(w.remaining, clock);
         let moved = found.move_to_hue_saturation_transition(run, permille);
         let passed = found.timed(moved, clock, task.ms, permille);
         left_by(w.reported, passed, Running::HueSaturationMoveTo(run))
     }
 
     fn start_color_temperature_to(self, task: ColorTemperatureMoveTo, clock: u64) -> Left {
-        let remaining = self.remaining;
-        let w = remaining.write_remaining_time_quietly(task.ms as u64, true);
-        let left = w.remaining;
+        let w = self
+            .remaining
+            .write_remaining_time_quietly(task.ms as u64, true);
         let target = clamped_sum(self.bounds.min, self.bounds.max, task.target, 0);
         let permille = start_permille(task.ms, target == self.color.mireds);
         let run = ColorTemperatureToRun {
             start: clock,
             mireds: self.color.mireds,
             task: ColorTemperatureMoveTo {
-                target: target,
+                target,
                 ms: task.ms,
             },
         };
-        let found = self.found(left, clock);
+        let found = self.found(w.remaining, clock);
         let moved = found.move_to_color_temperature_transition(run, permille);
         let passed = found.timed(moved, clock, task.ms, permille);
         left_by(w.reported, passed, Running::ColorTemperatureMoveTo(run))
@@ -117,8 +112,7 @@ impl Lamp {
 
     fn start_color_temperature(self, task: ColorTemperatureMove, clock: u64) -> Left {
         let bounds = self.bounds;
-        let remaining = self.remaining;
-        let found = self.found(remaining, clock);
+        let found = self.found(self.remaining, clock);
         let lo = bounds.lower_limit(task.min);
         let hi = bounds.upper_limit(task.max);
         if hi <= lo {
@@ -127,8 +121,8 @@ impl Lamp {
         let run = ColorTemperatureRun {
             start: clock,
             mireds: self.color.mireds,
-            lo: lo,
-            hi: hi,
+            lo,
+            hi,
             rate: task.rate,
         };
         let passed = found.color_temperature_move_transition(run);
@@ -137,8 +131,7 @@ impl Lamp {
 
     /// A start of a valid task: its record, and the first pass.
     fn begin(self, task: Task, clock: u64) -> Left {
-        let remaining = self.remaining;
-        let found = self.found(remaining, clock);
+        let found = self.found(self.remaining, clock);
         match task {
             Task::HueSaturationMoveTo(t) => self.start_hue_saturation(t, clock),
             Task::HueMove(t) => {
@@ -174,8 +167,7 @@ impl Lamp {
 
     /// A pass of what runs.
     fn pass(self, running: Running, clock: u64) -> Left {
-        let remaining = self.remaining;
-        let found = self.found(remaining, clock);
+        let found = self.found(self.remaining, clock);
         match running {
             Running::Idle => left_by(false, found.no_transition(), Running::Idle),
             Running::HueSaturationMoveTo(run) => {
@@ -210,12 +202,9 @@ impl Lamp {
                 start,
             } => {
                 let run = ColorLoopRun {
-                    start: start,
-                    hue: hue,
-                    task: ColorLoop {
-                        direction: direction,
-                        seconds: seconds,
-                    },
+                    start,
+                    hue,
+                    task: ColorLoop { direction, seconds },
                 };
                 left_by(false, found.color_loop_transition(run), loop_running(run))
             }
@@ -225,16 +214,13 @@ impl Lamp {
     /// The answer of an accepted start or step: the lamp as it is left, and what is reported.
     fn accepted(self, left: Left, list: Numeral, clock: u64) -> Answer {
         let passed = left.passed;
-        let running = left.running;
-        let color = passed.color;
-        let remaining = passed.remaining;
         Answer {
             verdict: Ok(()),
             lamp: Lamp {
-                clock: clock,
-                remaining: remaining,
-                color: color,
-                running: running,
+                clock,
+                remaining: passed.remaining,
+                color: passed.color,
+                running: left.running,
                 ..self
             },
             notices: list.note_if(left.full, Notice::RemainingTime).notices(),
@@ -252,10 +238,8 @@ impl Lamp {
             return self.refused(Refusal::InvalidTask);
         }
         let left = self.begin(task, clock);
-        let passed = left.passed;
-        let first = passed.first;
         let active = self.looping.active;
-        let list = cons_change(first, passed.behind(active), active);
+        let list = cons_change(left.passed.first, left.passed.behind(active), active);
         self.accepted(left, list, clock)
     }
 
@@ -272,10 +256,8 @@ impl Lamp {
             return self.refused(Refusal::Clock);
         }
         let left = self.pass(running, clock);
-        let passed = left.passed;
-        let first = passed.first;
         let active = self.looping.active;
-        let list = cons_change(first, passed.behind(active), active);
+        let list = cons_change(left.passed.first, left.passed.behind(active), active);
         self.accepted(left, list, clock)
     }
 
@@ -287,7 +269,7 @@ impl Lamp {
         Answer {
             verdict: Ok(()),
             lamp: Lamp {
-                clock: clock,
+                clock,
                 running: Running::Idle,
                 ..self
             },

@@ -94,8 +94,8 @@ fn left_unless(is_end: bool, passed: u64, ms: u32) -> u64 {
 pub(in crate::lamp) fn left_by(full: bool, passed: Passed, running: Running) -> Left {
     let stays = running_unless(passed.ends, running);
     Left {
-        full: full,
-        passed: passed,
+        full,
+        passed,
         running: stays,
     }
 }
@@ -111,7 +111,7 @@ fn move_hue(
 ) -> ColorSet {
     match delta {
         None => ColorSet {
-            color: color,
+            color,
             change: None,
         },
         Some(way) => {
@@ -141,7 +141,7 @@ fn move_saturation(
 ) -> ColorSet {
     match target {
         None => ColorSet {
-            color: color,
+            color,
             change: None,
         },
         Some(saturation) => {
@@ -198,19 +198,26 @@ impl Found {
         permille: u16,
     ) -> Moved {
         let task = run.task;
-        let delta = task.delta;
-        let target = task.saturation;
-        let old = self.color;
-        let hued = move_hue(old, delta, run.hue, permille, task.enhanced, self.clock);
+        let hued = move_hue(
+            self.color,
+            task.delta,
+            run.hue,
+            permille,
+            task.enhanced,
+            self.clock,
+        );
         let between = hued.color;
-        let set = move_saturation(between, target, run.saturation, permille, self.clock);
-        let color = set.color;
-        let first = hued.change;
-        let second = set.change;
+        let set = move_saturation(
+            between,
+            task.saturation,
+            run.saturation,
+            permille,
+            self.clock,
+        );
         Moved {
-            color: color,
-            first: first,
-            second: second,
+            color: set.color,
+            first: hued.change,
+            second: set.change,
             device: Some(Notice::DeviceHueSaturation),
         }
     }
@@ -220,16 +227,13 @@ impl Found {
         run: ColorTemperatureToRun,
         permille: u16,
     ) -> Moved {
-        let task = run.task;
-        let bounds = self.bounds;
-        let now = mireds_now(bounds, run.mireds, task.target, permille);
-        let old = self.color;
-        let set = old.set_color_temperature(now, 1000 <= permille, self.clock);
-        let color = set.color;
-        let first = set.change;
+        let now = mireds_now(self.bounds, run.mireds, run.task.target, permille);
+        let set = self
+            .color
+            .set_color_temperature(now, 1000 <= permille, self.clock);
         Moved {
-            color: color,
-            first: first,
+            color: set.color,
+            first: set.change,
             second: None,
             device: Some(Notice::DeviceMireds),
         }
@@ -239,62 +243,52 @@ impl Found {
     pub(in crate::lamp) fn timed(self, moved: Moved, start: u64, ms: u32, permille: u16) -> Passed {
         let ends = 1000 <= permille;
         let passed = elapsed(start, self.clock);
-        let remaining = self.remaining;
-        let w = remaining.write_remaining_time_quietly(left_unless(ends, passed, ms), false);
-        let left = w.remaining;
-        let color = moved.color;
-        let first = moved.first;
-        let second = moved.second;
+        let w = self
+            .remaining
+            .write_remaining_time_quietly(left_unless(ends, passed, ms), false);
         Passed {
-            color: color,
-            first: first,
-            second: second,
+            color: moved.color,
+            first: moved.first,
+            second: moved.second,
             device: moved.device,
             time: w.reported,
             wait: wait_unless(ends, wait_for_end(passed, ms)),
-            remaining: left,
-            ends: ends,
+            remaining: w.remaining,
+            ends,
         }
     }
 
     /// A pass that moves one attribute and leaves the remaining time.
     fn passed(self, set: ColorSet, device: Option<Notice>, wait: u64, ends: bool) -> Passed {
-        let color = set.color;
-        let first = set.change;
-        let remaining = self.remaining;
         Passed {
-            color: color,
-            first: first,
+            color: set.color,
+            first: set.change,
             second: None,
-            device: device,
+            device,
             time: false,
             wait: wait_unless(ends, wait),
-            remaining: remaining,
-            ends: ends,
+            remaining: self.remaining,
+            ends,
         }
     }
 
     pub(in crate::lamp) fn hue_move_transition(self, run: HueRun) -> Passed {
         let task = run.task;
-        let direction = task.direction;
-        let rate = direction.signed(task.rate);
+        let rate = task.direction.signed(task.rate);
         let now = moved_hue(run.hue, delta_at_rate(rate, elapsed(run.start, self.clock)));
-        let old = self.color;
-        let set = old.set_hue(now, false, task.enhanced, self.clock);
+        let set = self.color.set_hue(now, false, task.enhanced, self.clock);
         self.passed(set, Some(Notice::DeviceHueSaturation), TICK, false)
     }
 
     pub(in crate::lamp) fn saturation_move_transition(self, run: SaturationRun) -> Passed {
         let task = run.task;
-        let direction = task.direction;
-        let rate = direction.signed(task.rate);
+        let rate = task.direction.signed(task.rate);
         let now = moved_saturation(
             run.saturation,
             delta_at_rate(rate, elapsed(run.start, self.clock)),
         );
-        let ends = saturation_done(direction, now);
-        let old = self.color;
-        let set = old.set_saturation(now, ends, self.clock);
+        let ends = saturation_done(task.direction, now);
+        let set = self.color.set_saturation(now, ends, self.clock);
         self.passed(set, Some(Notice::DeviceHueSaturation), TICK, ends)
     }
 
@@ -305,27 +299,23 @@ impl Found {
         let way = delta_at_rate(run.rate, elapsed(run.start, self.clock));
         let now = clamped_sum(run.lo, run.hi, run.mireds, way);
         let ends = mireds_done(run.rate, run.lo, run.hi, now);
-        let old = self.color;
-        let set = old.set_color_temperature(now, ends, self.clock);
+        let set = self.color.set_color_temperature(now, ends, self.clock);
         self.passed(set, Some(Notice::DeviceMireds), TICK, ends)
     }
 
     pub(in crate::lamp) fn color_loop_transition(self, run: ColorLoopRun) -> Passed {
         let task = run.task;
-        let direction = task.direction;
         let passed = elapsed(run.start, self.clock);
-        let now = moved_hue(run.hue, loop_delta(direction, passed, task.seconds));
-        let old = self.color;
-        let set = old.set_hue(now, false, true, self.clock);
+        let now = moved_hue(run.hue, loop_delta(task.direction, passed, task.seconds));
+        let set = self.color.set_hue(now, false, true, self.clock);
         let wait = wait_for_turn(passed, task.seconds);
         self.passed(set, Some(Notice::DeviceHueSaturation), wait, false)
     }
 
     /// Where nothing runs, nothing changes, and no device is written.
     pub(in crate::lamp) fn no_transition(self) -> Passed {
-        let color = self.color;
         let set = ColorSet {
-            color: color,
+            color: self.color,
             change: None,
         };
         self.passed(set, None, 0, true)

@@ -10,6 +10,9 @@ pub struct Reserved {
     pub number: u8,
 }
 
+/// An enum of the cluster: its cases are found by their numbers.
+pub trait Numbered: TryFrom<u8, Error = Reserved> + Copy {}
+
 /// Which way round the circle of hues a move-to goes.
 #[derive(Clone, Copy, Debug, PartialEq, Eq)]
 pub enum DirectionEnum {
@@ -43,6 +46,8 @@ impl TryFrom<u8> for DirectionEnum {
         }
     }
 }
+
+impl Numbered for DirectionEnum {}
 
 /// What a move at a rate does: stop, or go up or down.
 #[derive(Clone, Copy, Debug, PartialEq, Eq)]
@@ -86,6 +91,8 @@ impl TryFrom<u8> for MoveModeEnum {
     }
 }
 
+impl Numbered for MoveModeEnum {}
+
 /// Which way a step goes.
 #[derive(Clone, Copy, Debug, PartialEq, Eq)]
 pub enum StepModeEnum {
@@ -113,6 +120,8 @@ impl TryFrom<u8> for StepModeEnum {
         }
     }
 }
+
+impl Numbered for StepModeEnum {}
 
 /// What the colour-loop command does with the loop.
 #[derive(Clone, Copy, Debug, PartialEq, Eq)]
@@ -145,6 +154,8 @@ impl TryFrom<u8> for ColorLoopActionEnum {
     }
 }
 
+impl Numbered for ColorLoopActionEnum {}
+
 /// Which way the colour loop turns.
 #[derive(Clone, Copy, Debug, PartialEq, Eq)]
 pub enum ColorLoopDirectionEnum {
@@ -172,6 +183,8 @@ impl TryFrom<u8> for ColorLoopDirectionEnum {
         }
     }
 }
+
+impl Numbered for ColorLoopDirectionEnum {}
 
 /// Which attributes the colour is read from.
 #[derive(Clone, Copy, Debug, PartialEq, Eq)]
@@ -203,6 +216,8 @@ impl TryFrom<u8> for ColorModeEnum {
         }
     }
 }
+
+impl Numbered for ColorModeEnum {}
 
 /// ColorModeEnum, and the enhanced hue.
 #[derive(Clone, Copy, Debug, PartialEq, Eq)]
@@ -238,6 +253,8 @@ impl TryFrom<u8> for EnhancedColorModeEnum {
     }
 }
 
+impl Numbered for EnhancedColorModeEnum {}
+
 /// What the on/off cluster beside the lamp says: off, on, or that there is none.
 #[derive(Clone, Copy, Debug, PartialEq, Eq)]
 pub enum OnOff {
@@ -268,6 +285,8 @@ impl TryFrom<u8> for OnOff {
         }
     }
 }
+
+impl Numbered for OnOff {}
 
 /// The ColorMode that matches an EnhancedColorMode.
 pub fn color_mode_of(mode: EnhancedColorModeEnum) -> ColorModeEnum {
