@@ -60,8 +60,8 @@ pub fn lowest_running(mask: u32) -> Option<u8> {
 /// The mask of these lamps.
 fn mask_of(lamps: &[Lamp]) -> u32 {
     let mut mask: u32 = 0;
-    for place in (0..lamps.len()).rev() {
-        mask = 2 * mask + u32::from(lamps[place].running.is_running());
+    for lamp in lamps.iter().rev() {
+        mask = 2 * mask + u32::from(lamp.running.is_running());
     }
     mask
 }

@@ -67,8 +67,8 @@ fn mask_of(lamps: &[Lamp]) -> u32
     ensures { result ≡ mask_of lamps.now }
 {
     let mut mask: u32 = 0;
-    for place in (0..lamps.len()).rev() {
-        mask = 2 * mask + u32::from(lamps[place].running.is_running());
+    for lamp in lamps.iter().rev() {
+        mask = 2 * mask + u32::from(lamp.running.is_running());
     }
     mask
 }
