@@ -29,7 +29,7 @@ fn no_hue_delta(delta: Option<i64>) -> bool
 {
     match delta {
         None => true,
-        Some(way) => (way <= 0) & (0 <= way),
+        Some(way) => way == 0,
     }
 }
 

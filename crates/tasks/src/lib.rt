@@ -144,7 +144,7 @@ fn is_valid_time(ms: u32) -> bool
 fn is_valid_rate(rate: i64) -> bool
     ensures { result ≡ rate_valid rate }
 {
-    ((rate < 0) | (0 < rate)) & ((-65535 <= rate) & (rate <= 65535))
+    (rate != 0) & ((-65535 <= rate) & (rate <= 65535))
 }
 
 fn within_bounds(bounds: Bounds, mireds: u16) -> bool
