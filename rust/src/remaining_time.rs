@@ -21,7 +21,7 @@ pub struct Written {
 /// Whether a change from `prev` to `new_ds` is reported: to 0, from 0 to more than a second, or, at a transition's start,
 /// by more than a second.
 fn is_reported(prev: u16, new_ds: u16, is_start_of_transition: bool) -> bool {
-    let changed_to_zero = (new_ds == 0) & !(prev == 0);
+    let changed_to_zero = (new_ds == 0) & (prev != 0);
     let changed_from_zero_gt_10 = (prev == 0) & (10 < new_ds);
     let changed_by_gt_10 = (10 < new_ds.abs_diff(prev)) & is_start_of_transition;
     changed_to_zero | changed_from_zero_gt_10 | changed_by_gt_10

@@ -139,7 +139,7 @@ fn is_valid_time(ms: u32) -> bool {
 
 /// A signed rate of mireds that moves, within 65,535.
 fn is_valid_rate(rate: i64) -> bool {
-    ((rate < 0) | (0 < rate)) & ((-65535 <= rate) & (rate <= 65535))
+    (rate != 0) & ((-65535 <= rate) & (rate <= 65535))
 }
 
 fn within_bounds(bounds: Bounds, mireds: u16) -> bool {
@@ -152,17 +152,11 @@ fn moving(direction: MoveModeEnum) -> bool {
 }
 
 fn is_valid_delta(delta: Option<i64>) -> bool {
-    match delta {
-        None => true,
-        Some(way) => (-65535 <= way) & (way <= 65535),
-    }
+    delta.is_none_or(|way| (-65535 <= way) & (way <= 65535))
 }
 
 fn is_valid_saturation(target: Option<u8>) -> bool {
-    match target {
-        None => true,
-        Some(saturation) => saturation <= 254,
-    }
+    target.is_none_or(|saturation| saturation <= 254)
 }
 
 /// A rate in its range, in a direction that moves.

@@ -27,19 +27,13 @@ use tasks::{
 fn no_hue_delta(delta: Option<i64>) -> bool
     ensures { result ≡ no_hue_delta delta }
 {
-    match delta {
-        None => true,
-        Some(way) => way == 0,
-    }
+    delta.is_none_or(|way| way == 0)
 }
 
 fn no_saturation_delta(target: Option<u8>, start: u8) -> bool
     ensures { result ≡ no_saturation_delta target start }
 {
-    match target {
-        None => true,
-        Some(saturation) => saturation == start,
-    }
+    target.is_none_or(|saturation| saturation == start)
 }
 
 // Permille at a start: the end at once where there is no time or no way.

@@ -163,19 +163,13 @@ fn moving(direction: MoveModeEnum) -> bool
 fn is_valid_delta(delta: Option<i64>) -> bool
     ensures { result ≡ delta_valid delta }
 {
-    match delta {
-        None => true,
-        Some(way) => (-65535 <= way) & (way <= 65535),
-    }
+    delta.is_none_or(|way| (-65535 <= way) & (way <= 65535))
 }
 
 fn is_valid_saturation(target: Option<u8>) -> bool
     ensures { result ≡ saturation_valid target }
 {
-    match target {
-        None => true,
-        Some(saturation) => saturation <= 254,
-    }
+    target.is_none_or(|saturation| saturation <= 254)
 }
 
 // A rate in its range, in a direction that moves.

@@ -31,17 +31,11 @@ use crate::tasks::SaturationRun;
 use crate::tasks::Task;
 
 fn no_hue_delta(delta: Option<i64>) -> bool {
-    match delta {
-        None => true,
-        Some(way) => (way <= 0) & (0 <= way),
-    }
+    delta.is_none_or(|way| way == 0)
 }
 
 fn no_saturation_delta(target: Option<u8>, start: u8) -> bool {
-    match target {
-        None => true,
-        Some(saturation) => saturation == start,
-    }
+    target.is_none_or(|saturation| saturation == start)
 }
 
 /// Permille at a start: the end at once where there is no time or no way.
