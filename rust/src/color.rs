@@ -50,13 +50,7 @@ pub struct ColorSet {
 /// Whether an attribute is reported: at an end, or one second or more after it last was. A stamp after the clock is never
 /// a second old.
 fn is_due(is_end: bool, stamp: u64, clock: u64) -> bool {
-    if is_end {
-        return true;
-    }
-    if clock < stamp {
-        return false;
-    }
-    1000 <= clock - stamp
+    is_end || 1000 <= clock.saturating_sub(stamp)
 }
 
 /// The stamp of an attribute that is reported at this clock, or not.

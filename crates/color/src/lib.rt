@@ -52,13 +52,7 @@ pub struct ColorSet {
 fn is_due(is_end: bool, stamp: u64, clock: u64) -> bool
     ensures { result ≡ due is_end stamp clock }
 {
-    if is_end {
-        return true;
-    }
-    if clock < stamp {
-        return false;
-    }
-    1000 <= clock - stamp
+    is_end || 1000 <= clock.saturating_sub(stamp)
 }
 
 // The stamp of an attribute that is reported at this clock, or not.
