@@ -7,4 +7,4 @@ pub returns : goal.returns
 unfolding activated
 returns c =
     rw
-    (c.note_if-2.ensures, c.note_if.ensures, c.cons_change.ensures, c.choice-stored.ensures, c.note-given.ensures, c.note.ensures, c.new.ensures, c.set_hue-set.ensures, on-change c.args.lamp.color c.args.seed c.args.lamp.clock c.args.lamp.looping.active)
+    (c.note_if-2.ensures, c.note_if.ensures, c.cons_change.ensures, c.choice.ensures, c.note-given.ensures, c.note.ensures, c.new.ensures, c.set_hue-set.ensures, on-change c.args.lamp.color c.args.seed c.args.lamp.clock c.args.lamp.looping.active)

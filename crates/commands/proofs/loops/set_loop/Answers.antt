@@ -11,5 +11,5 @@ unfolding loop_set
 returns c =
     let a = c.args in
     let changed : Lamp = with_loop (at_clock a.lamp a.clock) a.lamp.color (updated a.lamp.looping a.flags a.direction a.time a.start_hue) in
-    rw (c.cons_updated.ensures, c.act-done.ensures, c.contains.ensures, c.updated_settings-updated.ensures)
+    rw (c.cons_updated.ensures, c.act-done.ensures, c.contains.ensures, c.updated_settings.ensures)
     (done-fronted changed (updated_reported a.flags) (has_flag a.flags update_action) a.action)
