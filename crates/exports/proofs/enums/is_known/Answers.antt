@@ -7,5 +7,4 @@ pub returns : goal.returns
 unfolding known_of
 returns g c =
     let m = g.E.Numbered in
-    let laws = g.met.E.Numbered in
-    rw (c.is_ok.ensures.value, laws.finds _ _ c.try_from.ensures) (same-known m.number m.cases m.ends c.args.n c.capped.ensures)
+    rw (c.is_ok.ensures.value, g.met.E.Numbered.finds _ _ c.try_from.ensures) (same-known m.number m.cases g.met.E.Readable.ends c.args.n c.capped.ensures)

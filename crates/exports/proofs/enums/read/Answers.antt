@@ -7,5 +7,4 @@ pub returns : goal.returns
 unfolding read_of
 returns g c =
     let m = g.E.Numbered in
-    let laws = g.met.E.Numbered in
-    rw (c.unwrap_or.ensures, c.RESERVED.ensures, laws.finds _ _ c.try_from.ensures) (same-read m.number m.cases m.ends c.args.n m.RESERVED c.capped.ensures)
+    rw (c.unwrap_or.ensures, c.RESERVED.ensures, g.met.E.Numbered.finds _ _ c.try_from.ensures) (same-read m.number m.cases g.met.E.Readable.ends c.args.n g.E.Readable.RESERVED c.capped.ensures)
