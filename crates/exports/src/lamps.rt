@@ -145,7 +145,7 @@ pub(crate) fn lamp_words(lamp: Lamp) -> [u64; 28]
         color.mireds as u64,
         u8::from(color.mode) as u64,
         u8::from(color.emode) as u64,
-        words::of_flag(looping.active),
+        u64::from(looping.active),
         u8::from(looping.direction) as u64,
         looping.time as u64,
         looping.start as u64,

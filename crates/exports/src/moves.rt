@@ -200,7 +200,7 @@ impl RecordNumbers {
         let task = self.task;
         (self.x <= 65535)
             & (self.y <= 255)
-            & (!(task.kind == SATURATION_MOVE) | (self.x <= 255))
+            & ((task.kind != SATURATION_MOVE) | (self.x <= 255))
             & ((task.kind == 0) | ((task.kind <= 6) & task.known()))
     }
 
@@ -276,11 +276,11 @@ impl From<HueSaturationMoveTo> for TaskNumbers {
         numbers(
             MOVE_TO,
             t.delta.map_or(0, words::sign_of),
-            t.delta.map_or(0, words::size_of),
-            words::of_flag(t.saturation.is_some()),
+            t.delta.unwrap_or(0).unsigned_abs(),
+            u64::from(t.saturation.is_some()),
             t.saturation.map_or(0, u64::from),
             t.ms as u64,
-            words::of_flag(t.enhanced),
+            u64::from(t.enhanced),
         )
     }
 }
@@ -293,7 +293,7 @@ impl From<HueMove> for TaskNumbers {
             HUE_MOVE,
             u8::from(t.direction) as u64,
             t.rate as u64,
-            words::of_flag(t.enhanced),
+            u64::from(t.enhanced),
             0,
             0,
             0,
@@ -332,7 +332,7 @@ impl From<ColorTemperatureMove> for TaskNumbers {
         numbers(
             MIREDS_MOVE,
             words::sign_of(t.rate),
-            words::size_of(t.rate),
+            t.rate.unsigned_abs(),
             t.min as u64,
             t.max as u64,
             0,

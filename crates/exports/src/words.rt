@@ -59,15 +59,3 @@ pub(crate) fn sign_of(n: i64) -> u64
 {
     if n < 0 { 2 } else { 1 }
 }
-
-pub(crate) fn size_of(n: i64) -> u64
-    ensures { result ≡ W.size_of n }
-{
-    n.unsigned_abs()
-}
-
-pub fn of_flag(b: bool) -> u64
-    ensures { result ≡ W.flag_number b }
-{
-    u64::from(b)
-}
