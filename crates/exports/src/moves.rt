@@ -1,8 +1,7 @@
 // Tasks and running records as numbers: a kind and its numbers in the protocol's order, unused places 0.
 ghost use Rattle.std.specs.Prelude.{◌≡◌};
 ghost use Rattle.exports.specs.Words.{short};
-ghost use Rattle.exports.specs.Moves as M;
-ghost use Rattle.exports.specs.Moves.{delta_of, target_of, move_to_of, hue_move_of, saturation_move_of, mireds_to_of, mireds_move_of, color_loop_of, task_of, running_of, task_fits, task_known, record_known, move_to_numbers, hue_move_numbers, saturation_move_numbers, mireds_to_numbers, mireds_move_numbers, color_loop_numbers, task_numbers, given_numbers, found, record_numbers};
+ghost use Rattle.exports.specs.Moves.{delta_of, target_of, move_to_of, hue_move_of, saturation_move_of, mireds_to_of, mireds_move_of, color_loop_of, task_of, running_of, task_fits, task_known, record_known, move_to_numbers, hue_move_numbers, saturation_move_numbers, mireds_to_numbers, mireds_move_numbers, color_loop_numbers, task_numbers, given_numbers, record_numbers};
 
 use crate::{enums, words};
 use matter::{ColorLoopDirectionEnum, MoveModeEnum};
@@ -31,7 +30,7 @@ pub const STOP: u64 = 7;
 const LARGEST: u64 = 9223372036854775807;
 
 // A task's kind and its six numbers.
-#[derive(Clone, Copy)]
+#[derive(Clone, Copy, Default)]
 pub struct TaskNumbers {
     pub kind: u64,
     pub a: u64,
@@ -43,7 +42,7 @@ pub struct TaskNumbers {
 }
 
 // A record's start: the clock and the numbers found there, and its task.
-#[derive(Clone, Copy)]
+#[derive(Clone, Copy, Default)]
 pub struct RecordNumbers {
     pub start: u64,
     pub x: u64,
@@ -255,33 +254,19 @@ impl RecordNumbers {
     }
 }
 
-fn numbers(kind: u64, a: u64, b: u64, c: u64, d: u64, e: u64, f: u64) -> TaskNumbers
-    ensures { result ≡ M.numbers kind a b c d e f }
-{
-    TaskNumbers {
-        kind,
-        a,
-        b,
-        c,
-        d,
-        e,
-        f,
-    }
-}
-
 impl From<HueSaturationMoveTo> for TaskNumbers {
     ghost from_gives = { λ x n. n ≡ move_to_numbers x };
 
     fn from(t: HueSaturationMoveTo) -> TaskNumbers {
-        numbers(
-            MOVE_TO,
-            t.delta.map_or(0, words::sign_of),
-            t.delta.unwrap_or(0).unsigned_abs(),
-            u64::from(t.saturation.is_some()),
-            t.saturation.map_or(0, u64::from),
-            t.ms as u64,
-            u64::from(t.enhanced),
-        )
+        TaskNumbers {
+            kind: MOVE_TO,
+            a: t.delta.map_or(0, words::sign_of),
+            b: t.delta.unwrap_or(0).unsigned_abs(),
+            c: u64::from(t.saturation.is_some()),
+            d: t.saturation.map_or(0, u64::from),
+            e: t.ms as u64,
+            f: u64::from(t.enhanced),
+        }
     }
 }
 
@@ -289,15 +274,13 @@ impl From<HueMove> for TaskNumbers {
     ghost from_gives = { λ x n. n ≡ hue_move_numbers x };
 
     fn from(t: HueMove) -> TaskNumbers {
-        numbers(
-            HUE_MOVE,
-            u8::from(t.direction) as u64,
-            t.rate as u64,
-            u64::from(t.enhanced),
-            0,
-            0,
-            0,
-        )
+        TaskNumbers {
+            kind: HUE_MOVE,
+            a: u8::from(t.direction) as u64,
+            b: t.rate as u64,
+            c: u64::from(t.enhanced),
+            ..TaskNumbers::default()
+        }
     }
 }
 
@@ -305,15 +288,12 @@ impl From<SaturationMove> for TaskNumbers {
     ghost from_gives = { λ x n. n ≡ saturation_move_numbers x };
 
     fn from(t: SaturationMove) -> TaskNumbers {
-        numbers(
-            SATURATION_MOVE,
-            u8::from(t.direction) as u64,
-            t.rate as u64,
-            0,
-            0,
-            0,
-            0,
-        )
+        TaskNumbers {
+            kind: SATURATION_MOVE,
+            a: u8::from(t.direction) as u64,
+            b: t.rate as u64,
+            ..TaskNumbers::default()
+        }
     }
 }
 
@@ -321,7 +301,12 @@ impl From<ColorTemperatureMoveTo> for TaskNumbers {
     ghost from_gives = { λ x n. n ≡ mireds_to_numbers x };
 
     fn from(t: ColorTemperatureMoveTo) -> TaskNumbers {
-        numbers(MIREDS_TO, t.target as u64, t.ms as u64, 0, 0, 0, 0)
+        TaskNumbers {
+            kind: MIREDS_TO,
+            a: t.target as u64,
+            b: t.ms as u64,
+            ..TaskNumbers::default()
+        }
     }
 }
 
@@ -329,15 +314,14 @@ impl From<ColorTemperatureMove> for TaskNumbers {
     ghost from_gives = { λ x n. n ≡ mireds_move_numbers x };
 
     fn from(t: ColorTemperatureMove) -> TaskNumbers {
-        numbers(
-            MIREDS_MOVE,
-            words::sign_of(t.rate),
-            t.rate.unsigned_abs(),
-            t.min as u64,
-            t.max as u64,
-            0,
-            0,
-        )
+        TaskNumbers {
+            kind: MIREDS_MOVE,
+            a: words::sign_of(t.rate),
+            b: t.rate.unsigned_abs(),
+            c: t.min as u64,
+            d: t.max as u64,
+            ..TaskNumbers::default()
+        }
     }
 }
 
@@ -345,15 +329,12 @@ impl From<ColorLoop> for TaskNumbers {
     ghost from_gives = { λ x n. n ≡ color_loop_numbers x };
 
     fn from(t: ColorLoop) -> TaskNumbers {
-        numbers(
-            LOOP,
-            u8::from(t.direction) as u64,
-            t.seconds as u64,
-            0,
-            0,
-            0,
-            0,
-        )
+        TaskNumbers {
+            kind: LOOP,
+            a: u8::from(t.direction) as u64,
+            b: t.seconds as u64,
+            ..TaskNumbers::default()
+        }
     }
 }
 
@@ -369,7 +350,10 @@ impl From<Task> for TaskNumbers {
             Task::ColorTemperatureMoveTo(t) => TaskNumbers::from(t),
             Task::ColorTemperatureMove(t) => TaskNumbers::from(t),
             Task::ColorLoop(t) => TaskNumbers::from(t),
-            Task::Stop => numbers(STOP, 0, 0, 0, 0, 0, 0),
+            Task::Stop => TaskNumbers {
+                kind: STOP,
+                ..TaskNumbers::default()
+            },
         }
     }
 }
@@ -380,16 +364,10 @@ impl From<Option<Task>> for TaskNumbers {
     #[tactic(auto, unfolding(crate::specs::Moves::given_numbers))]
     fn from(task: Option<Task>) -> TaskNumbers {
         match task {
-            None => numbers(0, 0, 0, 0, 0, 0, 0),
+            None => TaskNumbers::default(),
             Some(t) => TaskNumbers::from(t),
         }
     }
-}
-
-fn record(start: u64, x: u64, y: u64, task: TaskNumbers) -> RecordNumbers
-    ensures { result ≡ found start x y task }
-{
-    RecordNumbers { start, x, y, task }
 }
 
 impl From<Running> for RecordNumbers {
@@ -398,24 +376,34 @@ impl From<Running> for RecordNumbers {
     #[tactic(auto, unfolding(crate::specs::Moves::record_numbers))]
     fn from(running: Running) -> RecordNumbers {
         match running {
-            Running::Idle => record(0, 0, 0, numbers(0, 0, 0, 0, 0, 0, 0)),
-            Running::HueSaturationMoveTo(run) => record(
-                run.start,
-                run.hue as u64,
-                run.saturation as u64,
-                TaskNumbers::from(run.task),
-            ),
+            Running::Idle => RecordNumbers::default(),
+            Running::HueSaturationMoveTo(run) => RecordNumbers {
+                start: run.start,
+                x: run.hue as u64,
+                y: run.saturation as u64,
+                task: TaskNumbers::from(run.task),
+            },
             Running::HueMove(run) => {
-                record(run.start, run.hue as u64, 0, TaskNumbers::from(run.task))
+                RecordNumbers {
+                    start: run.start,
+                    x: run.hue as u64,
+                    y: 0,
+                    task: TaskNumbers::from(run.task),
+                }
             }
-            Running::SaturationMove(run) => record(
-                run.start,
-                run.saturation as u64,
-                0,
-                TaskNumbers::from(run.task),
-            ),
+            Running::SaturationMove(run) => RecordNumbers {
+                start: run.start,
+                x: run.saturation as u64,
+                y: 0,
+                task: TaskNumbers::from(run.task),
+            },
             Running::ColorTemperatureMoveTo(run) => {
-                record(run.start, run.mireds as u64, 0, TaskNumbers::from(run.task))
+                RecordNumbers {
+                    start: run.start,
+                    x: run.mireds as u64,
+                    y: 0,
+                    task: TaskNumbers::from(run.task),
+                }
             }
             Running::ColorTemperatureMove(run) => {
                 let task = ColorTemperatureMove {
@@ -423,7 +411,12 @@ impl From<Running> for RecordNumbers {
                     min: run.lo,
                     max: run.hi,
                 };
-                record(run.start, run.mireds as u64, 0, TaskNumbers::from(task))
+                RecordNumbers {
+                    start: run.start,
+                    x: run.mireds as u64,
+                    y: 0,
+                    task: TaskNumbers::from(task),
+                }
             }
             Running::ColorLoop {
                 direction,
@@ -432,7 +425,12 @@ impl From<Running> for RecordNumbers {
                 start,
             } => {
                 let task = ColorLoop { direction, seconds };
-                record(start, hue as u64, 0, TaskNumbers::from(task))
+                RecordNumbers {
+                    start,
+                    x: hue as u64,
+                    y: 0,
+                    task: TaskNumbers::from(task),
+                }
             }
         }
     }
