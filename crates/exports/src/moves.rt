@@ -1,7 +1,7 @@
 // Tasks and running records as numbers: a kind and its numbers in the protocol's order, unused places 0.
-ghost use Rattle.std.specs.Prelude.{◌≡◌};
-ghost use Rattle.exports.specs.Words.{short};
-ghost use Rattle.exports.specs.Moves.{delta_of, target_of, move_to_of, hue_move_of, saturation_move_of, mireds_to_of, mireds_move_of, color_loop_of, task_of, running_of, task_fits, task_known, record_known, move_to_numbers, hue_move_numbers, saturation_move_numbers, mireds_to_numbers, mireds_move_numbers, color_loop_numbers, task_numbers, given_numbers, record_numbers};
+ghost use Rattle.std.specs.Prelude.{◌≡◌, ◌≤◌, ◌+◌};
+ghost use Rattle.exports.specs.Words.{at, short};
+ghost use Rattle.exports.specs.Moves.{numbers, delta_of, target_of, move_to_of, hue_move_of, saturation_move_of, mireds_to_of, mireds_move_of, color_loop_of, task_of, running_of, task_fits, task_known, record_known, move_to_numbers, hue_move_numbers, saturation_move_numbers, mireds_to_numbers, mireds_move_numbers, color_loop_numbers, task_numbers, given_numbers, record_numbers};
 
 use crate::{enums, words};
 use matter::{ColorLoopDirectionEnum, MoveModeEnum};
@@ -11,7 +11,7 @@ use tasks::{
     SaturationMove, SaturationRun, Task,
 };
 
-// The kinds of tasks and records. 0 is no task, and an idle lamp.
+// The kinds of tasks and records, numbers since C reads and writes them (docs/WORDS.md). 0 is no task, and an idle lamp.
 pub const MOVE_TO: u64 = 1;
 
 pub const HUE_MOVE: u64 = 2;
@@ -29,7 +29,7 @@ pub const STOP: u64 = 7;
 // The largest size of a signed number.
 const LARGEST: u64 = 9223372036854775807;
 
-// A task's kind and its six numbers.
+// A task's kind and its six numbers, as C has them; `known` says whether they are a task.
 #[derive(Clone, Copy, Default)]
 pub struct TaskNumbers {
     pub kind: u64,
@@ -73,6 +73,22 @@ fn target(given: u64, saturation: u64) -> Option<u8>
 }
 
 impl TaskNumbers {
+    // The seven words from the first one on.
+    pub(crate) fn from_words(w: &[u64], first: usize) -> TaskNumbers
+        requires { first ≤ 21 }
+        ensures { result ≡ numbers (at w.now first) (at w.now (first + 1)) (at w.now (first + 2)) (at w.now (first + 3)) (at w.now (first + 4)) (at w.now (first + 5)) (at w.now (first + 6)) }
+    {
+        TaskNumbers {
+            kind: words::at(w, first),
+            a: words::at(w, first + 1),
+            b: words::at(w, first + 2),
+            c: words::at(w, first + 3),
+            d: words::at(w, first + 4),
+            e: words::at(w, first + 5),
+            f: words::at(w, first + 6),
+        }
+    }
+
     #[tactic(auto, unfolding(crate::specs::Moves::move_to_of))]
     fn move_to(self) -> HueSaturationMoveTo
         ensures { result ≡ move_to_of self }
@@ -363,10 +379,7 @@ impl From<Option<Task>> for TaskNumbers {
 
     #[tactic(auto, unfolding(crate::specs::Moves::given_numbers))]
     fn from(task: Option<Task>) -> TaskNumbers {
-        match task {
-            None => TaskNumbers::default(),
-            Some(t) => TaskNumbers::from(t),
-        }
+        task.map(TaskNumbers::from).unwrap_or_default()
     }
 }
 
@@ -383,28 +396,24 @@ impl From<Running> for RecordNumbers {
                 y: run.saturation as u64,
                 task: TaskNumbers::from(run.task),
             },
-            Running::HueMove(run) => {
-                RecordNumbers {
-                    start: run.start,
-                    x: run.hue as u64,
-                    y: 0,
-                    task: TaskNumbers::from(run.task),
-                }
-            }
+            Running::HueMove(run) => RecordNumbers {
+                start: run.start,
+                x: run.hue as u64,
+                y: 0,
+                task: TaskNumbers::from(run.task),
+            },
             Running::SaturationMove(run) => RecordNumbers {
                 start: run.start,
                 x: run.saturation as u64,
                 y: 0,
                 task: TaskNumbers::from(run.task),
             },
-            Running::ColorTemperatureMoveTo(run) => {
-                RecordNumbers {
-                    start: run.start,
-                    x: run.mireds as u64,
-                    y: 0,
-                    task: TaskNumbers::from(run.task),
-                }
-            }
+            Running::ColorTemperatureMoveTo(run) => RecordNumbers {
+                start: run.start,
+                x: run.mireds as u64,
+                y: 0,
+                task: TaskNumbers::from(run.task),
+            },
             Running::ColorTemperatureMove(run) => {
                 let task = ColorTemperatureMove {
                     rate: run.rate,
