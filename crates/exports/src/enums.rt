@@ -92,6 +92,7 @@ impl Readable for OnOff {
 }
 
 // The case that the number has.
+#[tactic(auto, unfolding(crate::specs::Enums::read_of), using(crate::proofs::Found::same_read))]
 pub(crate) fn read<E: Readable>(n: u64) -> E
     ensures { result ≡ read_of E.number E.cases E.RESERVED n }
 {
@@ -99,6 +100,7 @@ pub(crate) fn read<E: Readable>(n: u64) -> E
 }
 
 // Whether a case has the number.
+#[tactic(auto, unfolding(crate::specs::Enums::known_of), using(crate::proofs::Found::same_known))]
 pub(crate) fn is_known<E: Readable>(n: u64) -> bool
     ensures { result ≡ known_of E.number E.cases n }
 {
