@@ -47,11 +47,11 @@ const MOVE_COLOR_TEMPERATURE: u64 = 75;
 
 const STEP_COLOR_TEMPERATURE: u64 = 76;
 
-pub const START: u64 = 256;
+const START: u64 = 256;
 
-pub const STEP: u64 = 257;
+const STEP: u64 = 257;
 
-pub const HALT: u64 = 258;
+const HALT: u64 = 258;
 
 // A command's number, options and arguments, as C writes them; `known` says whether they are a command.
 #[derive(Clone, Copy)]
@@ -67,6 +67,21 @@ pub struct CommandNumbers {
 }
 
 impl CommandNumbers {
+    fn from_words(w: &[u64]) -> CommandNumbers
+        ensures { result ≡ command_numbers w.now }
+    {
+        CommandNumbers {
+            kind: at(w, 0),
+            mask: at(w, 3),
+            overrides: at(w, 4),
+            a: at(w, 5),
+            b: at(w, 6),
+            c: at(w, 7),
+            d: at(w, 8),
+            e: at(w, 9),
+        }
+    }
+
     #[tactic(auto, unfolding(crate::specs::Calls::hue_command))]
     fn hue_command(self) -> Command
         ensures { result ≡ hue_command self }
@@ -253,34 +268,17 @@ impl CommandNumbers {
     }
 }
 
-fn command_numbers(w: &[u64]) -> CommandNumbers
-    ensures { result ≡ command_numbers w.now }
-{
-    CommandNumbers {
-        kind: at(w, 0),
-        mask: at(w, 3),
-        overrides: at(w, 4),
-        a: at(w, 5),
-        b: at(w, 6),
-        c: at(w, 7),
-        d: at(w, 8),
-        e: at(w, 9),
-    }
-}
-
 // Whether the words are a call: as many as it has, with a kind and enums' numbers that exist, and each within its field.
 #[tactic(auto, unfolding(crate::specs::Calls::call_known))]
 pub(crate) fn call_known(w: &[u64]) -> bool
     ensures { result ≡ call_known w.now }
 {
     let kind = at(w, 0);
-    let task = TaskNumbers::from_words(w, 3);
-    let command = command_numbers(w);
     (w.len() == CALL_WORDS)
-        & (((kind == START) & task.known())
+        & (((kind == START) & TaskNumbers::from_words(w, 3).known())
             | (kind == STEP)
             | (kind == HALT)
-            | (command.known() & enums::is_known::<OnOff>(at(w, 2))))
+            | (CommandNumbers::from_words(w).known() & enums::is_known::<OnOff>(at(w, 2))))
 }
 
 // The call that the words mean; `call_known` says whether they are one.
@@ -297,7 +295,7 @@ pub fn call_of(w: &[u64]) -> Call
         },
         HALT => Call::Halt { clock },
         _ => Call::Command {
-            request: command_numbers(w).request(),
+            request: CommandNumbers::from_words(w).request(),
             on_off: enums::read(at(w, 2)),
             clock,
         },

@@ -1,6 +1,6 @@
 // Tasks and running records as numbers: a kind and its numbers in the protocol's order, unused places 0.
 ghost use Rattle.std.specs.Prelude.{◌≡◌, ◌≤◌, ◌+◌};
-ghost use Rattle.exports.specs.Words.{at, short};
+ghost use Rattle.exports.specs.Words.{at};
 ghost use Rattle.exports.specs.Moves.{numbers, delta_of, target_of, move_to_of, hue_move_of, saturation_move_of, mireds_to_of, mireds_move_of, color_loop_of, task_of, running_of, task_fits, task_known, record_known, move_to_numbers, hue_move_numbers, saturation_move_numbers, mireds_to_numbers, mireds_move_numbers, color_loop_numbers, task_numbers, given_numbers, record_numbers};
 
 use crate::{enums, words};
@@ -12,19 +12,19 @@ use tasks::{
 };
 
 // The kinds of tasks and records, numbers since C reads and writes them (docs/WORDS.md). 0 is no task, and an idle lamp.
-pub const MOVE_TO: u64 = 1;
+const MOVE_TO: u64 = 1;
 
-pub const HUE_MOVE: u64 = 2;
+const HUE_MOVE: u64 = 2;
 
-pub const SATURATION_MOVE: u64 = 3;
+const SATURATION_MOVE: u64 = 3;
 
-pub const MIREDS_TO: u64 = 4;
+const MIREDS_TO: u64 = 4;
 
-pub const MIREDS_MOVE: u64 = 5;
+const MIREDS_MOVE: u64 = 5;
 
-pub const LOOP: u64 = 6;
+const LOOP: u64 = 6;
 
-pub const STOP: u64 = 7;
+const STOP: u64 = 7;
 
 // The largest size of a signed number.
 const LARGEST: u64 = 9223372036854775807;
@@ -219,18 +219,6 @@ impl RecordNumbers {
             & ((task.kind == 0) | ((task.kind <= 6) & task.known()))
     }
 
-    fn mireds_run(self, task: ColorTemperatureMove) -> ColorTemperatureRun
-        ensures { result ≡ record { start = self.start; mireds = short self.x; rate = task.rate; lo = task.min; hi = task.max } }
-    {
-        ColorTemperatureRun {
-            start: self.start,
-            mireds: words::short(self.x),
-            rate: task.rate,
-            lo: task.min,
-            hi: task.max,
-        }
-    }
-
     pub(crate) fn running(self) -> Running
         ensures { result ≡ running_of self }
     {
@@ -258,7 +246,13 @@ impl RecordNumbers {
                     task: t,
                 })
             }
-            Task::ColorTemperatureMove(t) => Running::ColorTemperatureMove(self.mireds_run(t)),
+            Task::ColorTemperatureMove(t) => Running::ColorTemperatureMove(ColorTemperatureRun {
+                start: self.start,
+                mireds: words::short(self.x),
+                rate: t.rate,
+                lo: t.min,
+                hi: t.max,
+            }),
             Task::ColorLoop(t) => Running::ColorLoop {
                 direction: t.direction,
                 hue: words::short(self.x),
