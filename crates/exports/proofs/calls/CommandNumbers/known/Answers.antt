@@ -10,7 +10,7 @@ pub returns : goal.returns
 unfolding command_known
 returns c =
     elim c.match-self.branch [
-      | in-0 w ↦ grind (arith, common_steps, c.fits.ensures, w.result-is, w.is_known.ensures, w.in-0.is)
+      | in-0 w ↦ elim w.in-0.is [ inl e ↦ simp (c.fits.ensures, w.result-is, w.is_known.ensures, e, or-false) | inr e ↦ simp (c.fits.ensures, w.result-is, w.is_known.ensures, e, or-false) ]
       | in-1 w ↦ rw (c.fits.ensures, w.result-is, w.is_known-in-1.ensures) (elim w.in-1.is [ inl e ↦ simp (e, or-false) | inr f ↦ elim f [ inl e ↦ simp (e, or-false) | inr f ↦ elim f [ inl e ↦ simp (e, or-false) | inr e ↦ simp (e, or-false) ] ] ])
       | in-2 w ↦ rw (c.fits.ensures, w.result-is, w.is_known-in-2.ensures) (elim w.in-2.is [ inl e ↦ simp (e, or-false) | inr f ↦ elim f [ inl e ↦ simp (e, or-false) | inr f ↦ elim f [ inl e ↦ simp (e, or-false) | inr e ↦ simp (e, or-false) ] ] ])
       | in-3 w ↦ rw (c.fits.ensures, w.result-is) (elim w.in-3.is [ inl e ↦ simp e | inr f ↦ elim f [ inl e ↦ simp e | inr f ↦ elim f [ inl e ↦ simp e | inr e ↦ simp e ] ] ])
