@@ -46,34 +46,34 @@ module _ {A C : Type 0} (told : Result A Reserved → C) (number : A → ℕ) (n
       rw (capped_test n (number x) h) (pick (eqb n (number x)) x _ _ (told-found xs (and_right (ltb (number x) 255) _ e)))
 
 module _ {E : Type 0} (number : E → ℕ) (cases : List E) (ends : below number cases ≡ true) (n : ℕ) where
-  pub same-read : (reserved : E) {m : ℕ} → m ≡ capped n → read_of number cases reserved m ≡ read_of number cases reserved n
+  pub same_read : (reserved : E) {m : ℕ} → m ≡ capped n → read_of number cases reserved m ≡ read_of number cases reserved n
   unfolding read_of
-  same-read reserved e = rw e (told-found (λ r. result_unwrap_or r reserved) number n refl cases ends)
+  same_read reserved e = rw e (told-found (λ r. result_unwrap_or r reserved) number n refl cases ends)
 
-  pub same-known : {m : ℕ} → m ≡ capped n → known_of number cases m ≡ known_of number cases n
+  pub same_known : {m : ℕ} → m ≡ capped n → known_of number cases m ≡ known_of number cases n
   unfolding known_of
-  same-known e = rw e (told-found is_ok number n refl cases ends)
+  same_known e = rw e (told-found is_ok number n refl cases ends)
 
 pub direction-capped : (n : ℕ) {m : ℕ} → m ≡ capped n → (direction_read m ≡ direction_read n) × (direction_known m ≡ direction_known n)
-direction-capped n e = (same-read direction_number directions refl n DirectionEnum.Shortest e, same-known direction_number directions refl n e)
+direction-capped n e = (same_read direction_number directions refl n DirectionEnum.Shortest e, same_known direction_number directions refl n e)
 
 pub move-mode-capped : (n : ℕ) {m : ℕ} → m ≡ capped n → (move_mode_read m ≡ move_mode_read n) × (move_mode_known m ≡ move_mode_known n)
-move-mode-capped n e = (same-read move_mode_number move_modes refl n MoveModeEnum.Stop e, same-known move_mode_number move_modes refl n e)
+move-mode-capped n e = (same_read move_mode_number move_modes refl n MoveModeEnum.Stop e, same_known move_mode_number move_modes refl n e)
 
 pub step-mode-capped : (n : ℕ) {m : ℕ} → m ≡ capped n → (step_mode_read m ≡ step_mode_read n) × (step_mode_known m ≡ step_mode_known n)
-step-mode-capped n e = (same-read step_mode_number step_modes refl n StepModeEnum.Down e, same-known step_mode_number step_modes refl n e)
+step-mode-capped n e = (same_read step_mode_number step_modes refl n StepModeEnum.Down e, same_known step_mode_number step_modes refl n e)
 
 pub loop-action-capped : (n : ℕ) {m : ℕ} → m ≡ capped n → (loop_action_read m ≡ loop_action_read n) × (loop_action_known m ≡ loop_action_known n)
-loop-action-capped n e = (same-read loop_action_number loop_actions refl n ColorLoopActionEnum.Deactivate e, same-known loop_action_number loop_actions refl n e)
+loop-action-capped n e = (same_read loop_action_number loop_actions refl n ColorLoopActionEnum.Deactivate e, same_known loop_action_number loop_actions refl n e)
 
 pub loop-direction-capped : (n : ℕ) {m : ℕ} → m ≡ capped n → (loop_direction_read m ≡ loop_direction_read n) × (loop_direction_known m ≡ loop_direction_known n)
-loop-direction-capped n e = (same-read loop_direction_number loop_directions refl n ColorLoopDirectionEnum.Decrement e, same-known loop_direction_number loop_directions refl n e)
+loop-direction-capped n e = (same_read loop_direction_number loop_directions refl n ColorLoopDirectionEnum.Decrement e, same_known loop_direction_number loop_directions refl n e)
 
 pub color-mode-capped : (n : ℕ) {m : ℕ} → m ≡ capped n → (color_mode_read m ≡ color_mode_read n) × (color_mode_known m ≡ color_mode_known n)
-color-mode-capped n e = (same-read color_mode_number color_modes refl n ColorModeEnum.CurrentHueAndCurrentSaturation e, same-known color_mode_number color_modes refl n e)
+color-mode-capped n e = (same_read color_mode_number color_modes refl n ColorModeEnum.CurrentHueAndCurrentSaturation e, same_known color_mode_number color_modes refl n e)
 
 pub enhanced-mode-capped : (n : ℕ) {m : ℕ} → m ≡ capped n → (enhanced_mode_read m ≡ enhanced_mode_read n) × (enhanced_mode_known m ≡ enhanced_mode_known n)
-enhanced-mode-capped n e = (same-read enhanced_color_mode_number enhanced_color_modes refl n EnhancedColorModeEnum.CurrentHueAndCurrentSaturation e, same-known enhanced_color_mode_number enhanced_color_modes refl n e)
+enhanced-mode-capped n e = (same_read enhanced_color_mode_number enhanced_color_modes refl n EnhancedColorModeEnum.CurrentHueAndCurrentSaturation e, same_known enhanced_color_mode_number enhanced_color_modes refl n e)
 
 pub on-off-capped : (n : ℕ) {m : ℕ} → m ≡ capped n → (on_off_read m ≡ on_off_read n) × (on_off_known m ≡ on_off_known n)
-on-off-capped n e = (same-read on_off_number on_offs refl n OnOff.Off e, same-known on_off_number on_offs refl n e)
+on-off-capped n e = (same_read on_off_number on_offs refl n OnOff.Off e, same_known on_off_number on_offs refl n e)

@@ -20,4 +20,5 @@ place_words n =
     ∷ place p 10 ∷ place p 11 ∷ place p 12 ∷ place p 13 ∷ place p 14 ∷ place p 15 ∷ []
 
 abbrev pub answer_words : Answer → List ℕ
-answer_words r = (number_of r.verdict ∷ []) ++ place_words r.notices ++ task_words (given_numbers r.task) ++ (r.wait ∷ [])
+answer_words r =
+    (number_of r.verdict ∷ []) ++ place_words r.notices ++ task_words (given_numbers r.task) ++ (r.wait ∷ [])

@@ -73,8 +73,8 @@ command_fits n =
     && leb n.c 65535
     && leb n.d 65535
     && leb n.e 65535
-    && (not (is n K.move_to_hue || is n K.move_to_saturation || is n K.move_to_hue_and_saturation || is n K.color_loop_set)
-    || leb n.a 255)
+    && (not (is n K.move_to_hue || is n K.move_to_saturation || is n K.move_to_hue_and_saturation
+    || is n K.color_loop_set) || leb n.a 255)
     && (not (is n K.move_hue || is n K.step_hue || is n K.move_saturation || is n K.step_saturation
     || is n K.move_to_hue_and_saturation) || leb n.b 255)
     && (not (is n K.move_hue) || leb n.c 1)
@@ -89,7 +89,8 @@ command_known n =
     && move_mode_known n.a)
     || ((is n K.step_hue || is n K.step_saturation || is n K.enhanced_step_hue || is n K.step_color_temperature)
     && step_mode_known n.a)
-    || is n K.move_to_saturation || is n K.move_to_hue_and_saturation || is n K.move_to_color_temperature || is n K.stop_move_step
+    || is n K.move_to_saturation || is n K.move_to_hue_and_saturation || is n K.move_to_color_temperature
+    || is n K.stop_move_step
     || (is n K.color_loop_set && loop_action_known n.b && loop_direction_known n.c))
 
 -- ---- calls

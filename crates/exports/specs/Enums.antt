@@ -72,7 +72,8 @@ color_mode_known = known_of color_mode_number color_modes
 
 -- EnhancedColorModeEnum
 abbrev pub enhanced_mode_read : ℕ → EnhancedColorModeEnum
-enhanced_mode_read = read_of enhanced_color_mode_number enhanced_color_modes EnhancedColorModeEnum.CurrentHueAndCurrentSaturation
+enhanced_mode_read =
+    read_of enhanced_color_mode_number enhanced_color_modes EnhancedColorModeEnum.CurrentHueAndCurrentSaturation
 
 abbrev pub enhanced_mode_known : ℕ → Bool
 enhanced_mode_known = known_of enhanced_color_mode_number enhanced_color_modes

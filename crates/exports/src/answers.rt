@@ -13,7 +13,7 @@ pub const ANSWER_WORDS: usize = 25;
 pub fn place(p: [u8; 16], i: usize) -> u64
     ensures { result ≡ S.place p i }
 {
-    if i < 16 { p[i] as u64 } else { 0 }
+    p.get(i).copied().map_or(0, u64::from)
 }
 
 // Place by place, as C reads them: a loop would need an invariant, and hide the layout.

@@ -2,7 +2,7 @@
 // task's kind and six numbers.
 ghost use Rattle.std.specs.Prelude.{◌≡◌};
 ghost use Rattle.exports.specs.Calls as C;
-ghost use Rattle.exports.specs.Calls.{hue_command, saturation_command, enhanced_command, mireds_command, loop_command, command_of, request_of, command_fits, command_known, command_numbers, start_numbers, call_of, call_known};
+ghost use Rattle.exports.specs.Calls.{hue_command, saturation_command, enhanced_command, mireds_command, loop_command, command_of, request_of, command_fits, command_known, command_numbers, call_of, call_known};
 
 use crate::moves::TaskNumbers;
 use crate::words::at;
@@ -15,7 +15,8 @@ use matter::{
 
 pub const CALL_WORDS: usize = 10;
 
-// The kinds of calls: a command's number in the cluster, and START, STEP and HALT past those.
+// The kinds of calls: a command's number in the cluster, and START, STEP and HALT past those. They are numbers since C
+// writes them (docs/WORDS.md).
 const MOVE_TO_HUE: u64 = 0;
 
 const MOVE_HUE: u64 = 1;
@@ -46,13 +47,13 @@ const MOVE_COLOR_TEMPERATURE: u64 = 75;
 
 const STEP_COLOR_TEMPERATURE: u64 = 76;
 
-pub const START: u64 = 256;
+const START: u64 = 256;
 
-pub const STEP: u64 = 257;
+const STEP: u64 = 257;
 
-pub const HALT: u64 = 258;
+const HALT: u64 = 258;
 
-// A command's number, options and arguments.
+// A command's number, options and arguments, as C writes them; `known` says whether they are a command.
 #[derive(Clone, Copy)]
 pub struct CommandNumbers {
     pub kind: u64,
@@ -66,6 +67,21 @@ pub struct CommandNumbers {
 }
 
 impl CommandNumbers {
+    fn from_words(w: &[u64]) -> CommandNumbers
+        ensures { result ≡ command_numbers w.now }
+    {
+        CommandNumbers {
+            kind: at(w, 0),
+            mask: at(w, 3),
+            overrides: at(w, 4),
+            a: at(w, 5),
+            b: at(w, 6),
+            c: at(w, 7),
+            d: at(w, 8),
+            e: at(w, 9),
+        }
+    }
+
     #[tactic(auto, unfolding(crate::specs::Calls::hue_command))]
     fn hue_command(self) -> Command
         ensures { result ≡ hue_command self }
@@ -252,48 +268,17 @@ impl CommandNumbers {
     }
 }
 
-fn command_numbers(w: &[u64]) -> CommandNumbers
-    ensures { result ≡ command_numbers w.now }
-{
-    CommandNumbers {
-        kind: at(w, 0),
-        mask: at(w, 3),
-        overrides: at(w, 4),
-        a: at(w, 5),
-        b: at(w, 6),
-        c: at(w, 7),
-        d: at(w, 8),
-        e: at(w, 9),
-    }
-}
-
-fn task_numbers(w: &[u64]) -> TaskNumbers
-    ensures { result ≡ start_numbers w.now }
-{
-    TaskNumbers {
-        kind: at(w, 3),
-        a: at(w, 4),
-        b: at(w, 5),
-        c: at(w, 6),
-        d: at(w, 7),
-        e: at(w, 8),
-        f: at(w, 9),
-    }
-}
-
 // Whether the words are a call: as many as it has, with a kind and enums' numbers that exist, and each within its field.
 #[tactic(auto, unfolding(crate::specs::Calls::call_known))]
 pub(crate) fn call_known(w: &[u64]) -> bool
     ensures { result ≡ call_known w.now }
 {
     let kind = at(w, 0);
-    let task = task_numbers(w);
-    let command = command_numbers(w);
     (w.len() == CALL_WORDS)
-        & (((kind == START) & task.known())
+        & (((kind == START) & TaskNumbers::from_words(w, 3).known())
             | (kind == STEP)
             | (kind == HALT)
-            | (command.known() & enums::is_known::<OnOff>(at(w, 2))))
+            | (CommandNumbers::from_words(w).known() & enums::is_known::<OnOff>(at(w, 2))))
 }
 
 // The call that the words mean; `call_known` says whether they are one.
@@ -305,12 +290,12 @@ pub fn call_of(w: &[u64]) -> Call
     match at(w, 0) {
         STEP => Call::Step { clock },
         START => Call::Start {
-            task: task_numbers(w).task(),
+            task: TaskNumbers::from_words(w, 3).task(),
             clock,
         },
         HALT => Call::Halt { clock },
         _ => Call::Command {
-            request: command_numbers(w).request(),
+            request: CommandNumbers::from_words(w).request(),
             on_off: enums::read(at(w, 2)),
             clock,
         },

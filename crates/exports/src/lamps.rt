@@ -59,22 +59,13 @@ fn record(w: &[u64]) -> RecordNumbers
         start: at(w, 18),
         x: at(w, 19),
         y: at(w, 20),
-        task: TaskNumbers {
-            kind: at(w, 21),
-            a: at(w, 22),
-            b: at(w, 23),
-            c: at(w, 24),
-            d: at(w, 25),
-            e: at(w, 26),
-            f: at(w, 27),
-        },
+        task: TaskNumbers::from_words(w, 21),
     }
 }
 
 pub fn lamp_of(w: &[u64]) -> Lamp
     ensures { result ≡ lamp_of w.now }
 {
-    let record = record(w);
     Lamp {
         clock: at(w, 2),
         bounds: bounds(w),
@@ -84,7 +75,7 @@ pub fn lamp_of(w: &[u64]) -> Lamp
             tenths: words::short(at(w, 4)),
         },
         options: words::byte(at(w, 3)),
-        running: record.running(),
+        running: record(w).running(),
     }
 }
 
@@ -111,15 +102,11 @@ fn lamp_fits(w: &[u64]) -> bool
 pub(crate) fn lamp_known(w: &[u64]) -> bool
     ensures { result ≡ lamp_known w.now }
 {
-    let record = record(w);
-    let mode = at(w, 11);
-    let emode = at(w, 12);
-    let direction = at(w, 14);
     lamp_fits(w)
-        & enums::is_known::<ColorModeEnum>(mode)
-        & enums::is_known::<EnhancedColorModeEnum>(emode)
-        & enums::is_known::<ColorLoopDirectionEnum>(direction)
-        & record.known()
+        & enums::is_known::<ColorModeEnum>(at(w, 11))
+        & enums::is_known::<EnhancedColorModeEnum>(at(w, 12))
+        & enums::is_known::<ColorLoopDirectionEnum>(at(w, 14))
+        & record(w).known()
 }
 
 pub(crate) fn lamp_words(lamp: Lamp) -> [u64; 28]
@@ -128,7 +115,6 @@ pub(crate) fn lamp_words(lamp: Lamp) -> [u64; 28]
     let color = lamp.color;
     let stamps = color.stamps;
     let looping = lamp.looping;
-    let remaining = lamp.remaining;
     let record = RecordNumbers::from(lamp.running);
     let task = record.task;
     [
@@ -136,7 +122,7 @@ pub(crate) fn lamp_words(lamp: Lamp) -> [u64; 28]
         lamp.bounds.max as u64,
         lamp.clock,
         lamp.options as u64,
-        remaining.tenths as u64,
+        lamp.remaining.tenths as u64,
         stamps.hue,
         stamps.saturation,
         stamps.mireds,
@@ -145,7 +131,7 @@ pub(crate) fn lamp_words(lamp: Lamp) -> [u64; 28]
         color.mireds as u64,
         u8::from(color.mode) as u64,
         u8::from(color.emode) as u64,
-        words::of_flag(looping.active),
+        u64::from(looping.active),
         u8::from(looping.direction) as u64,
         looping.time as u64,
         looping.start as u64,

@@ -23,7 +23,6 @@ use lamp::Lamp;
 pub use lamps::{LAMP_WORDS, lamp_of};
 use matter::Bounds;
 pub use moves::{RecordNumbers, TaskNumbers};
-pub use words::of_flag;
 
 // A fresh lamp, written over `words`.
 #[tactic(auto, unfolding(crate::specs::Exported::made))]

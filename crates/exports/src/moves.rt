@@ -1,8 +1,7 @@
 // Tasks and running records as numbers: a kind and its numbers in the protocol's order, unused places 0.
-ghost use Rattle.std.specs.Prelude.{◌≡◌};
-ghost use Rattle.exports.specs.Words.{short};
-ghost use Rattle.exports.specs.Moves as M;
-ghost use Rattle.exports.specs.Moves.{delta_of, target_of, move_to_of, hue_move_of, saturation_move_of, mireds_to_of, mireds_move_of, color_loop_of, task_of, running_of, task_fits, task_known, record_known, move_to_numbers, hue_move_numbers, saturation_move_numbers, mireds_to_numbers, mireds_move_numbers, color_loop_numbers, task_numbers, given_numbers, found, record_numbers};
+ghost use Rattle.std.specs.Prelude.{◌≡◌, ◌≤◌, ◌+◌};
+ghost use Rattle.exports.specs.Words.{at};
+ghost use Rattle.exports.specs.Moves.{numbers, delta_of, target_of, move_to_of, hue_move_of, saturation_move_of, mireds_to_of, mireds_move_of, color_loop_of, task_of, running_of, task_fits, task_known, record_known, move_to_numbers, hue_move_numbers, saturation_move_numbers, mireds_to_numbers, mireds_move_numbers, color_loop_numbers, task_numbers, given_numbers, record_numbers};
 
 use crate::{enums, words};
 use matter::{ColorLoopDirectionEnum, MoveModeEnum};
@@ -12,26 +11,26 @@ use tasks::{
     SaturationMove, SaturationRun, Task,
 };
 
-// The kinds of tasks and records. 0 is no task, and an idle lamp.
-pub const MOVE_TO: u64 = 1;
+// The kinds of tasks and records, numbers since C reads and writes them (docs/WORDS.md). 0 is no task, and an idle lamp.
+const MOVE_TO: u64 = 1;
 
-pub const HUE_MOVE: u64 = 2;
+const HUE_MOVE: u64 = 2;
 
-pub const SATURATION_MOVE: u64 = 3;
+const SATURATION_MOVE: u64 = 3;
 
-pub const MIREDS_TO: u64 = 4;
+const MIREDS_TO: u64 = 4;
 
-pub const MIREDS_MOVE: u64 = 5;
+const MIREDS_MOVE: u64 = 5;
 
-pub const LOOP: u64 = 6;
+const LOOP: u64 = 6;
 
-pub const STOP: u64 = 7;
+const STOP: u64 = 7;
 
 // The largest size of a signed number.
 const LARGEST: u64 = 9223372036854775807;
 
-// A task's kind and its six numbers.
-#[derive(Clone, Copy)]
+// A task's kind and its six numbers, as C has them; `known` says whether they are a task.
+#[derive(Clone, Copy, Default)]
 pub struct TaskNumbers {
     pub kind: u64,
     pub a: u64,
@@ -43,7 +42,7 @@ pub struct TaskNumbers {
 }
 
 // A record's start: the clock and the numbers found there, and its task.
-#[derive(Clone, Copy)]
+#[derive(Clone, Copy, Default)]
 pub struct RecordNumbers {
     pub start: u64,
     pub x: u64,
@@ -74,6 +73,22 @@ fn target(given: u64, saturation: u64) -> Option<u8>
 }
 
 impl TaskNumbers {
+    // The seven words from the first one on.
+    pub(crate) fn from_words(w: &[u64], first: usize) -> TaskNumbers
+        requires { first ≤ 21 }
+        ensures { result ≡ numbers (at w.now first) (at w.now (first + 1)) (at w.now (first + 2)) (at w.now (first + 3)) (at w.now (first + 4)) (at w.now (first + 5)) (at w.now (first + 6)) }
+    {
+        TaskNumbers {
+            kind: words::at(w, first),
+            a: words::at(w, first + 1),
+            b: words::at(w, first + 2),
+            c: words::at(w, first + 3),
+            d: words::at(w, first + 4),
+            e: words::at(w, first + 5),
+            f: words::at(w, first + 6),
+        }
+    }
+
     #[tactic(auto, unfolding(crate::specs::Moves::move_to_of))]
     fn move_to(self) -> HueSaturationMoveTo
         ensures { result ≡ move_to_of self }
@@ -200,20 +215,8 @@ impl RecordNumbers {
         let task = self.task;
         (self.x <= 65535)
             & (self.y <= 255)
-            & (!(task.kind == SATURATION_MOVE) | (self.x <= 255))
+            & ((task.kind != SATURATION_MOVE) | (self.x <= 255))
             & ((task.kind == 0) | ((task.kind <= 6) & task.known()))
-    }
-
-    fn mireds_run(self, task: ColorTemperatureMove) -> ColorTemperatureRun
-        ensures { result ≡ record { start = self.start; mireds = short self.x; rate = task.rate; lo = task.min; hi = task.max } }
-    {
-        ColorTemperatureRun {
-            start: self.start,
-            mireds: words::short(self.x),
-            rate: task.rate,
-            lo: task.min,
-            hi: task.max,
-        }
     }
 
     pub(crate) fn running(self) -> Running
@@ -243,7 +246,13 @@ impl RecordNumbers {
                     task: t,
                 })
             }
-            Task::ColorTemperatureMove(t) => Running::ColorTemperatureMove(self.mireds_run(t)),
+            Task::ColorTemperatureMove(t) => Running::ColorTemperatureMove(ColorTemperatureRun {
+                start: self.start,
+                mireds: words::short(self.x),
+                rate: t.rate,
+                lo: t.min,
+                hi: t.max,
+            }),
             Task::ColorLoop(t) => Running::ColorLoop {
                 direction: t.direction,
                 hue: words::short(self.x),
@@ -255,33 +264,19 @@ impl RecordNumbers {
     }
 }
 
-fn numbers(kind: u64, a: u64, b: u64, c: u64, d: u64, e: u64, f: u64) -> TaskNumbers
-    ensures { result ≡ M.numbers kind a b c d e f }
-{
-    TaskNumbers {
-        kind,
-        a,
-        b,
-        c,
-        d,
-        e,
-        f,
-    }
-}
-
 impl From<HueSaturationMoveTo> for TaskNumbers {
     ghost from_gives = { λ x n. n ≡ move_to_numbers x };
 
     fn from(t: HueSaturationMoveTo) -> TaskNumbers {
-        numbers(
-            MOVE_TO,
-            t.delta.map_or(0, words::sign_of),
-            t.delta.map_or(0, words::size_of),
-            words::of_flag(t.saturation.is_some()),
-            t.saturation.map_or(0, u64::from),
-            t.ms as u64,
-            words::of_flag(t.enhanced),
-        )
+        TaskNumbers {
+            kind: MOVE_TO,
+            a: t.delta.map_or(0, words::sign_of),
+            b: t.delta.unwrap_or(0).unsigned_abs(),
+            c: u64::from(t.saturation.is_some()),
+            d: t.saturation.map_or(0, u64::from),
+            e: t.ms as u64,
+            f: u64::from(t.enhanced),
+        }
     }
 }
 
@@ -289,15 +284,13 @@ impl From<HueMove> for TaskNumbers {
     ghost from_gives = { λ x n. n ≡ hue_move_numbers x };
 
     fn from(t: HueMove) -> TaskNumbers {
-        numbers(
-            HUE_MOVE,
-            u8::from(t.direction) as u64,
-            t.rate as u64,
-            words::of_flag(t.enhanced),
-            0,
-            0,
-            0,
-        )
+        TaskNumbers {
+            kind: HUE_MOVE,
+            a: u8::from(t.direction) as u64,
+            b: t.rate as u64,
+            c: u64::from(t.enhanced),
+            ..TaskNumbers::default()
+        }
     }
 }
 
@@ -305,15 +298,12 @@ impl From<SaturationMove> for TaskNumbers {
     ghost from_gives = { λ x n. n ≡ saturation_move_numbers x };
 
     fn from(t: SaturationMove) -> TaskNumbers {
-        numbers(
-            SATURATION_MOVE,
-            u8::from(t.direction) as u64,
-            t.rate as u64,
-            0,
-            0,
-            0,
-            0,
-        )
+        TaskNumbers {
+            kind: SATURATION_MOVE,
+            a: u8::from(t.direction) as u64,
+            b: t.rate as u64,
+            ..TaskNumbers::default()
+        }
     }
 }
 
@@ -321,7 +311,12 @@ impl From<ColorTemperatureMoveTo> for TaskNumbers {
     ghost from_gives = { λ x n. n ≡ mireds_to_numbers x };
 
     fn from(t: ColorTemperatureMoveTo) -> TaskNumbers {
-        numbers(MIREDS_TO, t.target as u64, t.ms as u64, 0, 0, 0, 0)
+        TaskNumbers {
+            kind: MIREDS_TO,
+            a: t.target as u64,
+            b: t.ms as u64,
+            ..TaskNumbers::default()
+        }
     }
 }
 
@@ -329,15 +324,14 @@ impl From<ColorTemperatureMove> for TaskNumbers {
     ghost from_gives = { λ x n. n ≡ mireds_move_numbers x };
 
     fn from(t: ColorTemperatureMove) -> TaskNumbers {
-        numbers(
-            MIREDS_MOVE,
-            words::sign_of(t.rate),
-            words::size_of(t.rate),
-            t.min as u64,
-            t.max as u64,
-            0,
-            0,
-        )
+        TaskNumbers {
+            kind: MIREDS_MOVE,
+            a: words::sign_of(t.rate),
+            b: t.rate.unsigned_abs(),
+            c: t.min as u64,
+            d: t.max as u64,
+            ..TaskNumbers::default()
+        }
     }
 }
 
@@ -345,15 +339,12 @@ impl From<ColorLoop> for TaskNumbers {
     ghost from_gives = { λ x n. n ≡ color_loop_numbers x };
 
     fn from(t: ColorLoop) -> TaskNumbers {
-        numbers(
-            LOOP,
-            u8::from(t.direction) as u64,
-            t.seconds as u64,
-            0,
-            0,
-            0,
-            0,
-        )
+        TaskNumbers {
+            kind: LOOP,
+            a: u8::from(t.direction) as u64,
+            b: t.seconds as u64,
+            ..TaskNumbers::default()
+        }
     }
 }
 
@@ -369,7 +360,10 @@ impl From<Task> for TaskNumbers {
             Task::ColorTemperatureMoveTo(t) => TaskNumbers::from(t),
             Task::ColorTemperatureMove(t) => TaskNumbers::from(t),
             Task::ColorLoop(t) => TaskNumbers::from(t),
-            Task::Stop => numbers(STOP, 0, 0, 0, 0, 0, 0),
+            Task::Stop => TaskNumbers {
+                kind: STOP,
+                ..TaskNumbers::default()
+            },
         }
     }
 }
@@ -379,17 +373,8 @@ impl From<Option<Task>> for TaskNumbers {
 
     #[tactic(auto, unfolding(crate::specs::Moves::given_numbers))]
     fn from(task: Option<Task>) -> TaskNumbers {
-        match task {
-            None => numbers(0, 0, 0, 0, 0, 0, 0),
-            Some(t) => TaskNumbers::from(t),
-        }
+        task.map(TaskNumbers::from).unwrap_or_default()
     }
-}
-
-fn record(start: u64, x: u64, y: u64, task: TaskNumbers) -> RecordNumbers
-    ensures { result ≡ found start x y task }
-{
-    RecordNumbers { start, x, y, task }
 }
 
 impl From<Running> for RecordNumbers {
@@ -398,32 +383,43 @@ impl From<Running> for RecordNumbers {
     #[tactic(auto, unfolding(crate::specs::Moves::record_numbers))]
     fn from(running: Running) -> RecordNumbers {
         match running {
-            Running::Idle => record(0, 0, 0, numbers(0, 0, 0, 0, 0, 0, 0)),
-            Running::HueSaturationMoveTo(run) => record(
-                run.start,
-                run.hue as u64,
-                run.saturation as u64,
-                TaskNumbers::from(run.task),
-            ),
-            Running::HueMove(run) => {
-                record(run.start, run.hue as u64, 0, TaskNumbers::from(run.task))
-            }
-            Running::SaturationMove(run) => record(
-                run.start,
-                run.saturation as u64,
-                0,
-                TaskNumbers::from(run.task),
-            ),
-            Running::ColorTemperatureMoveTo(run) => {
-                record(run.start, run.mireds as u64, 0, TaskNumbers::from(run.task))
-            }
+            Running::Idle => RecordNumbers::default(),
+            Running::HueSaturationMoveTo(run) => RecordNumbers {
+                start: run.start,
+                x: run.hue as u64,
+                y: run.saturation as u64,
+                task: TaskNumbers::from(run.task),
+            },
+            Running::HueMove(run) => RecordNumbers {
+                start: run.start,
+                x: run.hue as u64,
+                y: 0,
+                task: TaskNumbers::from(run.task),
+            },
+            Running::SaturationMove(run) => RecordNumbers {
+                start: run.start,
+                x: run.saturation as u64,
+                y: 0,
+                task: TaskNumbers::from(run.task),
+            },
+            Running::ColorTemperatureMoveTo(run) => RecordNumbers {
+                start: run.start,
+                x: run.mireds as u64,
+                y: 0,
+                task: TaskNumbers::from(run.task),
+            },
             Running::ColorTemperatureMove(run) => {
                 let task = ColorTemperatureMove {
                     rate: run.rate,
                     min: run.lo,
                     max: run.hi,
                 };
-                record(run.start, run.mireds as u64, 0, TaskNumbers::from(task))
+                RecordNumbers {
+                    start: run.start,
+                    x: run.mireds as u64,
+                    y: 0,
+                    task: TaskNumbers::from(task),
+                }
             }
             Running::ColorLoop {
                 direction,
@@ -432,7 +428,12 @@ impl From<Running> for RecordNumbers {
                 start,
             } => {
                 let task = ColorLoop { direction, seconds };
-                record(start, hue as u64, 0, TaskNumbers::from(task))
+                RecordNumbers {
+                    start,
+                    x: hue as u64,
+                    y: 0,
+                    task: TaskNumbers::from(task),
+                }
             }
         }
     }

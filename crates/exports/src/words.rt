@@ -10,6 +10,8 @@ pub(crate) fn at(words: &[u64], i: usize) -> u64
     words.get(i).copied().unwrap_or(0)
 }
 
+// The widths of C's fields. `as` takes only what is in range, so each takes a remainder first; generic they would ask for a
+// trait that does just that.
 pub(crate) fn byte(x: u64) -> u8
     ensures { result ≡ W.byte x }
 {
@@ -36,6 +38,7 @@ pub(crate) fn capped(x: u64) -> u8
     u8::try_from(x).unwrap_or(255)
 }
 
+// C's word for a bool, which the library reads from no number. 1 is true.
 #[tactic(auto, unfolding(crate::specs::Words::flag))]
 pub(crate) fn flag(x: u64) -> bool
     ensures { result ≡ W.flag x }
@@ -43,7 +46,7 @@ pub(crate) fn flag(x: u64) -> bool
     x == 1
 }
 
-// A signed number of its sign, 1 up or 2 down, and its size.
+// A signed number of its sign, 1 up or 2 down, and its size, as C writes it.
 #[tactic(auto, unfolding(crate::specs::Words::signed))]
 pub(crate) fn signed(sign: u64, size: u64) -> i64
     ensures { result ≡ W.signed sign size }
@@ -52,22 +55,10 @@ pub(crate) fn signed(sign: u64, size: u64) -> i64
     if sign == 2 { -n } else { n }
 }
 
-// The sign of a number: 2 below 0, else 1.
+// The sign of a number, as C reads it: 2 below 0, else 1. The library has -1, 0 and 1.
 #[tactic(auto, unfolding(crate::specs::Words::sign_of))]
 pub(crate) fn sign_of(n: i64) -> u64
     ensures { result ≡ W.sign_of n }
 {
     if n < 0 { 2 } else { 1 }
-}
-
-pub(crate) fn size_of(n: i64) -> u64
-    ensures { result ≡ W.size_of n }
-{
-    n.unsigned_abs()
-}
-
-pub fn of_flag(b: bool) -> u64
-    ensures { result ≡ W.flag_number b }
-{
-    u64::from(b)
 }

@@ -31,8 +31,8 @@ impl Ran {
                 sums: self.sums.add_answer(answer),
             },
             None => Ran {
-                lamp: self.lamp,
                 sums: self.sums.add_unread(self.lamp),
+                ..self
             },
         }
     }
@@ -44,7 +44,7 @@ fn run(lamp: Lamp, calls: &[u64]) -> Ran
 {
     let mut ran = Ran {
         lamp,
-        sums: Sums { a: 0, b: 0 },
+        sums: Sums::default(),
     };
     for call in calls.chunks_exact(CALL_WORDS) {
         ran = ran.after(call);

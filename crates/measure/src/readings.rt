@@ -13,10 +13,7 @@ use tasks::Running;
 fn numbered(count: u32, lowest: Option<u8>) -> u64
     ensures { result ≡ numbered count lowest }
 {
-    match lowest {
-        None => count as u64 + 2048,
-        Some(place) => count as u64 + 64 * (place as u64),
-    }
+    count as u64 + 64 * lowest.map_or(32, u64::from)
 }
 
 // By the mask.
@@ -58,7 +55,7 @@ fn turned(lamp: Lamp, turn: u64) -> Lamp
 pub(crate) fn masks(masks: &[u64]) -> Sums
     ensures { result ≡ masks_read (record { a = 0; b = 0 }) masks.now }
 {
-    let mut sums = Sums { a: 0, b: 0 };
+    let mut sums = Sums::default();
     for mask in masks {
         sums = sums.add(of_mask((mask % 4294967296) as u32));
     }
@@ -70,7 +67,7 @@ pub(crate) fn records(lamp: Lamp, turns: &[u64]) -> Sums
     ensures { result ≡ records_read lamp turns.now }
 {
     let mut lamps = [turned(lamp, 32); 32];
-    let mut sums = Sums { a: 0, b: 0 };
+    let mut sums = Sums::default();
     for turn in turns {
         lamps[(turn % 32) as usize] = turned(lamp, *turn);
         sums = sums.add(of_lamps(&lamps));

@@ -6,13 +6,12 @@ ghost use Rattle.exports.specs.Answers.{place_words};
 ghost use Rattle.measure.specs.Sums.{added, added_all, answer_added, unread_added};
 
 use color::Color;
-use exports::{RecordNumbers, TaskNumbers, WordsError, of_flag, place};
+use exports::{RecordNumbers, TaskNumbers, WordsError, place};
 use lamp::{Answer, Lamp, LoopSettings};
 use matter::number_of;
 use notices::Notices;
-use std::num::wrapping_add_u64;
 
-#[derive(Clone, Copy)]
+#[derive(Clone, Copy, Default)]
 pub struct Sums {
     pub a: u64,
     pub b: u64,
@@ -23,10 +22,10 @@ impl Sums {
     pub(crate) fn add(self, x: u64) -> Sums
         ensures { result ≡ added self x }
     {
-        let a = wrapping_add_u64(self.a, x);
+        let a = self.a.wrapping_add(x);
         Sums {
-            a: a,
-            b: wrapping_add_u64(self.b, a),
+            a,
+            b: self.b.wrapping_add(a),
         }
     }
 
@@ -49,7 +48,7 @@ impl Sums {
     fn add_looping(self, looping: LoopSettings) -> Sums
         ensures { result ≡ added_all self (looping_words looping) }
     {
-        self.add(of_flag(looping.active))
+        self.add(u64::from(looping.active))
             .add(u8::from(looping.direction) as u64)
             .add(looping.time as u64)
             .add(looping.start as u64)
