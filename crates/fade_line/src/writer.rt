@@ -4,12 +4,12 @@
 ghost use Rattle.std.specs.Prelude.{◌≡◌, ◌+◌, min, length};
 ghost use Rattle.std.specs.List.{fold};
 ghost use Rattle.text.specs.Written.{pasted};
-ghost use Rattle.fade_line.specs.Text.{spaced, spaced_all, numbers, state_text, line_text, refused_text, bad_line_text, room_for, fitting};
+ghost use Rattle.fade_line.specs.Text.{spaced_all, numbers, state_text, line_text, refused_text, bad_line_text, room_for, fitting};
 
 use notices::Notices;
 use text::buffer;
 use text::buffer::Buffer;
-use text::writer::{Sink, decimal, text};
+use text::writer::{Sink, decimal, spaced, text};
 
 // More than any line takes.
 pub const LONGEST: usize = 512;
@@ -29,15 +29,6 @@ fn has_room(at: usize, len: usize) -> bool
     ensures { result ≡ room_for at len }
 {
     at <= len && LONGEST <= len - at
-}
-
-// A number after a blank.
-#[tactic(auto, unfolding(crate::specs::Text::spaced))]
-fn spaced<S: Sink>(out: &mut S, n: u64)
-    ensures { out.new ≡ fold S.push out.old (spaced n) }
-{
-    out.byte(b' ');
-    decimal(out, n);
 }
 
 fn notices<S: Sink>(out: &mut S, list: Notices)

@@ -1,4 +1,5 @@
--- Numbers and bytes as digits. A byte is a number: 48 to 57 are the digits, 97 to 102 `a` to `f`, 45 is the minus.
+-- Numbers and bytes as digits. A byte is a number: 48 to 57 are the digits, 97 to 102 `a` to `f`, 32 is the blank,
+-- 45 the minus.
 use Rattle.std.specs.Prelude.{ℕ, zero, suc, ◌+◌, ◌-◌, ◌*◌, ◌/◌, ◌%◌, Bool, true, false, cond, ◌&&◌, ◌||◌, List, [], ◌∷◌, ◌++◌, leb, ltb, ℤ, pos, negsuc, Option, Some, None}
 
 -- ---- decimal
@@ -44,6 +45,10 @@ decimal n = decimal_in 20 n
 abbrev pub signed_decimal : ℤ → List ℕ
 signed_decimal (pos n) = decimal n
 signed_decimal (negsuc n) = 45 ∷ decimal (suc n)
+
+-- a number behind a blank
+unfoldable pub spaced : ℕ → List ℕ
+spaced n = 32 ∷ decimal n
 
 -- ---- hexadecimal, small letters
 

@@ -1,7 +1,7 @@
 // Writing: a text is put into a sink, byte by byte.
 ghost use Rattle.std.specs.Prelude.{◌≡◌, ℕ};
 ghost use Rattle.std.specs.List.{fold};
-ghost use Rattle.text.specs.Digits.{signed_decimal, hex_text};
+ghost use Rattle.text.specs.Digits.{signed_decimal, spaced, hex_text};
 ghost use Rattle.text.specs.Digits.{decimal as decimal_text};
 
 use crate::digits::hex_digit;
@@ -39,6 +39,15 @@ pub fn signed<S: Sink>(out: &mut S, n: i64)
         out.byte(b'-');
     }
     decimal(out, n.unsigned_abs());
+}
+
+// A number behind a blank.
+#[tactic(auto, unfolding(crate::specs::Digits::spaced))]
+pub fn spaced<S: Sink>(out: &mut S, n: u64)
+    ensures { out.new ≡ fold S.push out.old (spaced n) }
+{
+    out.byte(b' ');
+    decimal(out, n);
 }
 
 // Two hexadecimal digits a byte.
