@@ -4,7 +4,8 @@
 ghost use Rattle.std.specs.Prelude.{◌≡◌, ◌+◌, min, length};
 ghost use Rattle.std.specs.List.{fold};
 ghost use Rattle.text.specs.Written.{pasted};
-ghost use Rattle.fade_line.specs.Text.{spaced_all, numbers, state_text, line_text, refused_text, bad_line_text, room_for, fitting};
+ghost use Rattle.text.specs.Digits.{spaced_all};
+ghost use Rattle.fade_line.specs.Text.{numbers, state_text, line_text, refused_text, bad_line_text, room_for, fitting};
 
 use notices::Notices;
 use text::buffer;

@@ -50,6 +50,11 @@ signed_decimal (negsuc n) = 45 ∷ decimal (suc n)
 unfoldable pub spaced : ℕ → List ℕ
 spaced n = 32 ∷ decimal n
 
+-- numbers, each behind a blank
+unfoldable pub spaced_all : List ℕ → List ℕ
+spaced_all [] = []
+spaced_all (n ∷ ns) = spaced n ++ spaced_all ns
+
 -- ---- hexadecimal, small letters
 
 abbrev pub is_small_letter : ℕ → Bool

@@ -1,7 +1,7 @@
 // Writing: a text is put into a sink, byte by byte.
 ghost use Rattle.std.specs.Prelude.{◌≡◌, ℕ};
 ghost use Rattle.std.specs.List.{fold};
-ghost use Rattle.text.specs.Digits.{signed_decimal, spaced, hex_text};
+ghost use Rattle.text.specs.Digits.{signed_decimal, spaced, spaced_all, hex_text};
 ghost use Rattle.text.specs.Digits.{decimal as decimal_text};
 
 use crate::digits::hex_digit;
@@ -48,6 +48,16 @@ pub fn spaced<S: Sink>(out: &mut S, n: u64)
 {
     out.byte(b' ');
     decimal(out, n);
+}
+
+// Numbers, each behind a blank.
+#[tactic(auto, unfolding(crate::specs::Digits::spaced_all))]
+pub fn spaced_all<S: Sink>(out: &mut S, numbers: &[u64])
+    ensures { out.new ≡ fold S.push out.old (spaced_all numbers.now) }
+{
+    for n in numbers {
+        spaced(out, *n);
+    }
 }
 
 // Two hexadecimal digits a byte.
