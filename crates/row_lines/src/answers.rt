@@ -12,12 +12,12 @@ use call_lines::lines;
 use call_lines::lines::{Line, OnLamp};
 use color::Color;
 use lamp::{Answer, Call, Lamp, LoopSettings};
-use lamp_lines::answers::{answer, bar, ending, lamp_numbers, number, numbers, status};
+use lamp_lines::answers::{answer, bar, ending, lamp_numbers, status};
 use matter::{Bounds, ColorLoopDirectionEnum, Refusal};
 use remaining_time::RemainingTime;
 use rows::{MOST, Row, RowAnswer, lowest_running, running_count};
 use tasks::{Running, Task};
-use text::writer::{Sink, decimal, hex, text};
+use text::writer::{Sink, decimal, hex, spaced, spaced_all, text};
 
 // The longest slice that is lent.
 const LONGEST: usize = 1024;
@@ -45,7 +45,7 @@ fn lamp_line<S: Sink>(out: &mut S, lamp: Lamp)
 {
     let list = lamp_numbers(lamp);
     decimal(out, list[0]);
-    numbers(out, &list[1..]);
+    spaced_all(out, &list[1..]);
     ending(out, lamp.running);
     out.byte(b'\n');
 }
@@ -75,9 +75,9 @@ fn sum_of(row: Row) -> u32
 fn row_numbers<S: Sink>(out: &mut S, row: Row)
     ensures { out.new ≡ fold S.push out.old (row_text row) }
 {
-    number(out, row.count as u64);
-    number(out, row.running_mask as u64);
-    number(out, sum_of(row) as u64);
+    spaced(out, row.count as u64);
+    spaced(out, row.running_mask as u64);
+    spaced(out, sum_of(row) as u64);
 }
 
 // The row behind what was answered.
@@ -164,7 +164,7 @@ fn lowest<S: Sink>(out: &mut S, place: Option<u8>)
 {
     match place {
         None => text(out, b" -"),
-        Some(k) => number(out, k as u64),
+        Some(k) => spaced(out, k as u64),
     }
 }
 
@@ -240,7 +240,7 @@ fn lent<S: Sink>(out: &mut S, wait: u64, bytes: &[u8], from: u8)
     ensures { out.new ≡ fold S.push out.old (lent_text wait bytes.now from) }
 {
     bar(out);
-    number(out, wait);
+    spaced(out, wait);
     bar(out);
     slice(out, bytes);
     bar(out);
