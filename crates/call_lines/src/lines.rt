@@ -94,8 +94,13 @@ impl FromLine for Line {
 pub fn make(making: Making) -> Result<Lamp, Refusal>
     ensures { result ≡ made making }
 {
-    let bounds = making.bounds;
-    Lamp::new(bounds, making.features, making.options, making.clock)
+    let Making {
+        bounds,
+        features,
+        options,
+        clock,
+    } = making;
+    Lamp::new(bounds, features, options, clock)
 }
 
 // A lamp that was put in place, or is shown.
@@ -105,14 +110,7 @@ pub fn shown(lamp: Lamp) -> Answer
     lamp.unchanged(Ok(()))
 }
 
-// The fields anew, with the record that there is.
-fn poked(lamp: Lamp, fields: Lamp) -> Answer
-    ensures { result ≡ shown_answer (with_record fields lamp.running) }
-{
-    let running = lamp.running;
-    shown(Lamp { running, ..fields })
-}
-
+// The lamp with another running record.
 fn recorded(lamp: Lamp, running: Running) -> Answer
     ensures { result ≡ shown_answer (with_record lamp running) }
 {
@@ -125,7 +123,7 @@ pub fn on_lamp(lamp: Lamp, what: OnLamp) -> Answer
 {
     match what {
         OnLamp::Call(call) => commands::call(lamp, call),
-        OnLamp::Poke(fields) => poked(lamp, fields),
+        OnLamp::Poke(fields) => recorded(fields, lamp.running),
         OnLamp::Record(running) => recorded(lamp, running),
         OnLamp::Show => shown(lamp),
         OnLamp::Set(setting) => setters::set(lamp, setting),

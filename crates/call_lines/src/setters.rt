@@ -78,8 +78,7 @@ pub fn read(words: &mut Words) -> Option<Setting>
 fn set_color(color: Color, setting: Setting) -> ColorSet
     ensures { result ≡ setting_set color setting }
 {
-    let value = setting.value;
-    match value {
+    match setting.value {
         NewValue::Hue { hue, is_enhanced } => {
             color.set_hue(hue, setting.is_end, is_enhanced, setting.clock)
         }

@@ -11,7 +11,7 @@ use Rattle.tasks.specs.Runs.{runs}
 use Rattle.lamp.specs.declared.Answer.{Answer}
 use Rattle.lamp.specs.declared.Lamp.{Lamp}
 use Rattle.text.specs.Ascii.{ascii}
-use Rattle.text.specs.Digits.{signed_decimal, spaced, spaced_all}
+use Rattle.text.specs.Digits.{signed_decimal, spaced, spaced_or_dash, spaced_all}
 
 -- a signed number behind a blank
 unfoldable pub signed_text : ℤ → List ℕ
@@ -40,13 +40,9 @@ abbrev pub delta_text : Option ℤ → List ℕ
 delta_text None = ascii " -"
 delta_text (Some delta) = signed_text delta
 
-abbrev pub target_text : Option ℕ → List ℕ
-target_text None = ascii " -"
-target_text (Some saturation) = spaced saturation
-
 abbrev pub task_text : Task → List ℕ
 task_text (Task.HueSaturationMoveTo t) =
-    ascii " move_to" ++ delta_text t.delta ++ target_text t.saturation
+    ascii " move_to" ++ delta_text t.delta ++ spaced_or_dash t.saturation
     ++ spaced_all (t.ms ∷ bit t.enhanced ∷ [])
 task_text (Task.HueMove t) =
     ascii " hue_move" ++ spaced_all (move_mode_number t.direction ∷ t.rate ∷ bit t.enhanced ∷ [])

@@ -3,13 +3,13 @@ ghost use Rattle.std.specs.Prelude.{◌≡◌, ◌++◌};
 ghost use Rattle.std.specs.List.{fold};
 ghost use Rattle.text.specs.Ascii.{ascii};
 ghost use Rattle.text.specs.Digits.{spaced_all};
-ghost use Rattle.lamp_lines.specs.Answers.{signed_text, lamp_numbers, notices_text, delta_text, target_text, task_text, given_text, status_text, running_text, reported_text, answer_text};
+ghost use Rattle.lamp_lines.specs.Answers.{signed_text, lamp_numbers, notices_text, delta_text, task_text, given_text, status_text, running_text, reported_text, answer_text};
 
 use lamp::{Answer, Lamp};
 use matter::Refusal;
 use notices::Notices;
 use tasks::{Running, Task};
-use text::writer::{Sink, signed, spaced, spaced_all, text};
+use text::writer::{Sink, signed, spaced, spaced_all, spaced_or_dash, text};
 
 pub fn bar<S: Sink>(out: &mut S)
     ensures { out.new ≡ fold S.push out.old (ascii " |") }
@@ -79,7 +79,7 @@ fn notices<S: Sink>(out: &mut S, list: Notices)
     }
     let used = list.len.min(16);
     for notice in &list.places[..used] {
-        spaced(out, *notice as u64);
+        spaced(out, u64::from(*notice));
     }
 }
 
@@ -92,15 +92,6 @@ fn delta<S: Sink>(out: &mut S, delta: Option<i64>)
     }
 }
 
-fn target<S: Sink>(out: &mut S, target: Option<u8>)
-    ensures { out.new ≡ fold S.push out.old (target_text target) }
-{
-    match target {
-        None => text(out, b" -"),
-        Some(saturation) => spaced(out, saturation as u64),
-    }
-}
-
 fn task<S: Sink>(out: &mut S, task: Task)
     ensures { out.new ≡ fold S.push out.old (task_text task) }
 {
@@ -108,7 +99,7 @@ fn task<S: Sink>(out: &mut S, task: Task)
         Task::HueSaturationMoveTo(t) => {
             text(out, b" move_to");
             delta(out, t.delta);
-            target(out, t.saturation);
+            spaced_or_dash(out, t.saturation);
             spaced_all(out, &[t.ms as u64, t.enhanced as u64]);
         }
         Task::HueMove(t) => named(

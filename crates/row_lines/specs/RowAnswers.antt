@@ -12,7 +12,7 @@ use Rattle.rows.specs.declared.RowStepped.{RowStepped}
 use Rattle.rows.specs.Rows.{row_of, placed, row_stepped, row_bytes, lamp_at, answered_at, put_at, count_of, lowest_of}
 use Rattle.std.specs.List.{fold}
 use Rattle.text.specs.Ascii.{ascii}
-use Rattle.text.specs.Digits.{decimal, spaced, spaced_all, hex_text}
+use Rattle.text.specs.Digits.{decimal, spaced, spaced_or_dash, spaced_all, hex_text}
 use Rattle.std.specs.Str.{bytes_eq}
 use Rattle.lamp_lines.specs.Answers.{lamp_numbers, running_text, status_text, answer_text}
 use Rattle.call_lines.specs.declared.lines.Line.{Line}
@@ -94,13 +94,9 @@ with_mask r mask = record { count = r.count; running_mask = mask; lamps = r.lamp
 
 -- ---- how many are still turning, from the word alone
 
-abbrev pub lowest_text : Option ℕ → List ℕ
-lowest_text None = ascii " -"
-lowest_text (Some place) = spaced place
-
 -- "`<count> <lowest>`, or `0 -`"
 unfoldable pub turning_text : ℕ → List ℕ
-turning_text mask = decimal (count_of mask) ++ lowest_text (lowest_of mask)
+turning_text mask = decimal (count_of mask) ++ spaced_or_dash (lowest_of mask)
 
 -- ---- a row call
 

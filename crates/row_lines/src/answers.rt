@@ -4,7 +4,7 @@ ghost use Rattle.std.specs.List.{fold};
 ghost use Rattle.text.specs.Ascii.{ascii};
 ghost use Rattle.std.specs.Str.{bytes_eq};
 ghost use Rattle.lamp_lines.specs.Answers.{status_text, answer_text};
-ghost use Rattle.row_lines.specs.RowAnswers.{lamp_text, lamps_text, row_sum, row_text, then_row, Turned, shown_row, unread, fresh_place, fresh_row, with_count, with_mask, lowest_text, turning_text, says, lent_bytes, slice_text, kept_text, lent_text, step_with, step_row, last_start, on_lamp_asked, asked_of, lamp_answer, lamp_hidden, called_at, lamp_missing, edited_at, edited_on, answered_place, on_row};
+ghost use Rattle.row_lines.specs.RowAnswers.{lamp_text, lamps_text, row_sum, row_text, then_row, Turned, shown_row, unread, fresh_place, fresh_row, with_count, with_mask, turning_text, says, lent_bytes, slice_text, kept_text, lent_text, step_with, step_row, last_start, on_lamp_asked, asked_of, lamp_answer, lamp_hidden, called_at, lamp_missing, edited_at, edited_on, answered_place, on_row};
 
 use crate::lines::{AtPlace, OnRow, RowStep};
 use crate::sum::Sum;
@@ -17,7 +17,7 @@ use matter::{Bounds, ColorLoopDirectionEnum, Refusal};
 use remaining_time::RemainingTime;
 use rows::{MOST, Row, RowAnswer, lowest_running, running_count};
 use tasks::{Running, Task};
-use text::writer::{Sink, decimal, hex, spaced, spaced_all, text};
+use text::writer::{Sink, decimal, hex, spaced, spaced_all, spaced_or_dash, text};
 
 // The longest slice that is lent.
 const LONGEST: usize = 1024;
@@ -158,23 +158,13 @@ fn with_mask(row: Row, running_mask: u32) -> Row
     }
 }
 
-// The lowest place that runs; `-` where none does.
-fn lowest<S: Sink>(out: &mut S, place: Option<u8>)
-    ensures { out.new ≡ fold S.push out.old (lowest_text place) }
-{
-    match place {
-        None => text(out, b" -"),
-        Some(k) => spaced(out, k as u64),
-    }
-}
-
-// How many run, and the lowest place, from the word alone.
+// How many run, and the lowest place that does, from the word alone.
 #[tactic(auto, unfolding(crate::specs::RowAnswers::turning_text))]
 pub fn turning<S: Sink>(mask: u32, out: &mut S)
     ensures { out.new ≡ fold S.push out.old (turning_text mask) }
 {
     decimal(out, running_count(mask) as u64);
-    lowest(out, lowest_running(mask));
+    spaced_or_dash(out, lowest_running(mask));
 }
 
 // The row's own.
@@ -189,7 +179,7 @@ fn row_turning<S: Sink>(row: Row, out: &mut S) -> RowTurn
 fn byte_at(from: u8, i: usize) -> u8
     ensures { result ≡ (from + i) % 256 }
 {
-    (((from as usize) + i % 256) % 256) as u8
+    from.wrapping_add((i % 256) as u8)
 }
 
 fn fill(bytes: &mut [u8], from: u8)
@@ -217,7 +207,7 @@ fn is_filled(bytes: &[u8], from: u8) -> bool
 fn slice<S: Sink>(out: &mut S, bytes: &[u8])
     ensures { out.new ≡ fold S.push out.old (slice_text bytes.now) }
 {
-    if bytes.len() == 0 {
+    if bytes.is_empty() {
         return text(out, b" -");
     }
     out.byte(b' ');
@@ -305,9 +295,7 @@ fn asked_at(line: Line, last: Option<Task>) -> Asked
         Line::Lamp(lamp) => Asked::Place(lamp),
         Line::OnLamp(what) => asked_of(what),
         Line::StartLast(clock) => start_of(last, clock),
-        Line::New(_) => Asked::Nothing,
-        Line::Ask(_) => Asked::Nothing,
-        Line::Help => Asked::Nothing,
+        Line::New(_) | Line::Ask(_) | Line::Help => Asked::Nothing,
     }
 }
 

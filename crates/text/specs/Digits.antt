@@ -50,6 +50,11 @@ signed_decimal (negsuc n) = 45 ∷ decimal (suc n)
 unfoldable pub spaced : ℕ → List ℕ
 spaced n = 32 ∷ decimal n
 
+-- and a dash where there is none
+unfoldable pub spaced_or_dash : Option ℕ → List ℕ
+spaced_or_dash None = 32 ∷ 45 ∷ []
+spaced_or_dash (Some n) = spaced n
+
 -- numbers, each behind a blank
 unfoldable pub spaced_all : List ℕ → List ℕ
 spaced_all [] = []
