@@ -41,6 +41,7 @@ pub enum Leaf {
     CurrentHue(u16),
 }
 
+// Each of these readers fills a case of its own.
 #[tactic(auto, unfolding(crate::specs::Leaves::delta_asked_at))]
 fn delta_asked(words: &mut Words) -> Option<Leaf>
     ensures { Reads (delta_asked_at words.old) result words.new }

@@ -2,8 +2,8 @@
 // given last is of both.
 use crate::state;
 use crate::state::State;
-use row_lines::lines::{OnRow, RowLine};
 use row_lines::answers;
+use row_lines::lines::{OnRow, RowLine};
 use rows::Row;
 use text::words;
 use text::writer::Sink;

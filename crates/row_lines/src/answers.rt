@@ -190,7 +190,7 @@ fn fill(bytes: &mut [u8], from: u8)
     }
 }
 
-// Whether every byte is as it was lent.
+// Whether every byte is as it was lent: byte by byte, since no second slice is there to compare with.
 fn is_filled(bytes: &[u8], from: u8) -> bool
     ensures { result ≡ bytes_eq bytes.now (lent_bytes from (length bytes.now)) }
 {

@@ -41,6 +41,7 @@ pub enum RowLine {
     Lamp(Line),
 }
 
+// The readers below read alike: each fills a case of its own, and `words.read()?` is all that they share.
 #[tactic(auto, unfolding(crate::specs::RowLines::make_at))]
 fn make_line(words: &mut Words) -> Option<RowLine>
     ensures { Reads (make_at words.old) result words.new }
