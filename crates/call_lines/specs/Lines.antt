@@ -11,8 +11,7 @@ use Rattle.lamp.specs.Answers.{unchanged}
 use Rattle.lamp.specs.Making.{making}
 use Rattle.lamp.specs.Passes.{changed}
 use Rattle.commands.specs.Answers.{answer}
-use Rattle.text.specs.Words.{first_word, behind_word}
-use Rattle.text.specs.Readers.{Reader, give, ◌then◌, number8, number32, number64, Row, ◌means◌, named, unknown, at_end}
+use Rattle.text.specs.Readers.{Reader, give, ◌then◌, number8, number32, number64, Row, ◌means◌, named, unknown, line_of}
 use Rattle.lamp_lines.specs.Fields.{bounds_at, idle_lamp_at}
 use Rattle.lamp_lines.specs.Records.{running_at}
 use Rattle.call_lines.specs.declared.setters.Setting.{Setting}
@@ -68,8 +67,8 @@ unfoldable pub line_at : List ℕ → Reader Line
 line_at = named lines unknown
 
 -- a line is what was read where its last word ends it
-unfoldable pub line_read : List ℕ → Option Line
-line_read line = at_end (line_at (first_word line) (behind_word line))
+abbrev pub line_read : List ℕ → Option Line
+line_read = line_of line_at
 
 -- ---- what a lamp answers
 

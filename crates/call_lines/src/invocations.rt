@@ -9,6 +9,7 @@ use lamp_lines::moves;
 use matter::{Command, CommandOptions, Request};
 use text::words::Words;
 
+// The readers below read alike: each fills a case of its own, and `words.read()?` is all that they share.
 #[tactic(auto, unfolding(crate::specs::Commands::move_to_hue_at))]
 fn move_to_hue(words: &mut Words) -> Option<Command>
     ensures { Reads (move_to_hue_at words.old) result words.new }

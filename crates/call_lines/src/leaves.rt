@@ -41,6 +41,7 @@ pub enum Leaf {
     CurrentHue(u16),
 }
 
+// Each of these readers fills a case of its own.
 #[tactic(auto, unfolding(crate::specs::Leaves::delta_asked_at))]
 fn delta_asked(words: &mut Words) -> Option<Leaf>
     ensures { Reads (delta_asked_at words.old) result words.new }
@@ -112,7 +113,7 @@ pub fn read(words: &mut Words) -> Option<Leaf>
 fn bit<S: Sink>(out: &mut S, b: bool)
     ensures { out.new ≡ fold S.push out.old (bit_text b) }
 {
-    out.byte(if b { b'1' } else { b'0' });
+    out.byte(b'0' + u8::from(b));
 }
 
 #[tactic(auto, unfolding(crate::specs::Leaves::delta_text))]

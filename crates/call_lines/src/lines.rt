@@ -2,7 +2,7 @@
 // or that has a word not as asked, asks for nothing.
 ghost use Rattle.std.specs.Prelude.{◌≡◌};
 ghost use Rattle.text.specs.Readers.{Reads};
-ghost use Rattle.call_lines.specs.Lines.{making_at, line_at, line_read, made, shown_answer, with_record, on_lamp};
+ghost use Rattle.call_lines.specs.Lines.{making_at, line_at, made, shown_answer, with_record, on_lamp};
 
 use crate::leaves::Leaf;
 use crate::setters::Setting;
@@ -11,7 +11,7 @@ use lamp::{Answer, Call, Lamp};
 use lamp_lines::{fields, records};
 use matter::{Bounds, Refusal};
 use tasks::Running;
-use text::words::Words;
+use text::words::{FromLine, Words};
 
 #[derive(Clone, Copy)]
 pub struct Making {
@@ -53,58 +53,54 @@ fn new_lamp(words: &mut Words) -> Option<Line>
     }))
 }
 
-// The line by its first word. (A `match` on names of more than a few letters is not proved.)
-#[tactic(auto, unfolding(crate::specs::Lines::line_at))]
-pub fn line_by_name(name: &[u8], words: &mut Words) -> Option<Line>
-    ensures { Reads (line_at name.now words.old) result words.new }
-{
-    if name == b"cmd".as_slice() {
-        Some(Line::OnLamp(OnLamp::Call(invocations::invoke(words)?)))
-    } else if name == b"step".as_slice() {
-        Some(Line::OnLamp(OnLamp::Call(invocations::step(words)?)))
-    } else if name == b"startlast".as_slice() {
-        Some(Line::StartLast(words.read()?))
-    } else if name == b"start".as_slice() {
-        Some(Line::OnLamp(OnLamp::Call(invocations::begin(words)?)))
-    } else if name == b"halt".as_slice() {
-        Some(Line::OnLamp(OnLamp::Call(invocations::halt(words)?)))
-    } else if name == b"leaf".as_slice() {
-        Some(Line::Ask(leaves::read(words)?))
-    } else if name == b"set".as_slice() {
-        Some(Line::OnLamp(OnLamp::Set(setters::read(words)?)))
-    } else if name == b"lamp".as_slice() {
-        Some(Line::Lamp(fields::idle_lamp(words)?))
-    } else if name == b"new".as_slice() {
-        new_lamp(words)
-    } else if name == b"poke".as_slice() {
-        Some(Line::OnLamp(OnLamp::Poke(fields::idle_lamp(words)?)))
-    } else if name == b"record".as_slice() {
-        Some(Line::OnLamp(OnLamp::Record(records::running(words)?)))
-    } else if name == b"show".as_slice() {
-        Some(Line::OnLamp(OnLamp::Show))
-    } else if name == b"help".as_slice() {
-        Some(Line::Help)
-    } else {
-        None
-    }
-}
+// By its first word. (A `match` on names of more than a few letters is not proved.)
+impl FromLine for Line {
+    ghost named = { line_at };
 
-// What a line asks for, where its last word ends it.
-#[tactic(auto, unfolding(crate::specs::Lines::line_read))]
-pub fn read(line: &[u8]) -> Option<Line>
-    ensures { result ≡ line_read line.now }
-{
-    let mut words = Words::new(line);
-    let name = words.first();
-    let read = line_by_name(name, &mut words)?;
-    if words.is_over() { Some(read) } else { None }
+    #[tactic(auto, unfolding(crate::specs::Lines::line_at))]
+    fn by_name(name: &[u8], words: &mut Words) -> Option<Line> {
+        if name == b"cmd".as_slice() {
+            Some(Line::OnLamp(OnLamp::Call(invocations::invoke(words)?)))
+        } else if name == b"step".as_slice() {
+            Some(Line::OnLamp(OnLamp::Call(invocations::step(words)?)))
+        } else if name == b"startlast".as_slice() {
+            Some(Line::StartLast(words.read()?))
+        } else if name == b"start".as_slice() {
+            Some(Line::OnLamp(OnLamp::Call(invocations::begin(words)?)))
+        } else if name == b"halt".as_slice() {
+            Some(Line::OnLamp(OnLamp::Call(invocations::halt(words)?)))
+        } else if name == b"leaf".as_slice() {
+            Some(Line::Ask(leaves::read(words)?))
+        } else if name == b"set".as_slice() {
+            Some(Line::OnLamp(OnLamp::Set(setters::read(words)?)))
+        } else if name == b"lamp".as_slice() {
+            Some(Line::Lamp(fields::idle_lamp(words)?))
+        } else if name == b"new".as_slice() {
+            new_lamp(words)
+        } else if name == b"poke".as_slice() {
+            Some(Line::OnLamp(OnLamp::Poke(fields::idle_lamp(words)?)))
+        } else if name == b"record".as_slice() {
+            Some(Line::OnLamp(OnLamp::Record(records::running(words)?)))
+        } else if name == b"show".as_slice() {
+            Some(Line::OnLamp(OnLamp::Show))
+        } else if name == b"help".as_slice() {
+            Some(Line::Help)
+        } else {
+            None
+        }
+    }
 }
 
 pub fn make(making: Making) -> Result<Lamp, Refusal>
     ensures { result ≡ made making }
 {
-    let bounds = making.bounds;
-    Lamp::new(bounds, making.features, making.options, making.clock)
+    let Making {
+        bounds,
+        features,
+        options,
+        clock,
+    } = making;
+    Lamp::new(bounds, features, options, clock)
 }
 
 // A lamp that was put in place, or is shown.
@@ -114,24 +110,11 @@ pub fn shown(lamp: Lamp) -> Answer
     lamp.unchanged(Ok(()))
 }
 
-// The fields anew, with the record that there is.
-fn poked(lamp: Lamp, fields: Lamp) -> Answer
-    ensures { result ≡ shown_answer (with_record fields lamp.running) }
-{
-    let running = lamp.running;
-    shown(Lamp {
-        running,
-        ..fields
-    })
-}
-
+// The lamp with another running record.
 fn recorded(lamp: Lamp, running: Running) -> Answer
     ensures { result ≡ shown_answer (with_record lamp running) }
 {
-    shown(Lamp {
-        running,
-        ..lamp
-    })
+    shown(Lamp { running, ..lamp })
 }
 
 #[tactic(auto, unfolding(crate::specs::Lines::on_lamp))]
@@ -140,7 +123,7 @@ pub fn on_lamp(lamp: Lamp, what: OnLamp) -> Answer
 {
     match what {
         OnLamp::Call(call) => commands::call(lamp, call),
-        OnLamp::Poke(fields) => poked(lamp, fields),
+        OnLamp::Poke(fields) => recorded(fields, lamp.running),
         OnLamp::Record(running) => recorded(lamp, running),
         OnLamp::Show => shown(lamp),
         OnLamp::Set(setting) => setters::set(lamp, setting),

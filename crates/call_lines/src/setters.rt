@@ -1,7 +1,7 @@
 // A setter on its own: its line, and the lamp at the clock with the colour that was set.
 ghost use Rattle.std.specs.Prelude.{◌≡◌};
 ghost use Rattle.text.specs.Readers.{Reads};
-ghost use Rattle.call_lines.specs.Setters.{hue_setting_at, saturation_setting_at, mireds_setting_at, setting_at, setting_set, setting_answer};
+ghost use Rattle.call_lines.specs.Setters.{hue_setting_at, saturation_setting_at, mireds_setting_at, ended_at, setting_at, setting_set, setting_answer};
 
 use color::{Color, ColorSet, cons_change};
 use lamp::{Answer, Lamp};
@@ -36,26 +36,30 @@ fn hue(words: &mut Words) -> Option<Setting>
     })
 }
 
-#[tactic(auto, unfolding(crate::specs::Setters::saturation_setting_at))]
-fn saturation(words: &mut Words) -> Option<Setting>
-    ensures { Reads (saturation_setting_at words.old) result words.new }
+// The end and the clock behind a new value.
+#[tactic(auto, unfolding(crate::specs::Setters::ended_at))]
+fn ended(value: NewValue, words: &mut Words) -> Option<Setting>
+    ensures { Reads (ended_at value words.old) result words.new }
 {
     Some(Setting {
-        value: NewValue::Saturation(words.read()?),
+        value,
         is_end: words.read()?,
         clock: words.read()?,
     })
 }
 
-#[tactic(auto, unfolding(crate::specs::Setters::mireds_setting_at))]
+#[tactic(auto, unfolding(crate::specs::Setters::saturation_setting_at, crate::specs::Setters::ended_at))]
+fn saturation(words: &mut Words) -> Option<Setting>
+    ensures { Reads (saturation_setting_at words.old) result words.new }
+{
+    ended(NewValue::Saturation(words.read()?), words)
+}
+
+#[tactic(auto, unfolding(crate::specs::Setters::mireds_setting_at, crate::specs::Setters::ended_at))]
 fn mireds(words: &mut Words) -> Option<Setting>
     ensures { Reads (mireds_setting_at words.old) result words.new }
 {
-    Some(Setting {
-        value: NewValue::Mireds(words.read()?),
-        is_end: words.read()?,
-        clock: words.read()?,
-    })
+    ended(NewValue::Mireds(words.read()?), words)
 }
 
 // The setter's name and its numbers.
@@ -74,8 +78,7 @@ pub fn read(words: &mut Words) -> Option<Setting>
 fn set_color(color: Color, setting: Setting) -> ColorSet
     ensures { result ≡ setting_set color setting }
 {
-    let value = setting.value;
-    match value {
+    match setting.value {
         NewValue::Hue { hue, is_enhanced } => {
             color.set_hue(hue, setting.is_end, is_enhanced, setting.clock)
         }

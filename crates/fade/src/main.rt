@@ -27,7 +27,8 @@ fn read_line(from: &mut impl Read, block: &mut [u8]) -> Reader {
     reader
 }
 
-// Writes the run's text, a block at a time, until it is over or nobody reads it.
+// Writes the run's text, a block at a time, until it is over or nobody reads it: a `while`, since the run alone knows how
+// many blocks it takes.
 fn write_run(mut fade: Fade, block: &mut [u8], to: &mut impl Write)
     requires { 512 ≤ length block.old }
 {

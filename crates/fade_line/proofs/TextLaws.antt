@@ -1,25 +1,23 @@
 -- Laws of `fade`'s texts: room for a line, how long the texts are, and document 01's example.
-use Prim.Native.Nat.{ℕ, ◌+◌, ◌*◌, ◌≤◌, ◌<◌, min}
+use Prim.Native.Nat.{ℕ, ◌+◌, ◌*◌, ◌≤◌}
 use native.Mathlib.Omega.{arith}
-use mathlib.Core.Path.{◌≡◌, refl, sym, ◌∙◌}
-use mathlib.Core.Logic.{⊎_elim}
+use mathlib.Core.Path.{◌≡◌, refl}
 use mathlib.Core.Bool.{Bool, true, false, cond}
-use mathlib.Core.List.{List, [], ◌∷◌, ◌++◌, append_assoc, append-nil}
+use mathlib.Core.List.{List, [], ◌∷◌}
 use borrow.Author.Tests.{leb-true, le-leb}
-use lib.ListN.{length, take, get_or, length-append}
-use lib.Seq.{take_all, take-length, take-append_seam}
+use lib.ListN.{length, length-append}
+use lib.Seq.{take-append_seam}
 use Rattle.notices.specs.Notices.{filled, noted}
-use Rattle.text.specs.Digits.{decimal_in, decimal}
+use Rattle.text.specs.Digits.{decimal_in, decimal, spaced, spaced_all}
 use Rattle.text.specs.Written.{Wrote, Written}
 use Rattle.text.specs.declared.buffer.Buffer.{Buffer}
 use Rattle.text.specs.Buffers.{with_byte}
 use Rattle.text.proofs.BufferLaws.{written}
 use Rattle.text.proofs.DigitLaws.{decimal-short}
 use Rattle.std.specs.List.{fold}
-use Rattle.std.proofs.lemmas.List.{take_more}
-use Rattle.text.proofs.WriteLaws.{side, wrote_none, wrote-all}
+use Rattle.text.proofs.WriteLaws.{wrote_none, wrote-all}
 use Rattle.fade_line.specs.declared.writer.Line.{Line}
-use Rattle.fade_line.specs.Text.{spaced, spaced_all, numbers, state_text, line_text, refused_text, room_for, fitting}
+use Rattle.fade_line.specs.Text.{numbers, state_text, line_text, refused_text, room_for, fitting}
 
 -- ---- room
 
@@ -58,16 +56,6 @@ put_fitting b text put e short = rw put (wrote-fitting b.out.now b.at text e sho
 
 -- ---- numbers after blanks
 
-spaced-join : (ms ns : List ℕ) → spaced_all (ms ++ ns) ≡ spaced_all ms ++ spaced_all ns
-unfolding spaced_all
-spaced-join [] ns = refl
-spaced-join (m ∷ ms) ns = rw (spaced-join ms ns, append_assoc)
-
--- one number more
-pub spaced_more : (ns : List ℕ) (i : ℕ) → i < length ns → spaced_all (take (i + 1) ns) ≡ spaced_all (take i ns) ++ spaced (get_or ns i 0)
-unfolding spaced_all
-spaced_more ns i h = rw (take_more ns i 0 h, spaced-join, append-nil)
-
 pub spaced-short : (n : ℕ) → length (spaced n) ≤ 21
 unfolding spaced
 spaced-short n = omega (arith, decimal-short n)
@@ -83,14 +71,6 @@ spaced_all-short (n ∷ ns) = simp length-append (omega (arith, spaced-short n, 
 pub numbers-noted : (ns : List ℕ) → numbers (noted ns) ≡ ns
 unfolding filled
 numbers-noted ns = take-append_seam ns _
-
--- no more than the sixteen places are used
-pub take_min : (n : ℕ) (l : List ℕ) → take (min n (length l)) l ≡ take n l
-take_min n l =
-    ⊎_elim
-    (λ below. let e : min n (length l) ≡ n = omega arith in rw e)
-    (λ from. let e : min n (length l) ≡ length l = omega arith in rw e (take-length l ∙ sym (take_all n l from)))
-    (side n (length l))
 
 pub state-short : (line : Line) → length (state_text line) ≤ 84
 unfolding state_text

@@ -2,18 +2,9 @@
 -- "A refusal prints `refused`, a space and its number"; a line of another form "prints `bad line`". Every line ends
 -- with a newline.
 use Rattle.std.specs.Prelude.{ℕ, ◌+◌, Bool, cond, List, [], ◌∷◌, ◌++◌, leb, length, take}
-use Rattle.text.specs.Digits.{decimal}
+use Rattle.text.specs.Digits.{decimal, spaced, spaced_all}
 use Rattle.notices.specs.declared.Notices.{Notices}
 use Rattle.fade_line.specs.declared.writer.Line.{Line}
-
--- a blank, and the number
-unfoldable pub spaced : ℕ → List ℕ
-spaced n = 32 ∷ decimal n
-
--- numbers, each with a blank before it
-unfoldable pub spaced_all : List ℕ → List ℕ
-spaced_all [] = []
-spaced_all (n ∷ ns) = spaced n ++ spaced_all ns
 
 -- the numbers that a list of notices holds
 abbrev pub numbers : Notices → List ℕ

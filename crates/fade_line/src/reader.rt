@@ -39,12 +39,10 @@ pub enum Reader {
 fn wanted_of(hue: u64, direction: u64, tenths: u64, clock: u64) -> Option<Wanted>
     ensures { result ≡ wanted hue direction tenths clock }
 {
-    if 3 < direction {
-        return None;
-    }
+    let direction = u8::try_from(direction).ok()?;
     Some(Wanted {
         hue: u8::try_from(hue).ok()?,
-        direction: DirectionEnum::try_from(direction as u8).ok()?,
+        direction: DirectionEnum::try_from(direction).ok()?,
         tenths: u16::try_from(tenths).ok()?,
         clock,
     })

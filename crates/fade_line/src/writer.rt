@@ -1,15 +1,16 @@
 // Writing `fade`'s lines. The public functions write into a caller's slice from `at` on and give the place after what they
-// wrote: where the slice has no room for the longest line, nothing, and `at`. They take the slice, not any sink, since what
-// they write depends on its room.
+// wrote: where the slice has no room for the longest line, nothing, and `at`. They take the slice and the place, not any
+// sink, since what they write depends on its room; no `Display`, which gives no place.
 ghost use Rattle.std.specs.Prelude.{◌≡◌, ◌+◌, min, length};
 ghost use Rattle.std.specs.List.{fold};
 ghost use Rattle.text.specs.Written.{pasted};
-ghost use Rattle.fade_line.specs.Text.{spaced, spaced_all, numbers, state_text, line_text, refused_text, bad_line_text, room_for, fitting};
+ghost use Rattle.text.specs.Digits.{spaced_all};
+ghost use Rattle.fade_line.specs.Text.{numbers, state_text, line_text, refused_text, bad_line_text, room_for, fitting};
 
 use notices::Notices;
 use text::buffer;
 use text::buffer::Buffer;
-use text::writer::{Sink, decimal, text};
+use text::writer::{Sink, decimal, spaced, text};
 
 // More than any line takes.
 pub const LONGEST: usize = 512;
@@ -31,21 +32,12 @@ fn has_room(at: usize, len: usize) -> bool
     at <= len && LONGEST <= len - at
 }
 
-// A number after a blank.
-#[tactic(auto, unfolding(crate::specs::Text::spaced))]
-fn spaced<S: Sink>(out: &mut S, n: u64)
-    ensures { out.new ≡ fold S.push out.old (spaced n) }
-{
-    out.byte(b' ');
-    decimal(out, n);
-}
-
 fn notices<S: Sink>(out: &mut S, list: Notices)
     ensures { out.new ≡ fold S.push out.old (spaced_all (numbers list)) }
 {
     let used = list.len.min(16);
     for number in &list.places[..used] {
-        spaced(out, *number as u64);
+        spaced(out, u64::from(*number));
     }
 }
 
@@ -55,8 +47,8 @@ fn state<S: Sink>(out: &mut S, line: Line)
     ensures { out.new ≡ fold S.push out.old (state_text line) }
 {
     decimal(out, line.clock);
-    spaced(out, line.hue as u64);
-    spaced(out, line.tenths as u64);
+    spaced(out, u64::from(line.hue));
+    spaced(out, u64::from(line.tenths));
     spaced(out, line.wait);
     out.byte(b':');
 }
@@ -76,7 +68,7 @@ fn refusal<S: Sink>(out: &mut S, number: u8)
     ensures { out.new ≡ fold S.push out.old (refused_text number) }
 {
     text(out, b"refused");
-    spaced(out, number as u64);
+    spaced(out, u64::from(number));
     out.byte(b'\n');
 }
 
@@ -92,7 +84,7 @@ pub fn write_line(out: &mut [u8], at: usize, line: Line) -> usize
     to.at
 }
 
-// The number is printed as it is.
+// Any byte is printed as it is: to take a `Refusal` would ask more of callers.
 pub fn write_refused(out: &mut [u8], at: usize, number: u8) -> usize
     ensures value { result ≡ at + length (fitting out.old at (refused_text number)) }
     ensures out_after { out.new ≡ pasted out.old at (fitting out.old at (refused_text number)) }

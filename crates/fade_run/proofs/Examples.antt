@@ -18,10 +18,10 @@ use Rattle.lamp.specs.Passes.{hue_saturation_moved, timed}
 use Rattle.lamp.specs.Calls.{hue_saturation_start, started, stepped, start_answer, step_answer}
 use Rattle.commands.specs.Commands.{command_effect}
 use Rattle.commands.specs.Answers.{command_cause, command_answer}
-use Rattle.text.specs.Digits.{is_number, decimal_in, decimal}
+use Rattle.text.specs.Digits.{is_number, decimal_in, decimal, spaced, spaced_all}
 use Rattle.text.specs.Words.{up_to}
 use Rattle.fade_line.specs.Line.{words, wanted, asked_by_words}
-use Rattle.fade_line.specs.Text.{spaced, spaced_all, state_text, line_text, refused_text}
+use Rattle.fade_line.specs.Text.{state_text, line_text, refused_text}
 use Rattle.fade_run.specs.Run.{line_of, further, fade_of, fade_text}
 
 -- `128 0 2 5000`

@@ -120,6 +120,7 @@ fn step_of(answer: Answer, clock: u64, left: u16) -> Fade
     })
 }
 
+// Into a slice behind a place, as `fade_line` writes.
 fn write_answer(answer: Answer, clock: u64, out: &mut [u8], at: usize) -> usize
     ensures { Wrote out.old at (fitting out.old at (one_text answer clock)) out.new result }
 {
@@ -180,7 +181,8 @@ impl Fade {
 
     // As many lines as fit are written from the slice's beginning on; the result is the place after them, and the run what
     // is left of it. The contract leaves free how many (something is written where the run is not over and the slice has
-    // 512 places), what stands in the slice behind them, and of the run that is left all but its text.
+    // 512 places), what stands in the slice behind them, and of the run that is left all but its text. A `while`, since the
+    // run and the room decide how many lines there are.
     pub fn write(&mut self, out: &mut [u8]) -> usize
         ensures fade_after { take result out.new ++ text self.new ≡ text self.old }
         ensures len_in_bounds { result ≤ length out.new }

@@ -38,11 +38,8 @@ fn show_parts(to: &mut impl Write, name: &[u8], first: &[u8], second: &[u8]) {
 
 // An input with 6,400 zeros before it.
 fn show_zeros(to: &mut impl Write, name: &[u8], input: &[u8]) {
-    let mut reader = Reader::new();
-    for _ in 0..100 {
-        reader = reader.read(b"0000000000000000000000000000000000000000000000000000000000000000");
-    }
-    show_asked(to, name, reader.read(input).asked());
+    let zeros = (0..100).fold(Reader::new(), |reader, _| reader.read(&[b'0'; 64]));
+    show_asked(to, name, zeros.read(input).asked());
 }
 
 fn good(to: &mut impl Write) {

@@ -1,1 +1,1 @@
-pub mod NumbersLaws
+mod EnumLaws

@@ -11,18 +11,11 @@ use Rattle.tasks.specs.Runs.{runs}
 use Rattle.lamp.specs.declared.Answer.{Answer}
 use Rattle.lamp.specs.declared.Lamp.{Lamp}
 use Rattle.text.specs.Ascii.{ascii}
-use Rattle.text.specs.Digits.{decimal, signed_decimal}
+use Rattle.text.specs.Digits.{signed_decimal, spaced, spaced_or_dash, spaced_all}
 
--- a number behind a blank
-unfoldable pub number_text : ℕ → List ℕ
-number_text n = ascii " " ++ decimal n
-
+-- a signed number behind a blank
 unfoldable pub signed_text : ℤ → List ℕ
 signed_text n = ascii " " ++ signed_decimal n
-
-unfoldable pub numbers_text : List ℕ → List ℕ
-numbers_text [] = []
-numbers_text (n ∷ ns) = number_text n ++ numbers_text ns
 
 abbrev pub bit : Bool → ℕ
 bit b = cond b 1 0
@@ -41,27 +34,23 @@ lamp_numbers l =
 
 -- in their order; `-` where there is none
 unfoldable pub notices_text : Notices → List ℕ
-notices_text n = cond (eqb n.len 0) (ascii " -") (numbers_text (take n.len n.places))
+notices_text n = cond (eqb n.len 0) (ascii " -") (spaced_all (take n.len n.places))
 
 abbrev pub delta_text : Option ℤ → List ℕ
 delta_text None = ascii " -"
 delta_text (Some delta) = signed_text delta
 
-abbrev pub target_text : Option ℕ → List ℕ
-target_text None = ascii " -"
-target_text (Some saturation) = number_text saturation
-
 abbrev pub task_text : Task → List ℕ
 task_text (Task.HueSaturationMoveTo t) =
-    ascii " move_to" ++ delta_text t.delta ++ target_text t.saturation
-    ++ numbers_text (t.ms ∷ bit t.enhanced ∷ [])
+    ascii " move_to" ++ delta_text t.delta ++ spaced_or_dash t.saturation
+    ++ spaced_all (t.ms ∷ bit t.enhanced ∷ [])
 task_text (Task.HueMove t) =
-    ascii " hue_move" ++ numbers_text (move_mode_number t.direction ∷ t.rate ∷ bit t.enhanced ∷ [])
-task_text (Task.SaturationMove t) = ascii " sat_move" ++ numbers_text (move_mode_number t.direction ∷ t.rate ∷ [])
-task_text (Task.ColorTemperatureMoveTo t) = ascii " ct_to" ++ numbers_text (t.target ∷ t.ms ∷ [])
+    ascii " hue_move" ++ spaced_all (move_mode_number t.direction ∷ t.rate ∷ bit t.enhanced ∷ [])
+task_text (Task.SaturationMove t) = ascii " sat_move" ++ spaced_all (move_mode_number t.direction ∷ t.rate ∷ [])
+task_text (Task.ColorTemperatureMoveTo t) = ascii " ct_to" ++ spaced_all (t.target ∷ t.ms ∷ [])
 task_text (Task.ColorTemperatureMove t) =
-    ascii " ct_move" ++ signed_text t.rate ++ numbers_text (t.min ∷ t.max ∷ [])
-task_text (Task.ColorLoop t) = ascii " loop" ++ numbers_text (loop_direction_number t.direction ∷ t.seconds ∷ [])
+    ascii " ct_move" ++ signed_text t.rate ++ spaced_all (t.min ∷ t.max ∷ [])
+task_text (Task.ColorLoop t) = ascii " loop" ++ spaced_all (loop_direction_number t.direction ∷ t.seconds ∷ [])
 task_text Task.Stop = ascii " stop"
 
 abbrev pub given_text : Option Task → List ℕ
@@ -72,7 +61,7 @@ given_text (Some task) = task_text task
 
 abbrev pub status_text : Verdict → List ℕ
 status_text (Ok u) = ascii "ok"
-status_text (Err refusal) = ascii "refused" ++ numbers_text (refusal_number refusal ∷ [])
+status_text (Err refusal) = ascii "refused" ++ spaced_all (refusal_number refusal ∷ [])
 
 abbrev pub running_text : Running → List ℕ
 running_text r = cond (runs r) (ascii " running") (ascii " idle")
@@ -80,10 +69,10 @@ running_text r = cond (runs r) (ascii " running") (ascii " idle")
 -- <notices or -> | <task given or -> | <wait>
 abbrev pub reported_text : Notices → Option Task → ℕ → List ℕ
 reported_text notices task wait =
-    ascii " |" ++ notices_text notices ++ ascii " |" ++ given_text task ++ ascii " |" ++ number_text wait
+    ascii " |" ++ notices_text notices ++ ascii " |" ++ given_text task ++ ascii " |" ++ spaced wait
 
 -- <status> | <fields> | <notices or -> | <task given or -> | <wait> | running or idle
 unfoldable pub answer_text : Answer → List ℕ
 answer_text a =
-    status_text a.verdict ++ ascii " |" ++ numbers_text (lamp_numbers a.lamp)
+    status_text a.verdict ++ ascii " |" ++ spaced_all (lamp_numbers a.lamp)
     ++ reported_text a.notices a.task a.wait ++ ascii " |" ++ running_text a.lamp.running

@@ -2,13 +2,14 @@
 ghost use Rattle.std.specs.Prelude.{◌≡◌, ◌++◌};
 ghost use Rattle.std.specs.List.{fold};
 ghost use Rattle.text.specs.Ascii.{ascii};
-ghost use Rattle.lamp_lines.specs.Answers.{number_text, signed_text, numbers_text, lamp_numbers, notices_text, delta_text, target_text, task_text, given_text, status_text, running_text, reported_text, answer_text};
+ghost use Rattle.text.specs.Digits.{spaced_all};
+ghost use Rattle.lamp_lines.specs.Answers.{signed_text, lamp_numbers, notices_text, delta_text, task_text, given_text, status_text, running_text, reported_text, answer_text};
 
 use lamp::{Answer, Lamp};
 use matter::Refusal;
 use notices::Notices;
 use tasks::{Running, Task};
-use text::writer::{Sink, decimal, signed, text};
+use text::writer::{Sink, signed, spaced, spaced_all, spaced_or_dash, text};
 
 pub fn bar<S: Sink>(out: &mut S)
     ensures { out.new ≡ fold S.push out.old (ascii " |") }
@@ -16,16 +17,7 @@ pub fn bar<S: Sink>(out: &mut S)
     text(out, b" |");
 }
 
-// A number after a blank.
-#[tactic(auto, unfolding(crate::specs::Answers::number_text))]
-pub fn number<S: Sink>(out: &mut S, n: u64)
-    ensures { out.new ≡ fold S.push out.old (number_text n) }
-{
-    out.byte(b' ');
-    decimal(out, n);
-}
-
-// The same of a signed number.
+// A signed number behind a blank.
 #[tactic(auto, unfolding(crate::specs::Answers::signed_text))]
 fn signed_number<S: Sink>(out: &mut S, n: i64)
     ensures { out.new ≡ fold S.push out.old (signed_text n) }
@@ -34,21 +26,12 @@ fn signed_number<S: Sink>(out: &mut S, n: i64)
     signed(out, n);
 }
 
-#[tactic(auto, unfolding(crate::specs::Answers::numbers_text))]
-pub fn numbers<S: Sink>(out: &mut S, list: &[u64])
-    ensures { out.new ≡ fold S.push out.old (numbers_text list.now) }
-{
-    for n in list {
-        number(out, *n);
-    }
-}
-
-// A name, and numbers after it.
+// A name, and numbers behind it.
 fn named<S: Sink>(out: &mut S, name: &[u8], list: &[u64])
-    ensures { out.new ≡ fold S.push out.old (name.now ++ numbers_text list.now) }
+    ensures { out.new ≡ fold S.push out.old (name.now ++ spaced_all list.now) }
 {
     text(out, name);
-    numbers(out, list);
+    spaced_all(out, list);
 }
 
 // A lamp's fields, in the protocol's order.
@@ -87,7 +70,7 @@ pub fn lamp_numbers(lamp: Lamp) -> [u64; 18]
 }
 
 // The notices in their order; `-` where there is none.
-#[tactic(auto, unfolding(crate::specs::Answers::notices_text, crate::specs::Answers::numbers_text))]
+#[tactic(auto, unfolding(crate::specs::Answers::notices_text, text::specs::Digits::spaced_all))]
 fn notices<S: Sink>(out: &mut S, list: Notices)
     ensures { out.new ≡ fold S.push out.old (notices_text list) }
 {
@@ -96,7 +79,7 @@ fn notices<S: Sink>(out: &mut S, list: Notices)
     }
     let used = list.len.min(16);
     for notice in &list.places[..used] {
-        number(out, *notice as u64);
+        spaced(out, u64::from(*notice));
     }
 }
 
@@ -109,15 +92,6 @@ fn delta<S: Sink>(out: &mut S, delta: Option<i64>)
     }
 }
 
-fn target<S: Sink>(out: &mut S, target: Option<u8>)
-    ensures { out.new ≡ fold S.push out.old (target_text target) }
-{
-    match target {
-        None => text(out, b" -"),
-        Some(saturation) => number(out, saturation as u64),
-    }
-}
-
 fn task<S: Sink>(out: &mut S, task: Task)
     ensures { out.new ≡ fold S.push out.old (task_text task) }
 {
@@ -125,8 +99,8 @@ fn task<S: Sink>(out: &mut S, task: Task)
         Task::HueSaturationMoveTo(t) => {
             text(out, b" move_to");
             delta(out, t.delta);
-            target(out, t.saturation);
-            numbers(out, &[t.ms as u64, t.enhanced as u64]);
+            spaced_or_dash(out, t.saturation);
+            spaced_all(out, &[t.ms as u64, t.enhanced as u64]);
         }
         Task::HueMove(t) => named(
             out,
@@ -146,7 +120,7 @@ fn task<S: Sink>(out: &mut S, task: Task)
         Task::ColorTemperatureMove(t) => {
             text(out, b" ct_move");
             signed_number(out, t.rate);
-            numbers(out, &[t.min as u64, t.max as u64]);
+            spaced_all(out, &[t.min as u64, t.max as u64]);
         }
         Task::ColorLoop(t) => named(
             out,
@@ -194,7 +168,7 @@ fn reported<S: Sink>(out: &mut S, list: Notices, task: Option<Task>, wait: u64)
     bar(out);
     given(out, task);
     bar(out);
-    number(out, wait);
+    spaced(out, wait);
 }
 
 #[tactic(auto, unfolding(crate::specs::Answers::answer_text))]
@@ -203,7 +177,7 @@ pub fn answer<S: Sink>(out: &mut S, answer: Answer)
 {
     status(out, answer.verdict);
     bar(out);
-    numbers(out, &lamp_numbers(answer.lamp));
+    spaced_all(out, &lamp_numbers(answer.lamp));
     reported(out, answer.notices, answer.task, answer.wait);
     bar(out);
     ending(out, answer.lamp.running);

@@ -10,7 +10,8 @@ use tasks::{
 };
 use text::words::Words;
 
-// The clock at a start and the initial values: a hue or mireds, a saturation, or a hue and a saturation.
+// The clock at a start and the initial values: a hue or mireds, a saturation, or a hue and a saturation. One struct for all:
+// of an enum, `record` would have to match the cases with the task's.
 #[derive(Clone, Copy)]
 struct Initial {
     start: u64,
@@ -18,6 +19,7 @@ struct Initial {
     saturation: u8,
 }
 
+// By the task's name. (A `match` on names of more than a few letters is not proved.)
 #[tactic(auto, unfolding(crate::specs::Records::initial_at))]
 fn initial_values(name: &[u8], words: &mut Words) -> Option<Initial>
     ensures { Reads (initial_at name.now words.old) result words.new }

@@ -2,9 +2,10 @@
 // given last is of both.
 use crate::state;
 use crate::state::State;
+use row_lines::answers;
 use row_lines::lines::{OnRow, RowLine};
-use row_lines::{answers, lines};
 use rows::Row;
+use text::words;
 use text::writer::Sink;
 
 // A line of more bytes is unreadable.
@@ -22,7 +23,7 @@ fn read(line: &[u8]) -> Option<RowLine> {
     if LONGEST < line.len() {
         return None;
     }
-    lines::read(line)
+    words::line(line)
 }
 
 // An empty line, and one that begins with `#`, has no answer.

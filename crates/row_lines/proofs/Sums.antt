@@ -7,12 +7,11 @@ use mathlib.Core.Logic.{⊎_elim}
 use mathlib.Core.List.{List, [], ◌∷◌, ◌++◌, append_assoc, append-nil}
 use lib.ListN.{length, take, drop, get_or}
 use lib.Seq.{take_all}
-use Rattle.text.specs.Digits.{decimal}
+use Rattle.text.specs.Digits.{decimal, spaced, spaced_all}
 use Rattle.text.proofs.WriteLaws.{side}
 use Rattle.std.specs.List.{fold}
 use Rattle.std.proofs.lemmas.List.{take_more}
 use Rattle.lamp.specs.declared.Lamp.{Lamp}
-use Rattle.lamp_lines.specs.Answers.{number_text, numbers_text}
 use Rattle.row_lines.specs.declared.sum.Sum.{Sum}
 use Rattle.row_lines.specs.Sums.{with_byte}
 use Rattle.row_lines.specs.RowAnswers.{summed, lamp_text, lamps_text}
@@ -24,8 +23,8 @@ put_summed h [] = refl
 put_summed h (b ∷ s) = put_summed (with_byte h b) s
 
 -- the first has no blank
-pub first-number : (list : List ℕ) → 0 < length list → drop 1 (numbers_text list) ≡ decimal (get_or list 0 0) ++ numbers_text (drop 1 list)
-unfolding numbers_text number_text
+pub first-number : (list : List ℕ) → 0 < length list → drop 1 (spaced_all list) ≡ decimal (get_or list 0 0) ++ spaced_all (drop 1 list)
+unfolding spaced_all spaced
 first-number [] h = absurd (not-suc-le-zero h)
 first-number (n ∷ ns) h = refl
 

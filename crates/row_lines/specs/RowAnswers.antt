@@ -12,9 +12,9 @@ use Rattle.rows.specs.declared.RowStepped.{RowStepped}
 use Rattle.rows.specs.Rows.{row_of, placed, row_stepped, row_bytes, lamp_at, answered_at, put_at, count_of, lowest_of}
 use Rattle.std.specs.List.{fold}
 use Rattle.text.specs.Ascii.{ascii}
-use Rattle.text.specs.Digits.{decimal, hex_text}
+use Rattle.text.specs.Digits.{decimal, spaced, spaced_or_dash, spaced_all, hex_text}
 use Rattle.std.specs.Str.{bytes_eq}
-use Rattle.lamp_lines.specs.Answers.{number_text, numbers_text, lamp_numbers, running_text, status_text, answer_text}
+use Rattle.lamp_lines.specs.Answers.{lamp_numbers, running_text, status_text, answer_text}
 use Rattle.call_lines.specs.declared.lines.Line.{Line}
 use Rattle.call_lines.specs.declared.lines.OnLamp.{OnLamp}
 use Rattle.call_lines.specs.Lines.{shown_answer, on_lamp}
@@ -32,7 +32,7 @@ summed h (b ∷ bs) = summed ((h * 31 + b) % 4294967296) bs
 
 -- "the text `<fields> running` or `<fields> idle` with a newline behind it": no blank before the first field
 unfoldable pub lamp_text : Lamp → List ℕ
-lamp_text l = drop 1 (numbers_text (lamp_numbers l)) ++ running_text l.running ++ ascii "\n"
+lamp_text l = drop 1 (spaced_all (lamp_numbers l)) ++ running_text l.running ++ ascii "\n"
 
 unfoldable pub lamps_text : List Lamp → List ℕ
 lamps_text [] = []
@@ -44,7 +44,7 @@ row_sum r = summed 0 (lamps_text (placed r))
 
 -- <count> <word> <sum>: "The word is in decimal"
 unfoldable pub row_text : Row → List ℕ
-row_text r = number_text r.count ++ number_text r.running_mask ++ number_text (row_sum r)
+row_text r = spaced r.count ++ spaced r.running_mask ++ spaced (row_sum r)
 
 -- | <row>
 abbrev pub then_row : Row → List ℕ
@@ -94,13 +94,9 @@ with_mask r mask = record { count = r.count; running_mask = mask; lamps = r.lamp
 
 -- ---- how many are still turning, from the word alone
 
-abbrev pub lowest_text : Option ℕ → List ℕ
-lowest_text None = ascii " -"
-lowest_text (Some place) = number_text place
-
 -- "`<count> <lowest>`, or `0 -`"
 unfoldable pub turning_text : ℕ → List ℕ
-turning_text mask = decimal (count_of mask) ++ lowest_text (lowest_of mask)
+turning_text mask = decimal (count_of mask) ++ spaced_or_dash (lowest_of mask)
 
 -- ---- a row call
 
@@ -120,7 +116,7 @@ kept_text bytes fill = cond (bytes_eq bytes (lent_bytes fill (length bytes))) (a
 -- | <wait> | <slice> | kept or written
 abbrev pub lent_text : ℕ → List ℕ → ℕ → List ℕ
 lent_text wait bytes fill =
-    ascii " |" ++ number_text wait ++ ascii " |" ++ slice_text bytes ++ ascii " |" ++ kept_text bytes fill
+    ascii " |" ++ spaced wait ++ ascii " |" ++ slice_text bytes ++ ascii " |" ++ kept_text bytes fill
 
 -- <status> | <row> | <wait> | <slice> | kept or written
 unfoldable pub step_with : Row → ℕ → ℕ → ℕ → Turn

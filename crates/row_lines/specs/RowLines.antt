@@ -3,8 +3,7 @@ use Rattle.std.specs.Prelude.{ℕ, Bool, false, cond, List, [], ◌∷◌, Optio
 use Rattle.std.specs.Str.{bytes_eq}
 use Prim.Native.String.{String}
 use Rattle.text.specs.Ascii.{ascii}
-use Rattle.text.specs.Words.{first_word, behind_word}
-use Rattle.text.specs.Readers.{Reader, Row, give, ◌then◌, number8, number16, number32, number64, word, by_next, at_end, ◌means◌, named}
+use Rattle.text.specs.Readers.{Reader, Row, give, ◌then◌, number8, number16, number32, number64, word, by_next, line_of, ◌means◌, named}
 use Rattle.call_lines.specs.Lines.{line_at}
 use Rattle.row_lines.specs.declared.lines.OnRow.{OnRow}
 use Rattle.row_lines.specs.declared.lines.RowLine.{RowLine}
@@ -64,5 +63,6 @@ row_lines =
 unfoldable pub row_line_at : List ℕ → Reader RowLine
 row_line_at name = named row_lines (lamp_line_at name) name
 
-unfoldable pub row_line_read : List ℕ → Option RowLine
-row_line_read line = at_end (row_line_at (first_word line) (behind_word line))
+-- a line is what was read where its last word ends it
+abbrev pub row_line_read : List ℕ → Option RowLine
+row_line_read = line_of row_line_at

@@ -4,7 +4,7 @@ ghost use Rattle.std.specs.List.{fold};
 ghost use Rattle.text.specs.Ascii.{ascii};
 ghost use Rattle.std.specs.Str.{bytes_eq};
 ghost use Rattle.lamp_lines.specs.Answers.{status_text, answer_text};
-ghost use Rattle.row_lines.specs.RowAnswers.{lamp_text, lamps_text, row_sum, row_text, then_row, Turned, shown_row, unread, fresh_place, fresh_row, with_count, with_mask, lowest_text, turning_text, says, lent_bytes, slice_text, kept_text, lent_text, step_with, step_row, last_start, on_lamp_asked, asked_of, lamp_answer, lamp_hidden, called_at, lamp_missing, edited_at, edited_on, answered_place, on_row};
+ghost use Rattle.row_lines.specs.RowAnswers.{lamp_text, lamps_text, row_sum, row_text, then_row, Turned, shown_row, unread, fresh_place, fresh_row, with_count, with_mask, turning_text, says, lent_bytes, slice_text, kept_text, lent_text, step_with, step_row, last_start, on_lamp_asked, asked_of, lamp_answer, lamp_hidden, called_at, lamp_missing, edited_at, edited_on, answered_place, on_row};
 
 use crate::lines::{AtPlace, OnRow, RowStep};
 use crate::sum::Sum;
@@ -12,12 +12,12 @@ use call_lines::lines;
 use call_lines::lines::{Line, OnLamp};
 use color::Color;
 use lamp::{Answer, Call, Lamp, LoopSettings};
-use lamp_lines::answers::{answer, bar, ending, lamp_numbers, number, numbers, status};
+use lamp_lines::answers::{answer, bar, ending, lamp_numbers, status};
 use matter::{Bounds, ColorLoopDirectionEnum, Refusal};
 use remaining_time::RemainingTime;
 use rows::{MOST, Row, RowAnswer, lowest_running, running_count};
 use tasks::{Running, Task};
-use text::writer::{Sink, decimal, hex, text};
+use text::writer::{Sink, decimal, hex, spaced, spaced_all, spaced_or_dash, text};
 
 // The longest slice that is lent.
 const LONGEST: usize = 1024;
@@ -45,7 +45,7 @@ fn lamp_line<S: Sink>(out: &mut S, lamp: Lamp)
 {
     let list = lamp_numbers(lamp);
     decimal(out, list[0]);
-    numbers(out, &list[1..]);
+    spaced_all(out, &list[1..]);
     ending(out, lamp.running);
     out.byte(b'\n');
 }
@@ -75,9 +75,9 @@ fn sum_of(row: Row) -> u32
 fn row_numbers<S: Sink>(out: &mut S, row: Row)
     ensures { out.new ≡ fold S.push out.old (row_text row) }
 {
-    number(out, row.count as u64);
-    number(out, row.running_mask as u64);
-    number(out, sum_of(row) as u64);
+    spaced(out, row.count as u64);
+    spaced(out, row.running_mask as u64);
+    spaced(out, sum_of(row) as u64);
 }
 
 // The row behind what was answered.
@@ -158,23 +158,13 @@ fn with_mask(row: Row, running_mask: u32) -> Row
     }
 }
 
-// The lowest place that runs; `-` where none does.
-fn lowest<S: Sink>(out: &mut S, place: Option<u8>)
-    ensures { out.new ≡ fold S.push out.old (lowest_text place) }
-{
-    match place {
-        None => text(out, b" -"),
-        Some(k) => number(out, k as u64),
-    }
-}
-
-// How many run, and the lowest place, from the word alone.
+// How many run, and the lowest place that does, from the word alone.
 #[tactic(auto, unfolding(crate::specs::RowAnswers::turning_text))]
 pub fn turning<S: Sink>(mask: u32, out: &mut S)
     ensures { out.new ≡ fold S.push out.old (turning_text mask) }
 {
     decimal(out, running_count(mask) as u64);
-    lowest(out, lowest_running(mask));
+    spaced_or_dash(out, lowest_running(mask));
 }
 
 // The row's own.
@@ -189,7 +179,7 @@ fn row_turning<S: Sink>(row: Row, out: &mut S) -> RowTurn
 fn byte_at(from: u8, i: usize) -> u8
     ensures { result ≡ (from + i) % 256 }
 {
-    (((from as usize) + i % 256) % 256) as u8
+    from.wrapping_add((i % 256) as u8)
 }
 
 fn fill(bytes: &mut [u8], from: u8)
@@ -200,7 +190,7 @@ fn fill(bytes: &mut [u8], from: u8)
     }
 }
 
-// Whether every byte is as it was lent.
+// Whether every byte is as it was lent: byte by byte, since no second slice is there to compare with.
 fn is_filled(bytes: &[u8], from: u8) -> bool
     ensures { result ≡ bytes_eq bytes.now (lent_bytes from (length bytes.now)) }
 {
@@ -217,7 +207,7 @@ fn is_filled(bytes: &[u8], from: u8) -> bool
 fn slice<S: Sink>(out: &mut S, bytes: &[u8])
     ensures { out.new ≡ fold S.push out.old (slice_text bytes.now) }
 {
-    if bytes.len() == 0 {
+    if bytes.is_empty() {
         return text(out, b" -");
     }
     out.byte(b' ');
@@ -240,7 +230,7 @@ fn lent<S: Sink>(out: &mut S, wait: u64, bytes: &[u8], from: u8)
     ensures { out.new ≡ fold S.push out.old (lent_text wait bytes.now from) }
 {
     bar(out);
-    number(out, wait);
+    spaced(out, wait);
     bar(out);
     slice(out, bytes);
     bar(out);
@@ -305,9 +295,7 @@ fn asked_at(line: Line, last: Option<Task>) -> Asked
         Line::Lamp(lamp) => Asked::Place(lamp),
         Line::OnLamp(what) => asked_of(what),
         Line::StartLast(clock) => start_of(last, clock),
-        Line::New(_) => Asked::Nothing,
-        Line::Ask(_) => Asked::Nothing,
-        Line::Help => Asked::Nothing,
+        Line::New(_) | Line::Ask(_) | Line::Help => Asked::Nothing,
     }
 }
 

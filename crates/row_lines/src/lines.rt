@@ -1,11 +1,10 @@
 // The lines of a row, read. Any other line is the lamp's.
 ghost use Rattle.std.specs.Prelude.{◌≡◌};
 ghost use Rattle.text.specs.Readers.{Reads};
-ghost use Rattle.row_lines.specs.RowLines.{make_at, count_at, mask_at, running_at, step_row_at, place_at, lamp_line_at, leaf_line_at, row_line_at, row_line_read};
+ghost use Rattle.row_lines.specs.RowLines.{make_at, count_at, mask_at, running_at, step_row_at, place_at, lamp_line_at, leaf_line_at, row_line_at};
 
-use call_lines::lines;
 use call_lines::lines::Line;
-use text::words::Words;
+use text::words::{FromLine, Words};
 
 // A row call: the size of the slice that is lent, and the number that its bytes begin at.
 #[derive(Clone, Copy)]
@@ -42,6 +41,7 @@ pub enum RowLine {
     Lamp(Line),
 }
 
+// The readers below read alike: each fills a case of its own, and `words.read()?` is all that they share.
 #[tactic(auto, unfolding(crate::specs::RowLines::make_at))]
 fn make_line(words: &mut Words) -> Option<RowLine>
     ensures { Reads (make_at words.old) result words.new }
@@ -87,7 +87,7 @@ fn place_line(words: &mut Words) -> Option<RowLine>
 {
     let place = words.read()?;
     let name = words.word()?;
-    let line = lines::line_by_name(name, words)?;
+    let line = Line::by_name(name, words)?;
     Some(RowLine::OnRow(OnRow::At(AtPlace { place, line })))
 }
 
@@ -96,7 +96,7 @@ fn place_line(words: &mut Words) -> Option<RowLine>
 fn lamp_line(name: &[u8], words: &mut Words) -> Option<RowLine>
     ensures { Reads (lamp_line_at name.now words.old) result words.new }
 {
-    Some(RowLine::Lamp(lines::line_by_name(name, words)?))
+    Some(RowLine::Lamp(Line::by_name(name, words)?))
 }
 
 // A leaf: the readings of a mask, or the lamp's.
@@ -111,39 +111,30 @@ fn leaf_line(words: &mut Words) -> Option<RowLine>
     lamp_line(b"leaf", words)
 }
 
-// The line by its first word. (A `match` on names of more than a few letters is not proved.)
-#[tactic(auto, unfolding(crate::specs::RowLines::row_line_at))]
-fn line_by_name(name: &[u8], words: &mut Words) -> Option<RowLine>
-    ensures { Reads (row_line_at name.now words.old) result words.new }
-{
-    if name == b"row".as_slice() {
-        make_line(words)
-    } else if name == b"rowcount".as_slice() {
-        count_line(words)
-    } else if name == b"rowword".as_slice() {
-        mask_line(words)
-    } else if name == b"rowshow".as_slice() {
-        Some(RowLine::OnRow(OnRow::Show))
-    } else if name == b"rowstep".as_slice() {
-        step_line(words)
-    } else if name == b"turning".as_slice() {
-        Some(RowLine::OnRow(OnRow::Turning))
-    } else if name == b"at".as_slice() {
-        place_line(words)
-    } else if name == b"leaf".as_slice() {
-        leaf_line(words)
-    } else {
-        lamp_line(name, words)
-    }
-}
+// By its first word. (A `match` on names of more than a few letters is not proved.)
+impl FromLine for RowLine {
+    ghost named = { row_line_at };
 
-// What a line asks for, where its last word ends it.
-#[tactic(auto, unfolding(crate::specs::RowLines::row_line_read))]
-pub fn read(line: &[u8]) -> Option<RowLine>
-    ensures { result ≡ row_line_read line.now }
-{
-    let mut words = Words::new(line);
-    let name = words.first();
-    let read = line_by_name(name, &mut words)?;
-    if words.is_over() { Some(read) } else { None }
+    #[tactic(auto, unfolding(crate::specs::RowLines::row_line_at))]
+    fn by_name(name: &[u8], words: &mut Words) -> Option<RowLine> {
+        if name == b"row".as_slice() {
+            make_line(words)
+        } else if name == b"rowcount".as_slice() {
+            count_line(words)
+        } else if name == b"rowword".as_slice() {
+            mask_line(words)
+        } else if name == b"rowshow".as_slice() {
+            Some(RowLine::OnRow(OnRow::Show))
+        } else if name == b"rowstep".as_slice() {
+            step_line(words)
+        } else if name == b"turning".as_slice() {
+            Some(RowLine::OnRow(OnRow::Turning))
+        } else if name == b"at".as_slice() {
+            place_line(words)
+        } else if name == b"leaf".as_slice() {
+            leaf_line(words)
+        } else {
+            lamp_line(name, words)
+        }
+    }
 }

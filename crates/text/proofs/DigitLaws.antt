@@ -5,14 +5,14 @@ use native.Mathlib.Omega.{arith}
 use mathlib.Core.Path.{◌≡◌, refl, sym, ap, ◌∙◌}
 use mathlib.Core.Logic.{⊎_elim}
 use mathlib.Core.Bool.{Bool, true, false, cond, ◌&&◌, false≢true, and-false}
-use mathlib.Core.List.{List, [], ◌∷◌, ◌++◌}
-use borrow.Author.Tests.{lt-ltb, le-ltb, lt-leb, ltb-true, leb-true, leb-false}
+use mathlib.Core.List.{List, [], ◌∷◌, ◌++◌, append_assoc, append-nil}
+use borrow.Author.Tests.{lt-ltb, le-ltb, lt-leb, leb-true, leb-false}
 use lib.Dec.{ltb, leb}
 use lib.IntN.{ℤ, pos, negsuc, nat_abs}
 use lib.ListN.{length, take, get_or, length-append}
 use lib.Signed.{lt_z}
 use Rattle.std.proofs.Common.{Some, None}
-use Rattle.text.specs.Digits.{is_digit, digits_alone, value_from, value, grown, decimal_in, decimal, signed_decimal, hex_digit, hex_text}
+use Rattle.text.specs.Digits.{is_digit, digits_alone, value_from, value, grown, decimal_in, decimal, signed_decimal, spaced, spaced_all, hex_digit, hex_text}
 use Rattle.std.proofs.lemmas.List.{take_more}
 use Rattle.text.proofs.WriteLaws.{side}
 
@@ -111,13 +111,21 @@ value-decimal n h = value-decimal_in 20 n h
 
 -- ---- signed numbers
 
-pub signed_below : (z : ℤ) → lt_z z (pos 0) ≡ true → signed_decimal z ≡ 45 ∷ decimal (nat_abs z)
-signed_below (pos n) e = absurd (omega (arith, ltb-true n 0 e))
-signed_below (negsuc n) e = refl
-
 pub signed_above : (z : ℤ) → lt_z z (pos 0) ≡ false → signed_decimal z ≡ decimal (nat_abs z)
 signed_above (pos n) e = refl
 signed_above (negsuc n) e = absurd (false≢true (sym e))
+
+-- ---- numbers behind blanks
+
+spaced-join : (ms ns : List ℕ) → spaced_all (ms ++ ns) ≡ spaced_all ms ++ spaced_all ns
+unfolding spaced_all
+spaced-join [] ns = refl
+spaced-join (m ∷ ms) ns = rw (spaced-join ms ns, append_assoc)
+
+-- one number more
+pub spaced_more : (ns : List ℕ) (i : ℕ) → i < length ns → spaced_all (take (i + 1) ns) ≡ spaced_all (take i ns) ++ spaced (get_or ns i 0)
+unfolding spaced_all
+spaced_more ns i h = rw (take_more ns i 0 h, spaced-join, append-nil)
 
 -- ---- hexadecimal
 

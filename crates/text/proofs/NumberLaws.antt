@@ -1,15 +1,13 @@
 -- A word read as a number, byte by byte.
 use Prim.Native.Nat.{ℕ, ◌+◌, ◌≤◌, ◌<◌}
-use mathlib.Core.Path.{◌≡◌, refl}
+use mathlib.Core.Path.{◌≡◌}
 use mathlib.Core.Bool.{cond, ◌&&◌}
-use mathlib.Core.List.{List, [], ◌∷◌}
-use borrow.Author.Tests.{le-leb}
+use mathlib.Core.List.{List}
 use lib.Dec.{leb}
 use lib.ListN.{length, get_or, drop}
 use Rattle.std.proofs.Common.{Option, Some, None}
 use Rattle.std.proofs.lemmas.List.{drop_more}
-use Rattle.text.specs.Digits.{digits_alone, value_from, is_number, grown}
-use Rattle.text.specs.Numbers.{number_of}
+use Rattle.text.specs.Digits.{digits_alone, value_from, grown}
 use Rattle.text.proofs.DigitLaws.{grown-refused, grown-to}
 
 -- the number that a word means behind digits of the number v, within a bound
@@ -25,11 +23,3 @@ module _ (most v i : ℕ) (w : List ℕ) (h : i < length w) where
 
   pub next_within : (n : ℕ) → grown v (get_or w i 0) most ≡ Some n → n ≤ most
   next_within n e = (grown-to v (get_or w i 0) most n e).2
-
-pub after_all : (most v : ℕ) → v ≤ most → number_after most v [] ≡ Some v
-after_all most v h = simp (le-leb v most h)
-
-pub number_some : (most : ℕ) (w : List ℕ) → (length w ≡ 0 → ⊥) → number_after most 0 w ≡ number_of most w
-unfolding number_of is_number
-number_some most [] some = absurd (some refl)
-number_some most (b ∷ w) some = refl

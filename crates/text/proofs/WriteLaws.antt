@@ -150,16 +150,3 @@ written_more old at s t {mid} {new} {next} {end} one two =
     let second : (end ≡ next) × (new ≡ mid) = outside-same mid next t (rw (first.0, first.1) outside) two in
     rw (second.0, second.1, first.0, first.1) (written_outside old at (s ++ t) outside))
     (side at (length old))
-
--- ---- loops
-
--- whoever writes what is left of a text has written all of it
-abbrev pub Completes : List ℕ → ℕ → List ℕ → List ℕ → ℕ → List ℕ → Type 0
-Completes old at text mid next rest = (new : List ℕ) (end : ℕ) → Written mid next rest new end → Written old at text new end
-
-pub completes-less : (old : List ℕ) (at : ℕ) (text mid : List ℕ) (next : ℕ) (s rest : List ℕ) {less : List ℕ} {then : ℕ} → Completes old at text mid next (s ++ rest)
-    → Written mid next s less then → Completes old at text less then rest
-completes-less old at text mid next s rest h w = λ new end v. h new end (written_more mid next s rest w v)
-
-pub completed : (old : List ℕ) (at : ℕ) (text mid : List ℕ) (next : ℕ) → Completes old at text mid next [] → Written old at text mid next
-completed old at text mid next h = h mid next (written_none mid next)

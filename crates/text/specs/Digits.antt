@@ -1,4 +1,5 @@
--- Numbers and bytes as digits. A byte is a number: 48 to 57 are the digits, 97 to 102 `a` to `f`, 45 is the minus.
+-- Numbers and bytes as digits. A byte is a number: 48 to 57 are the digits, 97 to 102 `a` to `f`, 32 is the blank,
+-- 45 the minus.
 use Rattle.std.specs.Prelude.{ℕ, zero, suc, ◌+◌, ◌-◌, ◌*◌, ◌/◌, ◌%◌, Bool, true, false, cond, ◌&&◌, ◌||◌, List, [], ◌∷◌, ◌++◌, leb, ltb, ℤ, pos, negsuc, Option, Some, None}
 
 -- ---- decimal
@@ -44,6 +45,20 @@ decimal n = decimal_in 20 n
 abbrev pub signed_decimal : ℤ → List ℕ
 signed_decimal (pos n) = decimal n
 signed_decimal (negsuc n) = 45 ∷ decimal (suc n)
+
+-- a number behind a blank
+unfoldable pub spaced : ℕ → List ℕ
+spaced n = 32 ∷ decimal n
+
+-- and a dash where there is none
+unfoldable pub spaced_or_dash : Option ℕ → List ℕ
+spaced_or_dash None = 32 ∷ 45 ∷ []
+spaced_or_dash (Some n) = spaced n
+
+-- numbers, each behind a blank
+unfoldable pub spaced_all : List ℕ → List ℕ
+spaced_all [] = []
+spaced_all (n ∷ ns) = spaced n ++ spaced_all ns
 
 -- ---- hexadecimal, small letters
 

@@ -98,3 +98,7 @@ or_dash x of w = cond (bytes_eq w (ascii "-")) (Some x) (of w)
 -- what is read, where nothing is left of the line behind it
 abbrev pub at_end : {A : Type 0} → Read (Option A) → Option A
 at_end read = cond (eqb (length read.rest) 0) read.value None
+
+-- a line by its first word: what is read behind it, where its last word ends it
+unfoldable pub line_of : {A : Type 0} → (List ℕ → Reader A) → List ℕ → Option A
+line_of reads line = at_end (reads (first_word line) (behind_word line))

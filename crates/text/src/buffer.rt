@@ -1,4 +1,5 @@
-// A caller's slice as a sink. What does not fit is left out, so that no place need be in the slice.
+// A caller's slice as a sink, since there is no heap. What does not fit is left out, so that no place need be in the slice.
+// No `fmt::Write`: the bytes need not be UTF-8, and the place behind them is wanted.
 ghost use Rattle.std.specs.Prelude.{◌≡◌};
 ghost use Rattle.text.specs.Buffers.{with_byte};
 ghost use Rattle.text.specs.Written.{Written};

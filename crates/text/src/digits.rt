@@ -1,4 +1,5 @@
-// Digits: a decimal number that grows byte by byte, and hexadecimal digits.
+// Digits: a decimal number that grows byte by byte, and hexadecimal digits, in small letters alone: the library's
+// `is_ascii_hexdigit` and `to_digit` take capitals too.
 ghost use Rattle.std.specs.Prelude.{◌≡◌, ◌<◌};
 ghost use Rattle.text.specs.Digits.{grown, is_hex_digit, hex_value, hex_digit};
 

@@ -1,6 +1,6 @@
 // What a word says: a number within its width, or a flag.
 ghost use Rattle.std.specs.Prelude.{◌≡◌, ◌≤◌, ℕ, List, Option, IfSome};
-ghost use Rattle.text.specs.Numbers.{number_of, flag_of, signed_of, negated};
+ghost use Rattle.text.specs.Numbers.{number_of, flag_of, signed_of};
 
 use crate::digits::with_digit;
 
@@ -12,7 +12,7 @@ pub trait FromWord {
         ensures { result ≡ meaning word.now };
 }
 
-// A word as a number of at most `most`.
+// A word as a number of at most `most`. By hand: the library's `parse` takes a plus too, and a `str` alone.
 #[tactic(auto, unfolding(crate::specs::Numbers::number_of, crate::specs::Digits::is_number), using(crate::proofs::NumberLaws::after_refused, crate::proofs::NumberLaws::after_next, crate::proofs::NumberLaws::next_within))]
 pub fn number(word: &[u8], most: u64) -> Option<u64>
     ensures value { result ≡ number_of most word.now }
@@ -36,6 +36,7 @@ impl FromWord for bool {
     }
 }
 
+// One impl a width, since no impl is for a list of types.
 impl FromWord for u8 {
     ghost meaning = { number_of 255 };
 
@@ -68,17 +69,6 @@ impl FromWord for u64 {
     }
 }
 
-// The number below 0 of this size.
-fn below_zero(size: u64) -> i64
-    requires { size ≤ 9223372036854775808 }
-    ensures { result ≡ negated size }
-{
-    match i64::try_from(size) {
-        Ok(size) => -size,
-        Err(_) => i64::MIN,
-    }
-}
-
 // With a minus or without.
 impl FromWord for i64 {
     ghost meaning = { signed_of };
@@ -87,7 +77,7 @@ impl FromWord for i64 {
     fn from_word(word: &[u8]) -> Option<i64> {
         let (sign, size) = word.split_first()?;
         if *sign == b'-' {
-            Some(below_zero(number(size, i64::MIN.unsigned_abs())?))
+            0i64.checked_sub_unsigned(number(size, i64::MIN.unsigned_abs())?)
         } else {
             Some(number(word, i64::MAX as u64)? as i64)
         }

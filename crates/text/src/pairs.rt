@@ -30,7 +30,7 @@ fn are_bytes(word: &[u8], room: usize) -> bool
     !word.is_empty() & are_pairs(word) & (word.len() / 2 <= room)
 }
 
-// By places: a loop over `iter_mut` loses which byte was changed.
+// By places: a proof loses which byte was changed over `iter_mut`, and which pair it is over `chunks_exact`.
 #[tactic(auto, using(crate::proofs::PairLaws::bytes_half, crate::proofs::PairLaws::put_length))]
 fn put(word: &[u8], out: &mut [u8])
     requires { length (bytes_of word.now) ≤ length out.old }

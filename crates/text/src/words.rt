@@ -2,10 +2,19 @@
 ghost use Rattle.std.specs.Prelude.{◌≡◌, ◌==◌, List, ℕ, ◌<◌, eqb, length, IfSome, option_map};
 ghost use Rattle.std.specs.List.{position_from};
 ghost use Rattle.text.specs.Words.{first_word, behind_word};
-ghost use Rattle.text.specs.Readers.{Reads, word, by_word};
+ghost use Rattle.text.specs.Readers.{Reader, Reads, word, by_word, line_of};
 
 use crate::numbers::FromWord;
 use std::marker::Model;
+
+// What a line says, by its first word. Where the line says nothing, it is not as asked.
+pub trait FromLine: Drop {
+    ghost named: { List ℕ → Reader Self };
+
+    // What the words behind this name say.
+    fn by_name(name: &[u8], words: &mut Words) -> Option<Self>
+        ensures { Reads (named name.now words.old) result words.new };
+}
 
 // What is left of a line: it begins at the blank behind the word that was read last.
 #[derive(Drop)]
@@ -78,4 +87,15 @@ impl<'a> Words<'a> {
     {
         self.rest.is_empty()
     }
+}
+
+// What a line says, where its last word ends it.
+#[tactic(auto, unfolding(crate::specs::Readers::line_of))]
+pub fn line<L: FromLine>(line: &[u8]) -> Option<L>
+    ensures { result ≡ line_of L.named line.now }
+{
+    let mut words = Words::new(line);
+    let name = words.first();
+    let read = L::by_name(name, &mut words)?;
+    words.is_over().then_some(read)
 }

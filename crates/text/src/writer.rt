@@ -1,7 +1,7 @@
 // Writing: a text is put into a sink, byte by byte.
 ghost use Rattle.std.specs.Prelude.{◌≡◌, ℕ};
 ghost use Rattle.std.specs.List.{fold};
-ghost use Rattle.text.specs.Digits.{signed_decimal, hex_text};
+ghost use Rattle.text.specs.Digits.{signed_decimal, spaced, spaced_or_dash, spaced_all, hex_text};
 ghost use Rattle.text.specs.Digits.{decimal as decimal_text};
 
 use crate::digits::hex_digit;
@@ -39,6 +39,36 @@ pub fn signed<S: Sink>(out: &mut S, n: i64)
         out.byte(b'-');
     }
     decimal(out, n.unsigned_abs());
+}
+
+// A number behind a blank.
+#[tactic(auto, unfolding(crate::specs::Digits::spaced))]
+pub fn spaced<S: Sink>(out: &mut S, n: u64)
+    ensures { out.new ≡ fold S.push out.old (spaced n) }
+{
+    out.byte(b' ');
+    decimal(out, n);
+}
+
+// A number behind a blank; `-` where there is none.
+#[tactic(auto, unfolding(crate::specs::Digits::spaced_or_dash))]
+pub fn spaced_or_dash<S: Sink>(out: &mut S, number: Option<u8>)
+    ensures { out.new ≡ fold S.push out.old (spaced_or_dash number) }
+{
+    match number {
+        None => text(out, b" -"),
+        Some(n) => spaced(out, u64::from(n)),
+    }
+}
+
+// Numbers, each behind a blank.
+#[tactic(auto, unfolding(crate::specs::Digits::spaced_all))]
+pub fn spaced_all<S: Sink>(out: &mut S, numbers: &[u64])
+    ensures { out.new ≡ fold S.push out.old (spaced_all numbers.now) }
+{
+    for n in numbers {
+        spaced(out, *n);
+    }
 }
 
 // Two hexadecimal digits a byte.

@@ -1,8 +1,8 @@
 -- Number by number; no more than the sixteen places.
 use Rattle.std.proofs.Common.{arith, refl}
 use Rattle.std.proofs.lemmas.Grind.{common_steps}
-use Rattle.fade_line.specs.Text.{spaced_all}
-use Rattle.fade_line.proofs.TextLaws.{spaced_more}
+use Rattle.text.specs.Digits.{spaced_all}
+use Rattle.text.proofs.DigitLaws.{spaced_more}
 use Rattle.fade_line.proofs.writer.notices.Goals as goal
 
 pub loop-number-init : goal.loop-number-init

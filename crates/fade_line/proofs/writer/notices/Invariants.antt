@@ -1,7 +1,7 @@
 -- The notices so far are written.
 use Rattle.std.proofs.Common.{◌≡◌, take}
 use Rattle.std.specs.List.{fold}
-use Rattle.fade_line.specs.Text.{spaced_all}
+use Rattle.text.specs.Digits.{spaced_all}
 use Rattle.fade_line.proofs.writer.notices.Given as goal
 
 abbrev pub invariant-loop-number : goal.invariant-loop-number

@@ -5,4 +5,4 @@ use Rattle.lamp_lines.proofs.answers.answer.Goals as goal
 
 pub returns : goal.returns
 unfolding answer_text
-returns g c = rw (c.ending.ensures, c.bar-2.ensures, c.reported.ensures, c.numbers.ensures, c.lamp_numbers.ensures, c.bar.ensures, c.status.ensures) (simp fold-append)
+returns g c = rw (c.ending.ensures, c.bar-2.ensures, c.reported.ensures, c.spaced_all.ensures, c.lamp_numbers.ensures, c.bar.ensures, c.status.ensures) (simp fold-append)

@@ -1,8 +1,8 @@
 -- A number more.
 use Rattle.std.proofs.Common.{arith}
 use Rattle.std.proofs.lemmas.Grind.{common_steps}
-use Rattle.lamp_lines.proofs.NumbersLaws.{numbers_more}
+use Rattle.text.proofs.DigitLaws.{spaced_more}
 use Rattle.lamp_lines.proofs.answers.notices.Goals as goal
 
 pub loop-notice-preserved : goal.loop-notice-preserved
-loop-notice-preserved g c = grind (arith, common_steps, numbers_more)
+loop-notice-preserved g c = grind (arith, common_steps, spaced_more)

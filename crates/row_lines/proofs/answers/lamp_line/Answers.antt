@@ -9,5 +9,5 @@ use Rattle.row_lines.proofs.answers.lamp_line.Goals as goal
 pub returns : goal.returns
 unfolding lamp_text
 returns g c =
-    rw (c.byte.ensures, c.ending.ensures, c.numbers.ensures, c.decimal.ensures, c.lamp_numbers-list.ensures, first-number (lamp_numbers c.args.lamp) (omega arith))
+    rw (c.byte.ensures, c.ending.ensures, c.spaced_all.ensures, c.decimal.ensures, c.lamp_numbers-list.ensures, first-number (lamp_numbers c.args.lamp) (omega arith))
     (simp fold-append)
