@@ -225,18 +225,18 @@ impl CommandNumbers {
     fn fits(self) -> bool
         ensures { result ≡ command_fits self }
     {
-        (self.mask <= 255)
-            & (self.overrides <= 255)
-            & (self.a <= 65535)
-            & (self.b <= 65535)
-            & (self.c <= 65535)
-            & (self.d <= 65535)
-            & (self.e <= 65535)
-            & match self.kind {
+        self.mask <= 255
+            && self.overrides <= 255
+            && self.a <= 65535
+            && self.b <= 65535
+            && self.c <= 65535
+            && self.d <= 65535
+            && self.e <= 65535
+            && match self.kind {
                 MOVE_TO_HUE | MOVE_TO_SATURATION | COLOR_LOOP_SET => self.a <= 255,
-                MOVE_HUE => (self.b <= 255) & (self.c <= 1),
+                MOVE_HUE => self.b <= 255 && self.c <= 1,
                 STEP_HUE | MOVE_SATURATION | STEP_SATURATION => self.b <= 255,
-                MOVE_TO_HUE_AND_SATURATION => { (self.a <= 255) & (self.b <= 255) & (self.d <= 1) }
+                MOVE_TO_HUE_AND_SATURATION => self.a <= 255 && self.b <= 255 && self.d <= 1,
                 _ => true,
             }
     }
@@ -247,7 +247,7 @@ impl CommandNumbers {
         ensures { result ≡ command_known self }
     {
         self.fits()
-            & match self.kind {
+            && match self.kind {
                 MOVE_TO_HUE | ENHANCED_MOVE_TO_HUE => enums::is_known::<DirectionEnum>(self.b),
                 MOVE_HUE | MOVE_SATURATION | ENHANCED_MOVE_HUE | MOVE_COLOR_TEMPERATURE => {
                     enums::is_known::<MoveModeEnum>(self.a)
@@ -261,7 +261,7 @@ impl CommandNumbers {
                 | STOP_MOVE_STEP => true,
                 COLOR_LOOP_SET => {
                     enums::is_known::<ColorLoopActionEnum>(self.b)
-                        & enums::is_known::<ColorLoopDirectionEnum>(self.c)
+                        && enums::is_known::<ColorLoopDirectionEnum>(self.c)
                 }
                 _ => false,
             }
@@ -274,11 +274,11 @@ pub(crate) fn call_known(w: &[u64]) -> bool
     ensures { result ≡ call_known w.now }
 {
     let kind = at(w, 0);
-    (w.len() == CALL_WORDS)
-        & (((kind == START) & TaskNumbers::from_words(w, 3).known())
-            | (kind == STEP)
-            | (kind == HALT)
-            | (CommandNumbers::from_words(w).known() & enums::is_known::<OnOff>(at(w, 2))))
+    w.len() == CALL_WORDS
+        && ((kind == START && TaskNumbers::from_words(w, 3).known())
+            || kind == STEP
+            || kind == HALT
+            || (CommandNumbers::from_words(w).known() && enums::is_known::<OnOff>(at(w, 2))))
 }
 
 // The call that the words mean; `call_known` says whether they are one.

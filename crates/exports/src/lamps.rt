@@ -84,17 +84,17 @@ pub fn lamp_of(w: &[u64]) -> Lamp
 fn lamp_fits(w: &[u64]) -> bool
     ensures { result ≡ lamp_fits w.now }
 {
-    (at(w, 0) <= 65535)
-        & (at(w, 1) <= 65535)
-        & (at(w, 3) <= 255)
-        & (at(w, 4) <= 65535)
-        & (at(w, 8) <= 65535)
-        & (at(w, 9) <= 255)
-        & (at(w, 10) <= 65535)
-        & (at(w, 13) <= 1)
-        & (at(w, 15) <= 65535)
-        & (at(w, 16) <= 65535)
-        & (at(w, 17) <= 65535)
+    at(w, 0) <= 65535
+        && at(w, 1) <= 65535
+        && at(w, 3) <= 255
+        && at(w, 4) <= 65535
+        && at(w, 8) <= 65535
+        && at(w, 9) <= 255
+        && at(w, 10) <= 65535
+        && at(w, 13) <= 1
+        && at(w, 15) <= 65535
+        && at(w, 16) <= 65535
+        && at(w, 17) <= 65535
 }
 
 // Whether the enums have their numbers, and each number is within its field.
@@ -103,10 +103,10 @@ pub(crate) fn lamp_known(w: &[u64]) -> bool
     ensures { result ≡ lamp_known w.now }
 {
     lamp_fits(w)
-        & enums::is_known::<ColorModeEnum>(at(w, 11))
-        & enums::is_known::<EnhancedColorModeEnum>(at(w, 12))
-        & enums::is_known::<ColorLoopDirectionEnum>(at(w, 14))
-        & record(w).known()
+        && enums::is_known::<ColorModeEnum>(at(w, 11))
+        && enums::is_known::<EnhancedColorModeEnum>(at(w, 12))
+        && enums::is_known::<ColorLoopDirectionEnum>(at(w, 14))
+        && record(w).known()
 }
 
 pub(crate) fn lamp_words(lamp: Lamp) -> [u64; 28]

@@ -160,16 +160,16 @@ impl TaskNumbers {
     {
         match self.kind {
             MOVE_TO => {
-                (self.b <= LARGEST)
-                    & (self.c <= 1)
-                    & (self.d <= 255)
-                    & (self.e <= 4294967295)
-                    & (self.f <= 1)
+                self.b <= LARGEST
+                    && self.c <= 1
+                    && self.d <= 255
+                    && self.e <= 4294967295
+                    && self.f <= 1
             }
-            HUE_MOVE => (self.b <= 4294967295) & (self.c <= 1),
+            HUE_MOVE => self.b <= 4294967295 && self.c <= 1,
             SATURATION_MOVE => self.b <= 4294967295,
-            MIREDS_TO => (self.a <= 65535) & (self.b <= 4294967295),
-            MIREDS_MOVE => (self.b <= LARGEST) & (self.c <= 65535) & (self.d <= 65535),
+            MIREDS_TO => self.a <= 65535 && self.b <= 4294967295,
+            MIREDS_MOVE => self.b <= LARGEST && self.c <= 65535 && self.d <= 65535,
             LOOP => self.b <= 65535,
             _ => true,
         }
@@ -181,7 +181,7 @@ impl TaskNumbers {
         ensures { result ≡ task_known self }
     {
         self.fits()
-            & match self.kind {
+            && match self.kind {
                 MOVE_TO | MIREDS_MOVE => self.a <= 2,
                 HUE_MOVE | SATURATION_MOVE => enums::is_known::<MoveModeEnum>(self.a),
                 LOOP => enums::is_known::<ColorLoopDirectionEnum>(self.a),
@@ -213,10 +213,10 @@ impl RecordNumbers {
         ensures { result ≡ record_known self }
     {
         let task = self.task;
-        (self.x <= 65535)
-            & (self.y <= 255)
-            & ((task.kind != SATURATION_MOVE) | (self.x <= 255))
-            & ((task.kind == 0) | ((task.kind <= 6) & task.known()))
+        self.x <= 65535
+            && self.y <= 255
+            && (task.kind != SATURATION_MOVE || self.x <= 255)
+            && (task.kind == 0 || (task.kind <= 6 && task.known()))
     }
 
     pub(crate) fn running(self) -> Running
