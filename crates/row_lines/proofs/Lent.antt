@@ -1,6 +1,5 @@
 -- The bytes of a slice that is lent: the turns of the loops that fill it, and compare it.
 use Prim.Native.Nat.{ℕ, zero, suc, ◌+◌, ◌-◌, ◌%◌, ◌≤◌, ◌<◌}
-use native.Mathlib.Nat.{add-zero}
 use native.Mathlib.Numerals.{add-one}
 use native.Mathlib.Omega.{arith}
 use mathlib.Core.Path.{◌≡◌, refl, sym, ap, ◌∙◌}
@@ -17,9 +16,6 @@ use Rattle.row_lines.specs.RowAnswers.{lent_bytes}
 -- what is lent_bytes from a place on
 abbrev pub rest : ℕ → ℕ → ℕ → List ℕ
 rest fill n i = lent_bytes (fill + i) (n - i)
-
-pub rest_all : (fill n : ℕ) → rest fill n 0 ≡ lent_bytes fill n
-rest_all fill n = let e : n - 0 ≡ n = omega arith in rw (e, add-zero)
 
 pub rest-next : (fill n i : ℕ) → i < n → rest fill n i ≡ (fill + i) % 256 ∷ rest fill n (i + 1)
 unfolding lent_bytes
