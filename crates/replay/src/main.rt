@@ -19,7 +19,8 @@ const LINE: usize = 4096;
 const NEARLY_FULL: usize = 61440;
 
 // What is kept from one block of input to the next: the lamp, the row and the task; the line that is coming, and how much
-// of it has come; the answers that are not yet written, and the place after them. Arrays with their lengths: there is no heap.
+// of it has come; the answers that are not yet written, and the place after them. Arrays with their lengths, since there
+// is no heap.
 #[derive(Drop)]
 struct Replay<W> {
     kept: Kept,
