@@ -24,22 +24,17 @@ pub trait Numbered: TryFrom<u8, Error = Reserved> + Copy {
 // Which way round the circle of hues a move-to goes.
 #[derive(Clone, Copy, Debug, PartialEq, Eq)]
 pub enum DirectionEnum {
-    Shortest,
-    Longest,
-    Up,
-    Down,
+    Shortest = 0,
+    Longest = 1,
+    Up = 2,
+    Down = 3,
 }
 
 impl From<DirectionEnum> for u8 {
     ghost from_gives = { λ x n. n ≡ direction_number x };
 
     fn from(case: DirectionEnum) -> u8 {
-        match case {
-            DirectionEnum::Shortest => 0,
-            DirectionEnum::Longest => 1,
-            DirectionEnum::Up => 2,
-            DirectionEnum::Down => 3,
-        }
+        case as u8
     }
 }
 
@@ -70,9 +65,9 @@ impl Numbered for DirectionEnum {
 // What a move at a rate does: stop, or go up or down.
 #[derive(Clone, Copy, Debug, PartialEq, Eq)]
 pub enum MoveModeEnum {
-    Stop,
-    Up,
-    Down,
+    Stop = 0,
+    Up = 1,
+    Down = 3,
 }
 
 impl MoveModeEnum {
@@ -92,11 +87,7 @@ impl From<MoveModeEnum> for u8 {
     ghost from_gives = { λ x n. n ≡ move_mode_number x };
 
     fn from(case: MoveModeEnum) -> u8 {
-        match case {
-            MoveModeEnum::Stop => 0,
-            MoveModeEnum::Up => 1,
-            MoveModeEnum::Down => 3,
-        }
+        case as u8
     }
 }
 
@@ -126,18 +117,15 @@ impl Numbered for MoveModeEnum {
 // Which way a step goes.
 #[derive(Clone, Copy, Debug, PartialEq, Eq)]
 pub enum StepModeEnum {
-    Up,
-    Down,
+    Up = 1,
+    Down = 3,
 }
 
 impl From<StepModeEnum> for u8 {
     ghost from_gives = { λ x n. n ≡ step_mode_number x };
 
     fn from(case: StepModeEnum) -> u8 {
-        match case {
-            StepModeEnum::Up => 1,
-            StepModeEnum::Down => 3,
-        }
+        case as u8
     }
 }
 
@@ -166,20 +154,16 @@ impl Numbered for StepModeEnum {
 // What the colour-loop command does with the loop.
 #[derive(Clone, Copy, Debug, PartialEq, Eq)]
 pub enum ColorLoopActionEnum {
-    Deactivate,
-    ActivateFromColorLoopStartEnhancedHue,
-    ActivateFromEnhancedCurrentHue,
+    Deactivate = 0,
+    ActivateFromColorLoopStartEnhancedHue = 1,
+    ActivateFromEnhancedCurrentHue = 2,
 }
 
 impl From<ColorLoopActionEnum> for u8 {
     ghost from_gives = { λ x n. n ≡ loop_action_number x };
 
     fn from(case: ColorLoopActionEnum) -> u8 {
-        match case {
-            ColorLoopActionEnum::Deactivate => 0,
-            ColorLoopActionEnum::ActivateFromColorLoopStartEnhancedHue => 1,
-            ColorLoopActionEnum::ActivateFromEnhancedCurrentHue => 2,
-        }
+        case as u8
     }
 }
 
@@ -209,18 +193,15 @@ impl Numbered for ColorLoopActionEnum {
 // Which way the colour loop turns.
 #[derive(Clone, Copy, Debug, PartialEq, Eq)]
 pub enum ColorLoopDirectionEnum {
-    Decrement,
-    Increment,
+    Decrement = 0,
+    Increment = 1,
 }
 
 impl From<ColorLoopDirectionEnum> for u8 {
     ghost from_gives = { λ x n. n ≡ loop_direction_number x };
 
     fn from(case: ColorLoopDirectionEnum) -> u8 {
-        match case {
-            ColorLoopDirectionEnum::Decrement => 0,
-            ColorLoopDirectionEnum::Increment => 1,
-        }
+        case as u8
     }
 }
 
@@ -249,20 +230,16 @@ impl Numbered for ColorLoopDirectionEnum {
 // Which attributes the colour is read from.
 #[derive(Clone, Copy, Debug, PartialEq, Eq)]
 pub enum ColorModeEnum {
-    CurrentHueAndCurrentSaturation,
-    CurrentXAndCurrentY,
-    ColorTemperatureMireds,
+    CurrentHueAndCurrentSaturation = 0,
+    CurrentXAndCurrentY = 1,
+    ColorTemperatureMireds = 2,
 }
 
 impl From<ColorModeEnum> for u8 {
     ghost from_gives = { λ x n. n ≡ color_mode_number x };
 
     fn from(case: ColorModeEnum) -> u8 {
-        match case {
-            ColorModeEnum::CurrentHueAndCurrentSaturation => 0,
-            ColorModeEnum::CurrentXAndCurrentY => 1,
-            ColorModeEnum::ColorTemperatureMireds => 2,
-        }
+        case as u8
     }
 }
 
@@ -292,22 +269,17 @@ impl Numbered for ColorModeEnum {
 // ColorModeEnum, and the enhanced hue.
 #[derive(Clone, Copy, Debug, PartialEq, Eq)]
 pub enum EnhancedColorModeEnum {
-    CurrentHueAndCurrentSaturation,
-    CurrentXAndCurrentY,
-    ColorTemperatureMireds,
-    EnhancedCurrentHueAndCurrentSaturation,
+    CurrentHueAndCurrentSaturation = 0,
+    CurrentXAndCurrentY = 1,
+    ColorTemperatureMireds = 2,
+    EnhancedCurrentHueAndCurrentSaturation = 3,
 }
 
 impl From<EnhancedColorModeEnum> for u8 {
     ghost from_gives = { λ x n. n ≡ enhanced_color_mode_number x };
 
     fn from(case: EnhancedColorModeEnum) -> u8 {
-        match case {
-            EnhancedColorModeEnum::CurrentHueAndCurrentSaturation => 0,
-            EnhancedColorModeEnum::CurrentXAndCurrentY => 1,
-            EnhancedColorModeEnum::ColorTemperatureMireds => 2,
-            EnhancedColorModeEnum::EnhancedCurrentHueAndCurrentSaturation => 3,
-        }
+        case as u8
     }
 }
 
@@ -338,20 +310,16 @@ impl Numbered for EnhancedColorModeEnum {
 // What the on/off cluster beside the lamp says: off, on, or that there is none.
 #[derive(Clone, Copy, Debug, PartialEq, Eq)]
 pub enum OnOff {
-    Off,
-    On,
-    NoHandler,
+    Off = 0,
+    On = 1,
+    NoHandler = 2,
 }
 
 impl From<OnOff> for u8 {
     ghost from_gives = { λ x n. n ≡ on_off_number x };
 
     fn from(case: OnOff) -> u8 {
-        match case {
-            OnOff::Off => 0,
-            OnOff::On => 1,
-            OnOff::NoHandler => 2,
-        }
+        case as u8
     }
 }
 

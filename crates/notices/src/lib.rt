@@ -10,51 +10,32 @@ ghost use Rattle.notices.specs.Numerals.{empty, consed, in_front, placed};
 // What a call reports: document 01's notices, and after them document 02's.
 #[derive(Clone, Copy, Debug, PartialEq, Eq)]
 pub enum Notice {
-    RemainingTime,
-    CurrentHue,
-    EnhancedCurrentHue,
-    CurrentSaturation,
-    ColorTemperatureMireds,
-    ColorMode,
-    EnhancedColorMode,
-    ColorLoopActive,
-    ColorLoopDirection,
-    ColorLoopTime,
-    ColorLoopStartEnhancedHue,
-    ColorLoopStoredEnhancedHue,
-    MarkedDirty,
-    ScenesNotified,
-    DeviceHueSaturation,
-    DeviceMireds,
-    TaskGiven,
+    RemainingTime = 1,
+    CurrentHue = 2,
+    EnhancedCurrentHue = 3,
+    CurrentSaturation = 4,
+    ColorTemperatureMireds = 5,
+    ColorMode = 6,
+    EnhancedColorMode = 7,
+    ColorLoopActive = 8,
+    ColorLoopDirection = 9,
+    ColorLoopTime = 10,
+    ColorLoopStartEnhancedHue = 11,
+    ColorLoopStoredEnhancedHue = 12,
+    MarkedDirty = 13,
+    ScenesNotified = 14,
+    DeviceHueSaturation = 15,
+    DeviceMireds = 16,
+    TaskGiven = 17,
     // Document 02's: the hue of the task given goes half the circle, and the other way round is as long.
-    HueTie,
+    HueTie = 18,
 }
 
 impl From<Notice> for u8 {
     ghost from_gives = { λ notice n. n ≡ notice_number notice };
 
     fn from(notice: Notice) -> u8 {
-        match notice {
-            Notice::RemainingTime => 1,
-            Notice::CurrentHue => 2,
-            Notice::EnhancedCurrentHue => 3,
-            Notice::CurrentSaturation => 4,
-            Notice::ColorTemperatureMireds => 5,
-            Notice::ColorMode => 6,
-            Notice::EnhancedColorMode => 7,
-            Notice::ColorLoopActive => 8,
-            Notice::ColorLoopDirection => 9,
-            Notice::ColorLoopTime => 10,
-            Notice::ColorLoopStartEnhancedHue => 11,
-            Notice::ColorLoopStoredEnhancedHue => 12,
-            Notice::MarkedDirty => 13,
-            Notice::ScenesNotified => 14,
-            Notice::DeviceHueSaturation => 15,
-            Notice::DeviceMireds => 16,
-            Notice::TaskGiven => 17,
-            Notice::HueTie => 18,
-        }
+        notice as u8
     }
 }
 

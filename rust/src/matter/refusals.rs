@@ -5,36 +5,26 @@
 #[derive(Clone, Copy, Debug, PartialEq, Eq)]
 pub enum Refusal {
     /// Hue or saturation above 254, mireds 0.
-    ConstraintError,
+    ConstraintError = 1,
     /// Rate or step 0.
-    InvalidCommand,
+    InvalidCommand = 2,
     /// A clock earlier than the lamp's, or above the limit.
-    Clock,
+    Clock = 4,
     /// The physical minimum above the maximum.
-    CrossedBounds,
-    InvalidTask,
-    StepWhileIdle,
+    CrossedBounds = 5,
+    InvalidTask = 6,
+    StepWhileIdle = 7,
     /// An invalid lamp, a row of more than 32, or a wrong running mask.
-    InvalidLamp,
+    InvalidLamp = 8,
     /// A slice shorter than sixteen bytes a lamp of the row.
-    ShortSlice,
+    ShortSlice = 9,
     /// A place that the row does not have.
-    NoPlace,
+    NoPlace = 10,
 }
 
 impl From<Refusal> for u8 {
     fn from(refusal: Refusal) -> u8 {
-        match refusal {
-            Refusal::ConstraintError => 1,
-            Refusal::InvalidCommand => 2,
-            Refusal::Clock => 4,
-            Refusal::CrossedBounds => 5,
-            Refusal::InvalidTask => 6,
-            Refusal::StepWhileIdle => 7,
-            Refusal::InvalidLamp => 8,
-            Refusal::ShortSlice => 9,
-            Refusal::NoPlace => 10,
-        }
+        refusal as u8
     }
 }
 
