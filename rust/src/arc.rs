@@ -2,6 +2,7 @@
 //! Whether a fade passes through a band of hues: asked on numbers, before the fade is sent. Document 01, "Arc".
 
 use crate::hue::LAST_CURRENT_HUE;
+use crate::hue::distance_up;
 use crate::hue::hue_path_delta;
 use crate::matter::DirectionEnum;
 
@@ -40,18 +41,11 @@ impl Band {
     }
 }
 
-/// How far up it is from one hue to another.
-fn up(from: u16, to: u16) -> u16 {
-    hue_path_delta(from, to, DirectionEnum::Up).delta as u16
-}
-
 /// Whether the hues from `from` up to `to` and those from `low` up to `high` have one in common: the first of one run
 /// is then in the other.
 fn runs_meet(from: u16, to: u16, low: u16, high: u16) -> bool {
-    if up(from, low) <= up(from, to) {
-        return true;
-    }
-    up(low, from) <= up(low, high)
+    distance_up(from, low) <= distance_up(from, to)
+        || distance_up(low, from) <= distance_up(low, high)
 }
 
 /// Whether some hue on the arc from `found` to `target`, in the direction asked for, is in the band. Hues are stored

@@ -32,7 +32,8 @@ pub struct Color {
     pub stamps: Stamps,
 }
 
-/// What a setter has to report of a change: whether the attribute is due, its notice, and whether it is an enhanced hue.
+/// What a setter has to report of a change: whether the attribute is due, its notice, and whether it is an enhanced hue. What is
+/// not due is a change too, which is to be stored and which the scenes are told.
 #[derive(Clone, Copy, Debug, PartialEq, Eq)]
 pub struct Change {
     pub due: bool,
@@ -45,6 +46,16 @@ pub struct Change {
 pub struct ColorSet {
     pub color: Color,
     pub change: Option<Change>,
+}
+
+impl ColorSet {
+    /// A colour that stays as it is.
+    pub fn unchanged(color: Color) -> Self {
+        ColorSet {
+            color,
+            change: None,
+        }
+    }
 }
 
 /// Whether an attribute is reported: at an end, or one second or more after it last was. A stamp after the clock is never
@@ -118,13 +129,12 @@ impl Color {
         }
     }
 
+    // The three setters are the source's: each sets a field of its own, with modes and notices of its own.
+
     /// Sets the hue, and reports it as plain or enhanced.
     pub fn set_hue(self, new_eh: u16, is_end: bool, is_enhanced: bool, clock: u64) -> ColorSet {
         if (self.hue == new_eh) & !is_end {
-            return ColorSet {
-                color: self,
-                change: None,
-            };
+            return ColorSet::unchanged(self);
         }
         let stamps = self.stamps;
         let due = is_due(is_end, stamps.hue, clock);
@@ -151,10 +161,7 @@ impl Color {
     /// Sets the saturation.
     pub fn set_saturation(self, new_sat: u8, is_end: bool, clock: u64) -> ColorSet {
         if (self.saturation == new_sat) & !is_end {
-            return ColorSet {
-                color: self,
-                change: None,
-            };
+            return ColorSet::unchanged(self);
         }
         let stamps = self.stamps;
         let due = is_due(is_end, stamps.saturation, clock);
@@ -181,10 +188,7 @@ impl Color {
     /// Sets the mireds.
     pub fn set_color_temperature(self, new_mireds: u16, is_end: bool, clock: u64) -> ColorSet {
         if (self.mireds == new_mireds) & !is_end {
-            return ColorSet {
-                color: self,
-                change: None,
-            };
+            return ColorSet::unchanged(self);
         }
         let stamps = self.stamps;
         let due = is_due(is_end, stamps.mireds, clock);

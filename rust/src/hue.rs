@@ -7,7 +7,7 @@
 use crate::matter::DirectionEnum;
 
 /// The distance up from one hue to another. The distance down is the distance up the other way round.
-fn distance_up(from: u16, to: u16) -> u16 {
+pub fn distance_up(from: u16, to: u16) -> u16 {
     to.wrapping_sub(from)
 }
 

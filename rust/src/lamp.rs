@@ -119,6 +119,11 @@ impl Lamp {
         if !self.is_valid() {
             return Err(Refusal::InvalidLamp);
         }
+        self.clock_cause(clock)
+    }
+
+    /// A clock earlier than the lamp's, or above the limit.
+    pub(in crate::lamp) fn clock_cause(self, clock: u64) -> Result<(), Refusal> {
         if (clock < self.clock) | (CLOCK_LIMIT < clock) {
             return Err(Refusal::Clock);
         }

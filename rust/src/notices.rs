@@ -45,6 +45,11 @@ impl Notices {
             len: 0,
         }
     }
+
+    /// The numbers of the notices, in their order.
+    pub fn used(&self) -> &[u8] {
+        &self.places[..self.len.min(16)]
+    }
 }
 
 /// A digit's weight in a word, and that of a word's last digit.
@@ -53,7 +58,7 @@ const DIGIT: u64 = 256;
 const LAST: u64 = 72057594037927936;
 
 /// A list while it is built, from its last notice to its first: a numeral of sixteen digits of a byte, the first notice the
-/// lowest, in two words.
+/// lowest, in two words, which are copied faster than an array (docs/SPEED.md).
 #[derive(Clone, Copy, Debug, PartialEq, Eq)]
 pub struct Numeral {
     pub low: u64,
@@ -70,7 +75,7 @@ impl Numeral {
         }
     }
 
-    /// A digit in front: the number of a notice. A digit is any byte, so this takes one, not a notice.
+    /// A digit in front: the number of a notice. It takes any byte, as it did before notices had a type.
     pub fn cons(self, number: u8) -> Self {
         Numeral {
             low: self.low % LAST * DIGIT + u64::from(number),
@@ -79,7 +84,7 @@ impl Numeral {
         }
     }
 
-    /// A digit in front where the test holds: any byte too.
+    /// A digit in front where the test holds; it takes any byte too.
     pub fn cons_if(self, test: bool, number: u8) -> Self {
         if test { self.cons(number) } else { self }
     }

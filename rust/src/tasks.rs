@@ -115,7 +115,7 @@ pub struct ColorLoopRun {
 }
 
 /// The loop's four numbers stand in the variant itself: they fill the bytes between the tag and a record's clock, so that no
-/// copy of a lamp carries a gap (docs/SPEED.md).
+/// copy of a lamp carries a gap (docs/SPEED.md). Idle is a case as document 01 has it, and no `None` around the others.
 #[derive(Clone, Copy, Debug, PartialEq, Eq)]
 pub enum Running {
     Idle,
@@ -130,6 +130,18 @@ pub enum Running {
         seconds: u16,
         start: u64,
     },
+}
+
+/// The colour loop's record as what runs.
+impl From<ColorLoopRun> for Running {
+    fn from(run: ColorLoopRun) -> Running {
+        Running::ColorLoop {
+            direction: run.task.direction,
+            hue: run.hue,
+            seconds: run.task.seconds,
+            start: run.start,
+        }
+    }
 }
 
 /// Whole tenths of a second, of which there are at most 65,535.

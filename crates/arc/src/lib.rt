@@ -2,10 +2,9 @@
 #![tactic(auto)]
 
 ghost use Rattle.std.specs.Prelude.{◌≡◌, ◌*◌};
-ghost use Rattle.hue.specs.Hue.{distance};
 ghost use Rattle.arc.specs.Arc.{meet, passes_through, first_stored, last_stored, current_hue_band};
 
-use hue::{LAST_CURRENT_HUE, hue_path_delta};
+use hue::{LAST_CURRENT_HUE, distance_up, hue_path_delta};
 use matter::DirectionEnum;
 
 // The hues from `low` up to `high`, past 65,535 to 0 where `high` is below `low`.
@@ -49,23 +48,14 @@ impl Band {
     }
 }
 
-// How far up it is from one hue to another.
-fn up(from: u16, to: u16) -> u16
-    ensures { result ≡ distance from to }
-{
-    hue_path_delta(from, to, DirectionEnum::Up).delta as u16
-}
-
 // Whether the hues from `from` up to `to` and those from `low` up to `high` have one in common: the first of one run
 // is then in the other.
 #[tactic(auto, unfolding(crate::specs::Arc::meet))]
 fn runs_meet(from: u16, to: u16, low: u16, high: u16) -> bool
     ensures { result ≡ meet from to low high }
 {
-    if up(from, low) <= up(from, to) {
-        return true;
-    }
-    up(low, from) <= up(low, high)
+    distance_up(from, low) <= distance_up(from, to)
+        || distance_up(low, from) <= distance_up(low, high)
 }
 
 // Whether some hue on the arc from `found` to `target`, in the direction asked for, is in the band. Hues are stored

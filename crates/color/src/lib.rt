@@ -3,7 +3,7 @@
 // Carried over from project-chip/rs-matter, commit 43f61585a4 (Apache-2.0, see NOTICE), and changed.
 #![tactic(auto)]
 
-ghost use Rattle.std.specs.Prelude.{◌≡◌, cond};
+ghost use Rattle.std.specs.Prelude.{◌≡◌, cond, None};
 ghost use Rattle.notices.specs.Numerals.{in_front};
 ghost use Rattle.color.specs.Setters.{due, change_reported, hue_mode, kept_hue_mode, set_hue, set_saturation, set_mireds};
 ghost use Rattle.color.specs.Valid.{modes_agree, color_valid};
@@ -32,7 +32,8 @@ pub struct Color {
     pub stamps: Stamps,
 }
 
-// What a setter has to report of a change: whether the attribute is due, its notice, and whether it is an enhanced hue.
+// What a setter has to report of a change: whether the attribute is due, its notice, and whether it is an enhanced hue. What is
+// not due is a change too, which is to be stored and which the scenes are told.
 #[derive(Clone, Copy, Debug, PartialEq, Eq)]
 pub struct Change {
     pub due: bool,
@@ -45,6 +46,18 @@ pub struct Change {
 pub struct ColorSet {
     pub color: Color,
     pub change: Option<Change>,
+}
+
+impl ColorSet {
+    // A colour that stays as it is.
+    pub fn unchanged(color: Color) -> Self
+        ensures { result ≡ record { color = color; change = None } }
+    {
+        ColorSet {
+            color,
+            change: None,
+        }
+    }
 }
 
 // Whether an attribute is reported: at an end, or one second or more after it last was. A stamp after the clock is never
@@ -136,16 +149,15 @@ impl Color {
         }
     }
 
+    // The three setters are the source's: each sets a field of its own, with modes and notices of its own.
+
     // Sets the hue, and reports it as plain or enhanced.
     #[tactic(auto, unfolding(crate::specs::Setters::hue_set))]
     pub fn set_hue(self, new_eh: u16, is_end: bool, is_enhanced: bool, clock: u64) -> ColorSet
         ensures { result ≡ set_hue self new_eh is_end is_enhanced clock }
     {
         if (self.hue == new_eh) & !is_end {
-            return ColorSet {
-                color: self,
-                change: None,
-            };
+            return ColorSet::unchanged(self);
         }
         let stamps = self.stamps;
         let due = is_due(is_end, stamps.hue, clock);
@@ -175,10 +187,7 @@ impl Color {
         ensures { result ≡ set_saturation self new_sat is_end clock }
     {
         if (self.saturation == new_sat) & !is_end {
-            return ColorSet {
-                color: self,
-                change: None,
-            };
+            return ColorSet::unchanged(self);
         }
         let stamps = self.stamps;
         let due = is_due(is_end, stamps.saturation, clock);
@@ -208,10 +217,7 @@ impl Color {
         ensures { result ≡ set_mireds self new_mireds is_end clock }
     {
         if (self.mireds == new_mireds) & !is_end {
-            return ColorSet {
-                color: self,
-                change: None,
-            };
+            return ColorSet::unchanged(self);
         }
         let stamps = self.stamps;
         let due = is_due(is_end, stamps.mireds, clock);

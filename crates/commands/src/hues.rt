@@ -1,4 +1,4 @@
-// The commands of the hue.
+// The commands of the hue. `cmd_`: the source's names and parameters.
 // Carried over from project-chip/rs-matter, commit 43f61585a4 (Apache-2.0, see NOTICE), and changed.
 ghost use Rattle.std.specs.Prelude.{◌≡◌, false, cond};
 ghost use Rattle.matter.specs.Requests.{request, options};

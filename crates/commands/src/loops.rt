@@ -1,4 +1,4 @@
-// The colour loop's command.
+// The colour loop's command. `cmd_`: the source's names and parameters.
 // Carried over from project-chip/rs-matter, commit 43f61585a4 (Apache-2.0, see NOTICE), and changed.
 ghost use Rattle.std.specs.Prelude.{◌≡◌, cond, []};
 ghost use Rattle.notices.specs.Numerals.{in_front};

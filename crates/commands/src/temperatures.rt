@@ -1,4 +1,4 @@
-// The commands of the colour temperature, with the caller's limits.
+// The commands of the colour temperature, with the caller's limits. `cmd_`: the source's names and parameters.
 // Carried over from project-chip/rs-matter, commit 43f61585a4 (Apache-2.0, see NOTICE), and changed.
 ghost use Rattle.std.specs.Prelude.{◌≡◌, pos, ◌+ℤ◌};
 ghost use Rattle.matter.specs.Requests.{request, options};
@@ -56,11 +56,11 @@ fn step_limits(bounds: Bounds, min: u16, max: u16) -> Bounds
 }
 
 // A move by so many mireds between two limits; the time is in tenths.
-fn between(lamp: Lamp, low: u16, high: u16, from: u16, delta: i64, tenths: u16) -> Outcome
-    ensures { result ≡ accepted_outcome (giving lamp (temperature_task (clamp low high (pos from +ℤ delta)) tenths)) }
+fn between(lamp: Lamp, limits: Bounds, from: u16, delta: i64, tenths: u16) -> Outcome
+    ensures { result ≡ accepted_outcome (giving lamp (temperature_task (clamp limits.min limits.max (pos from +ℤ delta)) tenths)) }
 {
     let task = ColorTemperatureMoveTo {
-        target: clamped_sum(low, high, from, delta),
+        target: clamped_sum(limits.min, limits.max, from, delta),
         ms: (tenths as u32) * 100,
     };
     given(lamp, Task::ColorTemperatureMoveTo(task))
@@ -69,7 +69,7 @@ fn between(lamp: Lamp, low: u16, high: u16, from: u16, delta: i64, tenths: u16) 
 pub(crate) fn to_mireds(lamp: Lamp, mireds: u16, tenths: u16) -> Outcome
     ensures { result ≡ accepted_outcome (giving lamp (temperature_task (clamp lamp.bounds.min lamp.bounds.max (pos mireds)) tenths)) }
 {
-    between(lamp, lamp.bounds.min, lamp.bounds.max, mireds, 0, tenths)
+    between(lamp, lamp.bounds, mireds, 0, tenths)
 }
 
 pub(crate) fn step_mireds(
@@ -82,12 +82,9 @@ pub(crate) fn step_mireds(
 ) -> Outcome
     ensures { result ≡ accepted_outcome (giving lamp (temperature_task (mireds_step lamp mode size min max) tenths)) }
 {
-    let bounds = lamp.bounds;
-    let limits = step_limits(bounds, min, max);
     between(
         lamp,
-        limits.min,
-        limits.max,
+        step_limits(lamp.bounds, min, max),
         lamp.color.mireds,
         step_delta(mode, size),
         tenths,

@@ -9,7 +9,7 @@ ghost use Rattle.hue.specs.Hue.{distance, chosen, tied, hue_path, moved_hue, cur
 use matter::DirectionEnum;
 
 // The distance up from one hue to another. The distance down is the distance up the other way round.
-fn distance_up(from: u16, to: u16) -> u16
+pub fn distance_up(from: u16, to: u16) -> u16
     ensures { result ≡ distance from to }
 {
     to.wrapping_sub(from)

@@ -259,7 +259,7 @@ stepped-valid l h = step_of l l.running h (valid-running l h)
 -- ---- what an accepted call says
 
 -- a choice of which the first side is a refusal, and which accepts: the second side is taken, and accepts
-no-first : (t : Bool) (refusal : Refusal) (v : Verdict) → cond t (Err refusal) v ≡ accepted → (t ≡ false) × (v ≡ accepted)
+pub no-first : (t : Bool) (refusal : Refusal) (v : Verdict) → cond t (Err refusal) v ≡ accepted → (t ≡ false) × (v ≡ accepted)
 no-first true refusal v e = absurd (refused-of (Err refusal) refl e)
 no-first false refusal v e = (refl, e)
 

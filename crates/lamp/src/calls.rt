@@ -7,14 +7,13 @@ ghost use Rattle.color.specs.Setters.{change_reported};
 ghost use Rattle.tasks.specs.Valid.{move_to_valid, rate_valid, task_valid, running_valid};
 ghost use Rattle.matter.specs.Bounds.{lower, upper};
 ghost use Rattle.lamp.specs.Calls.{no_hue_delta, no_saturation_delta, start_permille, hue_saturation_start, temperature_to_start, temperature_start, started, stepped, done, start_answer, step_answer, halt_answer};
-ghost use Rattle.tasks.specs.Runs.{loop_running};
 ghost use Rattle.lamp.specs.Answers.{at_clock};
 ghost use Rattle.lamp.specs.Passes.{found_with, reported_behind, pass_reported, left_effect};
 
 use crate::passes::{Found, Left, Passed, left_by};
 use crate::{Answer, Lamp};
 use color::cons_change;
-use matter::{Bounds, CLOCK_LIMIT, Refusal};
+use matter::{Bounds, Refusal};
 use notices::{Notice, Notices, Numeral};
 use progress::{clamped_sum, elapsed, permille};
 use remaining_time::RemainingTime;
@@ -41,18 +40,6 @@ fn start_permille(ms: u32, no_delta: bool) -> u16
     ensures { result ≡ start_permille ms no_delta }
 {
     if (ms == 0) | no_delta { 1000 } else { 0 }
-}
-
-// The colour loop's record as what runs.
-fn loop_running(run: ColorLoopRun) -> Running
-    ensures { result ≡ loop_running run }
-{
-    Running::ColorLoop {
-        direction: run.task.direction,
-        hue: run.hue,
-        seconds: run.task.seconds,
-        start: run.start,
-    }
 }
 
 impl Lamp {
@@ -172,7 +159,7 @@ impl Lamp {
                     hue: self.color.hue,
                     task: t,
                 };
-                left_by(false, found.color_loop_transition(run), loop_running(run))
+                left_by(false, found.color_loop_transition(run), Running::from(run))
             }
             Task::Stop => left_by(false, found.no_transition(), Running::Idle),
         }
@@ -223,7 +210,7 @@ impl Lamp {
                     hue,
                     task: ColorLoop { direction, seconds },
                 };
-                left_by(false, found.color_loop_transition(run), loop_running(run))
+                left_by(false, found.color_loop_transition(run), Running::from(run))
             }
         }
     }
@@ -279,8 +266,8 @@ impl Lamp {
         if !running.is_running() {
             return self.refused(Refusal::StepWhileIdle);
         }
-        if (clock < self.clock) | (CLOCK_LIMIT < clock) {
-            return self.refused(Refusal::Clock);
+        if let Err(cause) = self.clock_cause(clock) {
+            return self.refused(cause);
         }
         let left = self.pass(running, clock);
         let active = self.looping.active;

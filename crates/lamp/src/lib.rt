@@ -6,10 +6,11 @@
 mod calls;
 mod passes;
 
-ghost use Rattle.std.specs.Prelude.{◌≡◌};
+ghost use Rattle.std.specs.Prelude.{◌≡◌, cond};
+ghost use Rattle.matter.specs.Causes.{accepted, clock_refused};
 ghost use Rattle.lamp.specs.Valid.{lamp_valid};
 ghost use Rattle.lamp.specs.Making.{fresh_lamp, making, made_values, making_values};
-ghost use Rattle.lamp.specs.Answers.{at_clock, first_cause, unchanged, refusal};
+ghost use Rattle.lamp.specs.Answers.{at_clock, bad_clock, first_cause, unchanged, refusal};
 
 use color::Color;
 use matter::{Bounds, CLOCK_LIMIT, ColorLoopDirectionEnum, OnOff, Refusal, Request};
@@ -131,6 +132,13 @@ impl Lamp {
         if !self.is_valid() {
             return Err(Refusal::InvalidLamp);
         }
+        self.clock_cause(clock)
+    }
+
+    // A clock earlier than the lamp's, or above the limit.
+    pub(crate) fn clock_cause(self, clock: u64) -> Result<(), Refusal>
+        ensures { result ≡ cond (bad_clock self clock) clock_refused accepted }
+    {
         if (clock < self.clock) | (CLOCK_LIMIT < clock) {
             return Err(Refusal::Clock);
         }

@@ -5,7 +5,7 @@ ghost use Rattle.std.specs.Prelude.{◌≡◌, true, cond, ◌-◌, pos, ◌-ℤ
 ghost use Rattle.notices.specs.Numerals.{empty, in_front};
 ghost use Rattle.notices.proofs.Numerals.{Bytes};
 ghost use Rattle.tasks.specs.Valid.{delta_valid, move_to_valid, hue_move_valid, saturation_move_valid, rate_valid};
-ghost use Rattle.lamp.specs.Passes.{hue_moved, saturation_now, saturation_moved, mireds_now, saturation_done, mireds_done, unless, waiting, hue_saturation_moved, temperature_to_moved, timed, hue_passed, saturation_passed, temperature_passed, loop_passed, passed, nothing_passed, left_by, device_reported, reported_behind, pass_reported};
+ghost use Rattle.lamp.specs.Passes.{hue_moved, at_end, saturation_now, saturation_moved, mireds_now, saturation_done, mireds_done, unless, waiting, hue_saturation_moved, temperature_to_moved, timed, hue_passed, saturation_passed, temperature_passed, loop_passed, passed, nothing_passed, left_by, device_reported, reported_behind, pass_reported};
 
 use color::{Change, Color, ColorSet, cons_change};
 use hue::moved_hue;
@@ -112,21 +112,25 @@ fn move_hue(
     ensures { result ≡ hue_moved color delta start permille is_enhanced clock }
 {
     match delta {
-        None => ColorSet {
-            color,
-            change: None,
-        },
+        None => ColorSet::unchanged(color),
         Some(way) => {
             let now = moved_hue(start, part(way, permille));
-            color.set_hue(now, 1000 <= permille, is_enhanced, clock)
+            color.set_hue(now, at_end(permille), is_enhanced, clock)
         }
     }
+}
+
+// At permille 1000 the final number is used.
+fn at_end(permille: u16) -> bool
+    ensures { result ≡ at_end permille }
+{
+    1000 <= permille
 }
 
 fn saturation_now(start: u8, target: u8, permille: u16) -> u8
     ensures { result ≡ saturation_now start target permille }
 {
-    if 1000 <= permille {
+    if at_end(permille) {
         return target;
     }
     moved_saturation(
@@ -146,13 +150,10 @@ fn move_saturation(
     ensures { result ≡ saturation_moved color target start permille clock }
 {
     match target {
-        None => ColorSet {
-            color,
-            change: None,
-        },
+        None => ColorSet::unchanged(color),
         Some(saturation) => {
             let now = saturation_now(start, saturation, permille);
-            color.set_saturation(now, 1000 <= permille, clock)
+            color.set_saturation(now, at_end(permille), clock)
         }
     }
 }
@@ -160,7 +161,7 @@ fn move_saturation(
 fn mireds_now(bounds: Bounds, start: u16, target: u16, permille: u16) -> u16
     ensures { result ≡ mireds_now bounds start target permille }
 {
-    if 1000 <= permille {
+    if at_end(permille) {
         return target;
     }
     clamped_sum(
@@ -254,7 +255,7 @@ impl Found {
         let now = mireds_now(self.bounds, run.mireds, run.task.target, permille);
         let set = self
             .color
-            .set_color_temperature(now, 1000 <= permille, self.clock);
+            .set_color_temperature(now, at_end(permille), self.clock);
         Moved {
             color: set.color,
             first: set.change,
@@ -268,7 +269,7 @@ impl Found {
     pub(crate) fn timed(self, moved: Moved, start: u64, ms: u32, permille: u16) -> Passed
         ensures { result ≡ timed self moved start ms permille }
     {
-        let ends = 1000 <= permille;
+        let ends = at_end(permille);
         let passed = elapsed(start, self.clock);
         let w = self
             .remaining
@@ -357,10 +358,6 @@ impl Found {
     pub(crate) fn no_transition(self) -> Passed
         ensures { result ≡ nothing_passed self }
     {
-        let set = ColorSet {
-            color: self.color,
-            change: None,
-        };
-        self.passed(set, None, 0, true)
+        self.passed(ColorSet::unchanged(self.color), None, 0, true)
     }
 }

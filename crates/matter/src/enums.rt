@@ -12,7 +12,8 @@ pub struct Reserved {
     pub number: u8,
 }
 
-// An enum of the cluster: its cases are found by their numbers.
+// An enum of the cluster: its cases are found by their numbers. Each enum has its three impls, since none can be for a list of
+// types.
 pub trait Numbered: TryFrom<u8, Error = Reserved> + Copy {
     ghost number: { Self → ℕ };
 
@@ -266,7 +267,7 @@ impl Numbered for ColorModeEnum {
     ghost finds = { λ _ _ e. e };
 }
 
-// ColorModeEnum, and the enhanced hue.
+// ColorModeEnum, and the enhanced hue. Two types, as the cluster has two attributes.
 #[derive(Clone, Copy, Debug, PartialEq, Eq)]
 pub enum EnhancedColorModeEnum {
     CurrentHueAndCurrentSaturation = 0,
@@ -307,7 +308,7 @@ impl Numbered for EnhancedColorModeEnum {
     ghost finds = { λ _ _ e. e };
 }
 
-// What the on/off cluster beside the lamp says: off, on, or that there is none.
+// What the on/off cluster beside the lamp says: off, on, or that there is none, which has a number too.
 #[derive(Clone, Copy, Debug, PartialEq, Eq)]
 pub enum OnOff {
     Off = 0,
@@ -346,7 +347,8 @@ impl Numbered for OnOff {
     ghost finds = { λ _ _ e. e };
 }
 
-// The ColorMode that matches an EnhancedColorMode.
+// The ColorMode that matches an EnhancedColorMode. A rule of the cluster with a name, not the same value in another type, so no
+// `From`.
 pub fn color_mode_of(mode: EnhancedColorModeEnum) -> ColorModeEnum
     ensures { result ≡ color_mode_of mode }
 {

@@ -2,7 +2,7 @@
 // with a length beside it: document 01's list is fixed memory.
 #![tactic(auto)]
 
-ghost use Rattle.std.specs.Prelude.{◌≡◌, []};
+ghost use Rattle.std.specs.Prelude.{◌≡◌, [], take};
 ghost use Rattle.notices.specs.Names.{notice_number};
 ghost use Rattle.notices.specs.Notices.{only, noted};
 ghost use Rattle.notices.specs.Numerals.{empty, consed, in_front, placed};
@@ -55,6 +55,13 @@ impl Notices {
             len: 0,
         }
     }
+
+    // The numbers of the notices, in their order.
+    pub fn used(&self) -> &[u8]
+        ensures { result.now ≡ take self.now.len self.now.places }
+    {
+        &self.places[..self.len.min(16)]
+    }
 }
 
 // A digit's weight in a word, and that of a word's last digit.
@@ -63,7 +70,7 @@ const DIGIT: u64 = 256;
 const LAST: u64 = 72057594037927936;
 
 // A list while it is built, from its last notice to its first: a numeral of sixteen digits of a byte, the first notice the
-// lowest, in two words.
+// lowest, in two words, which are copied faster than an array (docs/SPEED.md).
 #[derive(Clone, Copy, Debug, PartialEq, Eq)]
 pub struct Numeral {
     pub low: u64,
@@ -82,7 +89,7 @@ impl Numeral {
         }
     }
 
-    // A digit in front: the number of a notice. A digit is any byte, so this takes one, not a notice.
+    // A digit in front: the number of a notice. It takes any byte, as it did before notices had a type.
     #[tactic(auto, unfolding(crate::specs::Numerals::consed))]
     pub fn cons(self, number: u8) -> Self
         ensures { result ≡ consed self number }
@@ -94,7 +101,7 @@ impl Numeral {
         }
     }
 
-    // A digit in front where the test holds: any byte too.
+    // A digit in front where the test holds; it takes any byte too.
     #[tactic(auto, unfolding(crate::specs::Numerals::in_front))]
     pub fn cons_if(self, test: bool, number: u8) -> Self
         ensures { result ≡ in_front (only test number) self }

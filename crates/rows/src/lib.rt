@@ -34,7 +34,8 @@ pub struct RowStepped {
     pub wait: u64,
 }
 
-// What a call at a place gives: its lamp's answer, with the row in place of the lamp.
+// What a call at a place gives: its lamp's answer, with the row in place of the lamp. No `Answer` for either, whose row would be
+// called a lamp.
 #[derive(Clone, Copy, Debug, PartialEq, Eq)]
 pub struct RowAnswer {
     pub verdict: Result<(), Refusal>,
@@ -117,7 +118,8 @@ fn least(a: u64, b: u64) -> u64
     a.min(b)
 }
 
-// Of two causes the one that is checked first: 8 before 4, and either before none.
+// Of two causes the one that is checked first: 8 before 4, and either before none. By their numbers, since the order of the cases
+// says nothing of it.
 #[tactic(auto, unfolding(crate::specs::Rows::graver))]
 fn first_of(a: Result<(), Refusal>, b: Result<(), Refusal>) -> Result<(), Refusal>
     ensures { result ≡ graver a b }
@@ -135,7 +137,7 @@ fn limit_cause(clock: u64) -> Result<(), Refusal>
     Ok(())
 }
 
-// The bytes of one slice at a place of another.
+// The bytes of one slice at a place of another. By `copy_from_slice`, whose clause is said here once in terms of places.
 fn copy(from: &[u8], out: &mut [u8], at: usize)
     requires { at + length from.now ≤ length out.old }
     ensures front { take (at + length from.now) out.new ≡ take at out.old ++ from.now }

@@ -5,7 +5,7 @@
 
 ghost use Rattle.std.specs.Prelude.{◌≡◌};
 ghost use Rattle.tasks.specs.Valid.{time_valid, delta_valid, saturation_valid, moves, within_bounds, rate_valid, move_to_valid, move_valid, hue_move_valid, saturation_move_valid, task_valid, running_valid};
-ghost use Rattle.tasks.specs.Runs.{runs};
+ghost use Rattle.tasks.specs.Runs.{runs, loop_running};
 
 use matter::{Bounds, ColorLoopDirectionEnum, MoveModeEnum};
 
@@ -116,7 +116,7 @@ pub struct ColorLoopRun {
 }
 
 // The loop's four numbers stand in the variant itself: they fill the bytes between the tag and a record's clock, so that no
-// copy of a lamp carries a gap (docs/SPEED.md).
+// copy of a lamp carries a gap (docs/SPEED.md). Idle is a case as document 01 has it, and no `None` around the others.
 #[derive(Clone, Copy, Debug, PartialEq, Eq)]
 pub enum Running {
     Idle,
@@ -131,6 +131,20 @@ pub enum Running {
         seconds: u16,
         start: u64,
     },
+}
+
+// The colour loop's record as what runs.
+impl From<ColorLoopRun> for Running {
+    ghost from_gives = { λ run running. running ≡ loop_running run };
+
+    fn from(run: ColorLoopRun) -> Running {
+        Running::ColorLoop {
+            direction: run.task.direction,
+            hue: run.hue,
+            seconds: run.task.seconds,
+            start: run.start,
+        }
+    }
 }
 
 // Whole tenths of a second, of which there are at most 65,535.

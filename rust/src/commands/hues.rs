@@ -1,5 +1,5 @@
 // Made by rust/make from crates/commands/src/hues.rt: not to be edited.
-//! The commands of the hue.
+//! The commands of the hue. `cmd_`: the source's names and parameters.
 //!
 //! Carried over from project-chip/rs-matter, commit 43f61585a4 (Apache-2.0, see NOTICE), and changed.
 

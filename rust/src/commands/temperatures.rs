@@ -1,5 +1,5 @@
 // Made by rust/make from crates/commands/src/temperatures.rt: not to be edited.
-//! The commands of the colour temperature, with the caller's limits.
+//! The commands of the colour temperature, with the caller's limits. `cmd_`: the source's names and parameters.
 //!
 //! Carried over from project-chip/rs-matter, commit 43f61585a4 (Apache-2.0, see NOTICE), and changed.
 
@@ -50,16 +50,16 @@ fn step_limits(bounds: Bounds, min: u16, max: u16) -> Bounds {
 }
 
 /// A move by so many mireds between two limits; the time is in tenths.
-fn between(lamp: Lamp, low: u16, high: u16, from: u16, delta: i64, tenths: u16) -> Outcome {
+fn between(lamp: Lamp, limits: Bounds, from: u16, delta: i64, tenths: u16) -> Outcome {
     let task = ColorTemperatureMoveTo {
-        target: clamped_sum(low, high, from, delta),
+        target: clamped_sum(limits.min, limits.max, from, delta),
         ms: (tenths as u32) * 100,
     };
     given(lamp, Task::ColorTemperatureMoveTo(task))
 }
 
 pub(in crate::commands) fn to_mireds(lamp: Lamp, mireds: u16, tenths: u16) -> Outcome {
-    between(lamp, lamp.bounds.min, lamp.bounds.max, mireds, 0, tenths)
+    between(lamp, lamp.bounds, mireds, 0, tenths)
 }
 
 pub(in crate::commands) fn step_mireds(
@@ -70,12 +70,9 @@ pub(in crate::commands) fn step_mireds(
     min: u16,
     max: u16,
 ) -> Outcome {
-    let bounds = lamp.bounds;
-    let limits = step_limits(bounds, min, max);
     between(
         lamp,
-        limits.min,
-        limits.max,
+        step_limits(lamp.bounds, min, max),
         lamp.color.mireds,
         step_delta(mode, size),
         tenths,

@@ -8,7 +8,6 @@ use crate::lamp::passes::left_by;
 use crate::lamp::Answer;
 use crate::lamp::Lamp;
 use crate::color::cons_change;
-use crate::matter::CLOCK_LIMIT;
 use crate::matter::Refusal;
 use crate::notices::Notice;
 use crate::notices::Notices;
@@ -41,16 +40,6 @@ fn no_saturation_delta(target: Option<u8>, start: u8) -> bool {
 /// Permille at a start: the end at once where there is no time or no way.
 fn start_permille(ms: u32, no_delta: bool) -> u16 {
     if (ms == 0) | no_delta { 1000 } else { 0 }
-}
-
-/// The colour loop's record as what runs.
-fn loop_running(run: ColorLoopRun) -> Running {
-    Running::ColorLoop {
-        direction: run.task.direction,
-        hue: run.hue,
-        seconds: run.task.seconds,
-        start: run.start,
-    }
 }
 
 impl Lamp {
@@ -153,7 +142,7 @@ impl Lamp {
                     hue: self.color.hue,
                     task: t,
                 };
-                left_by(false, found.color_loop_transition(run), loop_running(run))
+                left_by(false, found.color_loop_transition(run), Running::from(run))
             }
             Task::Stop => left_by(false, found.no_transition(), Running::Idle),
         }
@@ -200,7 +189,7 @@ impl Lamp {
                     hue,
                     task: ColorLoop { direction, seconds },
                 };
-                left_by(false, found.color_loop_transition(run), loop_running(run))
+                left_by(false, found.color_loop_transition(run), Running::from(run))
             }
         }
     }
@@ -246,8 +235,8 @@ impl Lamp {
         if !running.is_running() {
             return self.refused(Refusal::StepWhileIdle);
         }
-        if (clock < self.clock) | (CLOCK_LIMIT < clock) {
-            return self.refused(Refusal::Clock);
+        if let Err(cause) = self.clock_cause(clock) {
+            return self.refused(cause);
         }
         let left = self.pass(running, clock);
         let active = self.looping.active;

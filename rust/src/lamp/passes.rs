@@ -110,19 +110,21 @@ fn move_hue(
     clock: u64,
 ) -> ColorSet {
     match delta {
-        None => ColorSet {
-            color,
-            change: None,
-        },
+        None => ColorSet::unchanged(color),
         Some(way) => {
             let now = moved_hue(start, part(way, permille));
-            color.set_hue(now, 1000 <= permille, is_enhanced, clock)
+            color.set_hue(now, at_end(permille), is_enhanced, clock)
         }
     }
 }
 
+/// At permille 1000 the final number is used.
+fn at_end(permille: u16) -> bool {
+    1000 <= permille
+}
+
 fn saturation_now(start: u8, target: u8, permille: u16) -> u8 {
-    if 1000 <= permille {
+    if at_end(permille) {
         return target;
     }
     moved_saturation(
@@ -140,19 +142,16 @@ fn move_saturation(
     clock: u64,
 ) -> ColorSet {
     match target {
-        None => ColorSet {
-            color,
-            change: None,
-        },
+        None => ColorSet::unchanged(color),
         Some(saturation) => {
             let now = saturation_now(start, saturation, permille);
-            color.set_saturation(now, 1000 <= permille, clock)
+            color.set_saturation(now, at_end(permille), clock)
         }
     }
 }
 
 fn mireds_now(bounds: Bounds, start: u16, target: u16, permille: u16) -> u16 {
-    if 1000 <= permille {
+    if at_end(permille) {
         return target;
     }
     clamped_sum(
@@ -230,7 +229,7 @@ impl Found {
         let now = mireds_now(self.bounds, run.mireds, run.task.target, permille);
         let set = self
             .color
-            .set_color_temperature(now, 1000 <= permille, self.clock);
+            .set_color_temperature(now, at_end(permille), self.clock);
         Moved {
             color: set.color,
             first: set.change,
@@ -241,7 +240,7 @@ impl Found {
 
     /// A move-to's pass: after what moves, the remaining time.
     pub(in crate::lamp) fn timed(self, moved: Moved, start: u64, ms: u32, permille: u16) -> Passed {
-        let ends = 1000 <= permille;
+        let ends = at_end(permille);
         let passed = elapsed(start, self.clock);
         let w = self
             .remaining
@@ -314,10 +313,6 @@ impl Found {
 
     /// Where nothing runs, nothing changes, and no device is written.
     pub(in crate::lamp) fn no_transition(self) -> Passed {
-        let set = ColorSet {
-            color: self.color,
-            change: None,
-        };
-        self.passed(set, None, 0, true)
+        self.passed(ColorSet::unchanged(self.color), None, 0, true)
     }
 }

@@ -10,7 +10,8 @@ pub struct Reserved {
     pub number: u8,
 }
 
-/// An enum of the cluster: its cases are found by their numbers.
+/// An enum of the cluster: its cases are found by their numbers. Each enum has its three impls, since none can be for a list of
+/// types.
 pub trait Numbered: TryFrom<u8, Error = Reserved> + Copy {}
 
 /// Which way round the circle of hues a move-to goes.
@@ -196,7 +197,7 @@ impl TryFrom<u8> for ColorModeEnum {
 
 impl Numbered for ColorModeEnum {}
 
-/// ColorModeEnum, and the enhanced hue.
+/// ColorModeEnum, and the enhanced hue. Two types, as the cluster has two attributes.
 #[derive(Clone, Copy, Debug, PartialEq, Eq)]
 pub enum EnhancedColorModeEnum {
     CurrentHueAndCurrentSaturation = 0,
@@ -227,7 +228,7 @@ impl TryFrom<u8> for EnhancedColorModeEnum {
 
 impl Numbered for EnhancedColorModeEnum {}
 
-/// What the on/off cluster beside the lamp says: off, on, or that there is none.
+/// What the on/off cluster beside the lamp says: off, on, or that there is none, which has a number too.
 #[derive(Clone, Copy, Debug, PartialEq, Eq)]
 pub enum OnOff {
     Off = 0,
@@ -256,7 +257,8 @@ impl TryFrom<u8> for OnOff {
 
 impl Numbered for OnOff {}
 
-/// The ColorMode that matches an EnhancedColorMode.
+/// The ColorMode that matches an EnhancedColorMode. A rule of the cluster with a name, not the same value in another type, so no
+/// `From`.
 pub fn color_mode_of(mode: EnhancedColorModeEnum) -> ColorModeEnum {
     match mode {
         EnhancedColorModeEnum::CurrentHueAndCurrentSaturation => {

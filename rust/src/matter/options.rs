@@ -6,7 +6,7 @@
 use crate::matter::enums::EnhancedColorModeEnum;
 use crate::matter::enums::OnOff;
 
-/// The bits of the cluster's bitmaps: OptionsBitmap, UpdateFlagsBitmap, Feature.
+/// The bits of the cluster's bitmaps: OptionsBitmap, UpdateFlagsBitmap, Feature. Numbers, since a command and a lamp carry any.
 pub const EXECUTE_IF_OFF: u32 = 1;
 
 pub const UPDATE_ACTION: u32 = 1;
@@ -36,7 +36,7 @@ pub fn contains(bits: u32, flag: u32) -> bool {
 }
 
 /// Whether a command may execute: without an on/off cluster, or on, always. Off: ExecuteIfOff of the override where the mask has it,
-/// else of the lamp's own options.
+/// else of the lamp's own options. The name and the parameters are the source's.
 pub fn should_continue(on_off: OnOff, options: u8, options_mask: u8, options_override: u8) -> bool {
     match on_off {
         OnOff::NoHandler | OnOff::On => true,

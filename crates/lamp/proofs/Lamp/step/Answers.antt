@@ -1,8 +1,8 @@
 -- What runs stays valid as the clock goes on.
-use Rattle.std.proofs.Common.{ltb-false}
+use Rattle.std.proofs.Common.{◌∙◌, sym, ltb-false}
 use Rattle.matter.proofs.Laws.{each, or_left}
 use Rattle.lamp.specs.Valid.{lamp_valid}
-use Rattle.lamp.proofs.Kept.{running-later}
+use Rattle.lamp.proofs.Kept.{running-later, no-first}
 use Rattle.lamp.proofs.Lamp.step.Goals as goal
 
 pub pass-left-requires : goal.pass-left-requires
@@ -10,4 +10,5 @@ unfolding lamp_valid
 pass-left-requires c =
     let self = c.args.self in
     let valid = rw c.is_valid.ensures at c.if-not-is_valid.false in
-    running-later self.running self.bounds self.clock c.args.clock (each _ valid).1.1.0 (ltb-false _ _ (or_left _ _ c.if-clock-self.false))
+    let good = (no-first _ _ _ (sym c.clock_cause.ensures ∙ c.in_default.is)).0 in
+    running-later self.running self.bounds self.clock c.args.clock (each _ valid).1.1.0 (ltb-false _ _ (or_left _ _ good))

@@ -10,4 +10,4 @@ pub returns-in-Some : goal.returns-in-Some
 returns-in-Some c =
     let read : to_z w64 (of_z w64 c.in-Some.way) ≡ c.in-Some.way = search rules in
     let same : limited (to_z w64 (of_z w64 c.in-Some.way)) ≡ c.in-Some.way = ap limited read ∙ small_same _ (rw c.in-Some.is at c.requires) in
-    rw (c.set_hue.ensures, c.moved_hue-now.ensures, to_z-of_z {w = w64} (sfits_of c.part.type_inv), c.part.ensures, same, c.in-Some.is)
+    rw (c.set_hue.ensures, c.at_end.ensures, c.moved_hue-now.ensures, to_z-of_z {w = w64} (sfits_of c.part.type_inv), c.part.ensures, same, c.in-Some.is)
