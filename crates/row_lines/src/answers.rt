@@ -189,16 +189,14 @@ fn fill(bytes: &mut [u8], from: u8)
     }
 }
 
-// Whether every byte is as it was lent: byte by byte, since no second slice is there to compare with.
+// Whether every byte is as it was lent. Each by its place, since no second slice is there for `==`.
 fn is_filled(bytes: &[u8], from: u8) -> bool
     ensures { result ≡ bytes_eq bytes.now (lent_bytes from (length bytes.now)) }
 {
-    for (i, b) in bytes.iter().enumerate() {
-        if *b != byte_at(from, i) {
-            return false;
-        }
-    }
-    true
+    bytes
+        .iter()
+        .enumerate()
+        .all(|(i, b)| *b == byte_at(from, i))
 }
 
 // The bytes of a slice; `-` where there is none.
