@@ -72,6 +72,7 @@ fn refusal<S: Sink>(out: &mut S, number: u8)
     out.byte(b'\n');
 }
 
+// The test for room stands in each of the three functions below, since each writes another text behind it.
 pub fn write_line(out: &mut [u8], at: usize, line: Line) -> usize
     ensures value { result ≡ at + length (fitting out.old at (line_text line)) }
     ensures out_after { out.new ≡ pasted out.old at (fitting out.old at (line_text line)) }

@@ -14,7 +14,8 @@ use lamp::{Answer, Lamp};
 use matter::{Bounds, Command, CommandOptions, OnOff, Refusal, Request};
 use tasks::Task;
 
-// A start, and a step, that is to come, with how many more steps there may be.
+// A start, and a step, that is to come, with how many more steps there may be. The clock and that number are two fields, and
+// two parameters below, since the definitions of `specs/` take them one by one.
 #[derive(Clone, Copy)]
 pub struct Starting {
     pub lamp: Lamp,

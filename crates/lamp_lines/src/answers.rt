@@ -1,4 +1,5 @@
-// Writing answers, into any sink.
+// Writing answers, into any sink. Not by `Display`: the same bytes go to a buffer and into the sum of a row, and writing
+// cannot fail.
 ghost use Rattle.std.specs.Prelude.{◌≡◌, ◌++◌};
 ghost use Rattle.std.specs.List.{fold};
 ghost use Rattle.text.specs.Ascii.{ascii};
@@ -34,7 +35,7 @@ fn named<S: Sink>(out: &mut S, name: &[u8], list: &[u64])
     spaced_all(out, list);
 }
 
-// A lamp's fields, in the protocol's order.
+// A lamp's fields, in the protocol's order. C's words of a lamp are another layout, so no conversion serves both.
 pub fn lamp_numbers(lamp: Lamp) -> [u64; 18]
     ensures { result ≡ lamp_numbers lamp }
 {
@@ -83,6 +84,7 @@ fn notices<S: Sink>(out: &mut S, list: Notices)
     }
 }
 
+// Behind a blank, or `-`, as `spaced_or_dash` writes a byte: a delta has a sign.
 fn delta<S: Sink>(out: &mut S, delta: Option<i64>)
     ensures { out.new ≡ fold S.push out.old (delta_text delta) }
 {
@@ -131,6 +133,7 @@ fn task<S: Sink>(out: &mut S, task: Task)
     }
 }
 
+// Behind a blank, or `-`, as `spaced_or_dash` writes a byte: a task has a name and numbers.
 fn given<S: Sink>(out: &mut S, given: Option<Task>)
     ensures { out.new ≡ fold S.push out.old (given_text given) }
 {

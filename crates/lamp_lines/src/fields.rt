@@ -10,6 +10,7 @@ use remaining_time::RemainingTime;
 use tasks::Running;
 use text::words::Words;
 
+// The readers below read alike: each fills a struct of its own, in the order of the words.
 #[tactic(auto, unfolding(crate::specs::Fields::bounds_at))]
 pub fn bounds(words: &mut Words) -> Option<Bounds>
     ensures { Reads (bounds_at words.old) result words.new }

@@ -20,6 +20,7 @@ fn dashed<T: FromWord>(words: &mut Words) -> Option<Option<T>>
     }
 }
 
+// The readers below read alike: each fills the case of its own task, in the order of the words.
 #[tactic(auto, unfolding(crate::specs::Moves::move_to_at, crate::specs::Moves::delta_at, crate::specs::Moves::target_at))]
 fn move_to(words: &mut Words) -> Option<Task>
     ensures { Reads (move_to_at words.old) result words.new }

@@ -1,16 +1,14 @@
--- The bytes of a slice that is lent: the turns of the loops that fill it, and compare it.
+-- The bytes of a slice that is lent: the turns of the loop that fills it, and the comparison.
 use Prim.Native.Nat.{ℕ, zero, suc, ◌+◌, ◌-◌, ◌%◌, ◌≤◌, ◌<◌}
 use native.Mathlib.Numerals.{add-one}
 use native.Mathlib.Omega.{arith}
 use mathlib.Core.Path.{◌≡◌, refl, sym, ap, ◌∙◌}
-use mathlib.Core.Bool.{Bool, true, false, ◌&&◌}
 use mathlib.Core.List.{List, [], ◌∷◌, ◌++◌, append_assoc, append-nil}
-use borrow.Author.Tests.{eq-eqb, ne_eqb}
 use lib.Dec.{eqb}
-use lib.ListN.{length, take, drop, set, get_or, drop_of_length-le}
+use lib.ListN.{length, take, set}
 use lib.Seq.{take_all, take-suc-set}
 use Rattle.std.specs.Str.{bytes_eq}
-use Rattle.std.proofs.lemmas.List.{drop_more}
+use Rattle.std.specs.List.{list_all, enumerate_from}
 use Rattle.row_lines.specs.RowAnswers.{lent_bytes}
 
 -- what is lent_bytes from a place on
@@ -47,17 +45,10 @@ lent-all bytes fill n i h l e =
 
 -- ---- comparing
 
-module _ (bytes : List ℕ) (fill i : ℕ) (h : i < length bytes) where
-  same_next : bytes_eq (drop i bytes) (rest fill (length bytes) i)
-      ≡ (eqb (get_or bytes i 0) ((fill + i) % 256) && bytes_eq (drop (i + 1) bytes) (rest fill (length bytes) (i + 1)))
-  same_next = rw (drop_more bytes i 0 h, rest-next fill (length bytes) i h)
-
-  pub same_more : {whole : Bool} → get_or bytes i 0 ≡ (fill + i) % 256 → bytes_eq (drop i bytes) (rest fill (length bytes) i) ≡ whole
-      → bytes_eq (drop (i + 1) bytes) (rest fill (length bytes) (i + 1)) ≡ whole
-  same_more e s = (rw (same_next, eq-eqb _ _ e) at s)
-
-  pub same_not : {whole : Bool} → (get_or bytes i 0 ≡ (fill + i) % 256 → ⊥) → bytes_eq (drop i bytes) (rest fill (length bytes) i) ≡ whole → false ≡ whole
-  same_not e s = (rw (same_next, ne_eqb _ _ e) at s)
-
-pub same-all : (bytes : List ℕ) (fill i : ℕ) {whole : Bool} → length bytes ≤ i → bytes_eq (drop i bytes) (rest fill (length bytes) i) ≡ whole → true ≡ whole
-same-all bytes fill i h s = rw (drop_of_length-le bytes {i = i} h, rest-none fill (length bytes) i h) at s
+-- each byte tested at its place, from place n on
+pub all-lent : (bytes : List ℕ) (fill n : ℕ) → list_all (λ p. eqb p.1 ((fill + p.0) % 256)) (enumerate_from n bytes) ≡ bytes_eq bytes (lent_bytes (fill + n) (length bytes))
+unfolding lent_bytes
+all-lent [] fill n = refl
+all-lent (b ∷ bs) fill n =
+    let e : fill + n + 1 ≡ fill + (n + 1) = omega arith in
+    rw (e, all-lent bs fill (n + 1))

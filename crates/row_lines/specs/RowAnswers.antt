@@ -133,25 +133,25 @@ step_row r s = cond (ltb 1024 s.size) (unread r) (step_with r s.size s.fill s.cl
 -- ---- lines at a place
 
 -- "`startlast` where no task was given" is an error
-abbrev pub last_start : Option Task → ℕ → Asked
-last_start None clock = Asked.Nothing
-last_start (Some task) clock = Asked.Call (Call.Start task clock)
+abbrev pub last_start : Option Task → ℕ → Option Asked
+last_start None clock = None
+last_start (Some task) clock = Some (Asked.Call (Call.Start task clock))
 
 -- single calls; "edits and looks from outside"; "`at <place> set`, `new`, `drive`, `leaf`: `error`"
-abbrev pub on_lamp_asked : OnLamp → Asked
-on_lamp_asked (OnLamp.Call call) = Asked.Call call
-on_lamp_asked (OnLamp.Poke fields) = Asked.Edit (OnLamp.Poke fields)
-on_lamp_asked (OnLamp.Record running) = Asked.Edit (OnLamp.Record running)
-on_lamp_asked OnLamp.Show = Asked.Edit OnLamp.Show
-on_lamp_asked (OnLamp.Set setting) = Asked.Nothing
+abbrev pub on_lamp_asked : OnLamp → Option Asked
+on_lamp_asked (OnLamp.Call call) = Some (Asked.Call call)
+on_lamp_asked (OnLamp.Poke fields) = Some (Asked.Edit (OnLamp.Poke fields))
+on_lamp_asked (OnLamp.Record running) = Some (Asked.Edit (OnLamp.Record running))
+on_lamp_asked OnLamp.Show = Some (Asked.Edit OnLamp.Show)
+on_lamp_asked (OnLamp.Set setting) = None
 
-abbrev pub asked_of : Line → Option Task → Asked
-asked_of (Line.Lamp l) last = Asked.Place l
+abbrev pub asked_of : Line → Option Task → Option Asked
+asked_of (Line.Lamp l) last = Some (Asked.Place l)
 asked_of (Line.OnLamp what) last = on_lamp_asked what
 asked_of (Line.StartLast clock) last = last_start last clock
-asked_of (Line.New making) last = Asked.Nothing
-asked_of (Line.Ask leaf) last = Asked.Nothing
-asked_of Line.Help last = Asked.Nothing
+asked_of (Line.New making) last = None
+asked_of (Line.Ask leaf) last = None
+asked_of Line.Help last = None
 
 -- the answer of the lamp at the place, from the row's
 abbrev pub lamp_answer : RowAnswer → ℕ → Answer
@@ -195,11 +195,11 @@ edited_at r place a =
 abbrev pub edited_on : Row → ℕ → OnLamp → Turn
 edited_on r place what = edited_at r place (on_lamp (lamp_at r place) what)
 
-unfoldable pub answered_place : Row → ℕ → Asked → Turn
-answered_place r place (Asked.Call call) = called_at r place call
-answered_place r place (Asked.Place l) = edited_at r place (shown_answer l)
-answered_place r place (Asked.Edit what) = edited_on r place what
-answered_place r place Asked.Nothing = unread r
+unfoldable pub answered_place : Row → ℕ → Option Asked → Turn
+answered_place r place (Some (Asked.Call call)) = called_at r place call
+answered_place r place (Some (Asked.Place l)) = edited_at r place (shown_answer l)
+answered_place r place (Some (Asked.Edit what)) = edited_on r place what
+answered_place r place None = unread r
 
 -- ---- the lines of the row that there is, where this task was given last
 

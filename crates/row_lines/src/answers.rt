@@ -35,7 +35,6 @@ pub enum Asked {
     Call(Call),
     Place(Lamp),
     Edit(OnLamp),
-    Nothing,
 }
 
 // A lamp's fields, with no blank before the first, and a line's end.
@@ -190,16 +189,14 @@ fn fill(bytes: &mut [u8], from: u8)
     }
 }
 
-// Whether every byte is as it was lent: byte by byte, since no second slice is there to compare with.
+// Whether every byte is as it was lent. Each by its place, since no second slice is there for `==`.
 fn is_filled(bytes: &[u8], from: u8) -> bool
     ensures { result ≡ bytes_eq bytes.now (lent_bytes from (length bytes.now)) }
 {
-    for (i, b) in bytes.iter().enumerate() {
-        if *b != byte_at(from, i) {
-            return false;
-        }
-    }
-    true
+    bytes
+        .iter()
+        .enumerate()
+        .all(|(i, b)| *b == byte_at(from, i))
 }
 
 // The bytes of a slice; `-` where there is none.
@@ -266,36 +263,33 @@ fn step<S: Sink>(row: Row, asked: RowStep, out: &mut S) -> RowTurn
 }
 
 // A start of the task given last.
-fn start_of(last: Option<Task>, clock: u64) -> Asked
+fn start_of(last: Option<Task>, clock: u64) -> Option<Asked>
     ensures { result ≡ last_start last clock }
 {
-    match last {
-        None => Asked::Nothing,
-        Some(task) => Asked::Call(Call::Start { task, clock }),
-    }
+    Some(Asked::Call(Call::Start { task: last?, clock }))
 }
 
-fn asked_of(what: OnLamp) -> Asked
+fn asked_of(what: OnLamp) -> Option<Asked>
     ensures { result ≡ on_lamp_asked what }
 {
     match what {
-        OnLamp::Call(call) => Asked::Call(call),
-        OnLamp::Poke(fields) => Asked::Edit(OnLamp::Poke(fields)),
-        OnLamp::Record(running) => Asked::Edit(OnLamp::Record(running)),
-        OnLamp::Show => Asked::Edit(OnLamp::Show),
-        OnLamp::Set(_) => Asked::Nothing,
+        OnLamp::Call(call) => Some(Asked::Call(call)),
+        OnLamp::Poke(fields) => Some(Asked::Edit(OnLamp::Poke(fields))),
+        OnLamp::Record(running) => Some(Asked::Edit(OnLamp::Record(running))),
+        OnLamp::Show => Some(Asked::Edit(OnLamp::Show)),
+        OnLamp::Set(_) => None,
     }
 }
 
 // What a line asks of a lamp in a row, where the task given last is this.
-fn asked_at(line: Line, last: Option<Task>) -> Asked
+fn asked_at(line: Line, last: Option<Task>) -> Option<Asked>
     ensures { result ≡ asked_of line last }
 {
     match line {
-        Line::Lamp(lamp) => Asked::Place(lamp),
+        Line::Lamp(lamp) => Some(Asked::Place(lamp)),
         Line::OnLamp(what) => asked_of(what),
         Line::StartLast(clock) => start_of(last, clock),
-        Line::New(_) | Line::Ask(_) | Line::Help => Asked::Nothing,
+        Line::New(_) | Line::Ask(_) | Line::Help => None,
     }
 }
 
@@ -381,10 +375,10 @@ fn at_place<S: Sink>(row: Row, asked: AtPlace, last: Option<Task>, out: &mut S) 
 {
     let AtPlace { place, line } = asked;
     match asked_at(line, last) {
-        Asked::Call(call) => called(row, place, call, out),
-        Asked::Place(lamp) => edited(row, place, lines::shown(lamp), out),
-        Asked::Edit(what) => edited_on(row, place, what, out),
-        Asked::Nothing => error(row, out),
+        Some(Asked::Call(call)) => called(row, place, call, out),
+        Some(Asked::Place(lamp)) => edited(row, place, lines::shown(lamp), out),
+        Some(Asked::Edit(what)) => edited_on(row, place, what, out),
+        None => error(row, out),
     }
 }
 

@@ -1,15 +1,14 @@
--- A byte that is another decides; else what is left decides.
-use Rattle.std.proofs.Common.{sym, ◌∙◌}
-use Rattle.row_lines.proofs.Lent.{same_more, same_not, same-all}
+-- The test of each byte at its place is that of the two lists.
+use native.Mathlib.Numerals.{unary_clauses}
+use Rattle.std.proofs.Common.{◌∙◌, ◌+◌, ◌%◌, eqb, rules, tests}
+use Rattle.std.proofs.lemmas.Iterator.{YieldsList-from_slice}
+use Rattle.std.proofs.lemmas.Iterator.Consumers.{YieldsList-from_enumerate}
+use Rattle.std.proofs.lemmas.Iterator.Search.{all_from_yields_List}
+use Rattle.row_lines.proofs.Lent.{all-lent}
 use Rattle.row_lines.proofs.answers.is_filled.Goals as goal
 
-pub returns-then-b-byte_at : goal.returns-then-b-byte_at
-returns-then-b-byte_at c =
-    same_not c.args.bytes.now c.args.from c.loop-i.i c.loop-i-test.true (λ e. c.if-b-byte_at.true (e ∙ sym c.byte_at.ensures)) c.loop-i.invariant
-
-pub loop-i-preserved : goal.loop-i-preserved
-loop-i-preserved c =
-    same_more c.args.bytes.now c.args.from c.loop-i.i c.loop-i-test.true (c.if-b-byte_at.false ∙ c.byte_at.ensures) c.loop-i.invariant
-
 pub returns : goal.returns
-returns c = same-all c.args.bytes.now c.args.from c.loop-i.i c.loop-i-test.false c.loop-i.invariant
+returns c =
+    all_from_yields_List (λ p. eqb p.1 ((c.args.from + p.0) % 256)) _ _ _ c.all.ensures.ran
+    (YieldsList-from_enumerate (YieldsList-from_slice c.args.bytes.now (cc)) (cc)) (λ x b q k. search (rules, tests))
+    ∙ (simp unary_clauses at (all-lent c.args.bytes.now c.args.from 0))
