@@ -63,6 +63,7 @@ fn record(w: &[u64]) -> RecordNumbers
     }
 }
 
+// The lamp that the words mean; `lamp_known` says whether they are one, and stands apart since `measure` reads without it.
 pub fn lamp_of(w: &[u64]) -> Lamp
     ensures { result ≡ lamp_of w.now }
 {
