@@ -17,7 +17,7 @@ pub fn place(p: [u8; 16], i: usize) -> u64
 }
 
 // Place by place, so that the layout which C reads is seen.
-pub(crate) fn answer_words(answer: Answer) -> [u64; 25]
+pub fn answer_words(answer: Answer) -> [u64; 25]
     ensures { result ≡ answer_words answer }
 {
     let p = answer.notices.places;

@@ -110,7 +110,8 @@ pub(crate) fn lamp_known(w: &[u64]) -> bool
         && record(w).known()
 }
 
-pub(crate) fn lamp_words(lamp: Lamp) -> [u64; 28]
+// The words that `lamp_of` reads back.
+pub fn lamp_words(lamp: Lamp) -> [u64; 28]
     ensures { result ≡ lamp_words lamp }
 {
     let color = lamp.color;
