@@ -24,16 +24,14 @@ impl Sums {
         }
     }
 
+    #[tactic(auto, unfolding(crate::specs::Sums::added_all))]
     fn add_all(self, words: &[u64]) -> Sums
         ensures { result ≡ added_all self words.now }
     {
-        let mut sums = self;
-        for word in words {
-            sums = sums.add(*word);
-        }
-        sums
+        words.iter().fold(self, |sums, word| sums.add(*word))
     }
 
+    #[tactic(auto, unfolding(crate::specs::Sums::added_all))]
     pub(crate) fn add_answer(self, answer: Answer) -> Sums
         ensures { result ≡ answer_added self answer }
     {
