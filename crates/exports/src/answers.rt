@@ -9,15 +9,15 @@ use matter::number_of;
 
 pub const ANSWER_WORDS: usize = 25;
 
-// The notice in a place, 0 past the last one.
+// The notice in a place, 0 past the last one. `words::at` does so with words; notices are bytes.
 pub fn place(p: [u8; 16], i: usize) -> u64
     ensures { result ≡ S.place p i }
 {
     p.get(i).copied().map_or(0, u64::from)
 }
 
-// Place by place, as C reads them: a loop would need an invariant, and hide the layout.
-pub(crate) fn answer_words(answer: Answer) -> [u64; 25]
+// Place by place, so that the layout which C reads is seen.
+pub fn answer_words(answer: Answer) -> [u64; 25]
     ensures { result ≡ answer_words answer }
 {
     let p = answer.notices.places;

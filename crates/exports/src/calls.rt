@@ -54,6 +54,7 @@ const STEP: u64 = 257;
 const HALT: u64 = 258;
 
 // A command's number, options and arguments, as C writes them; `known` says whether they are a command.
+// Check and reading are apart, not one `TryFrom`: `measure` reads without the check.
 #[derive(Clone, Copy)]
 pub struct CommandNumbers {
     pub kind: u64,
@@ -193,6 +194,7 @@ impl CommandNumbers {
         }
     }
 
+    // By families, each with a function of its own that looks at the kind again: they are those of the commands' files.
     #[tactic(auto, unfolding(crate::specs::Calls::command_of))]
     fn command(self) -> Command
         ensures { result ≡ command_of self }
@@ -221,6 +223,7 @@ impl CommandNumbers {
     }
 
     // Whether each argument is within its field: sixteen bits at most, eight for some, 0 or 1 for a flag.
+    // By the kind here and in `known`: kinds with the same widths have not the same enums.
     #[tactic(auto, unfolding(crate::specs::Calls::command_fits))]
     fn fits(self) -> bool
         ensures { result ≡ command_fits self }
@@ -281,7 +284,7 @@ pub(crate) fn call_known(w: &[u64]) -> bool
             || (CommandNumbers::from_words(w).known() && enums::is_known::<OnOff>(at(w, 2))))
 }
 
-// The call that the words mean; `call_known` says whether they are one.
+// The call that the words mean; `call_known` says whether they are one, and stands apart since `measure` reads without it.
 #[tactic(auto, unfolding(crate::specs::Calls::call_of))]
 pub fn call_of(w: &[u64]) -> Call
     ensures { result ≡ call_of w.now }

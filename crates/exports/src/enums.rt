@@ -18,6 +18,7 @@ use matter::{
 };
 
 // An enum that any word can be read as. Its numbers are all below 255, which a number past eight bits is read as.
+// `measure` reads words that `is_known` has not seen, so a number of no case is read as one too: each enum names which.
 pub(crate) trait Readable: Numbered {
     // The case that a number is read as which none has.
     ghost RESERVED: { Self };

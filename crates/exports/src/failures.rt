@@ -38,7 +38,7 @@ impl From<WordsError> for u64 {
     }
 }
 
-// The number that C reads: 0, or that of the failure.
+// The number that C reads: 0, or that of the failure. No `From`: neither `Result` nor `u64` is this crate's.
 pub(crate) fn number_of(left: Result<(), WordsError>) -> u64
     ensures { result ≡ number_left left }
 {

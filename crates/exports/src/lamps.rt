@@ -63,6 +63,7 @@ fn record(w: &[u64]) -> RecordNumbers
     }
 }
 
+// The lamp that the words mean; `lamp_known` says whether they are one, and stands apart since `measure` reads without it.
 pub fn lamp_of(w: &[u64]) -> Lamp
     ensures { result ≡ lamp_of w.now }
 {
@@ -109,7 +110,8 @@ pub(crate) fn lamp_known(w: &[u64]) -> bool
         && record(w).known()
 }
 
-pub(crate) fn lamp_words(lamp: Lamp) -> [u64; 28]
+// The words that `lamp_of` reads back.
+pub fn lamp_words(lamp: Lamp) -> [u64; 28]
     ensures { result ≡ lamp_words lamp }
 {
     let color = lamp.color;

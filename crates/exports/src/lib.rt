@@ -14,13 +14,12 @@ ghost use Rattle.std.specs.Prelude.{◌≡◌};
 ghost use Rattle.exports.specs.Exported.{made, answered};
 ghost use Rattle.exports.specs.Failures.{number_left};
 
-use answers::ANSWER_WORDS;
-pub use answers::place;
+pub use answers::{ANSWER_WORDS, answer_words, place};
 pub use calls::{CALL_WORDS, sent};
 pub use failures::WordsError;
 use failures::number_of;
 use lamp::Lamp;
-pub use lamps::{LAMP_WORDS, lamp_of};
+pub use lamps::{LAMP_WORDS, lamp_of, lamp_words};
 use matter::Bounds;
 pub use moves::{RecordNumbers, TaskNumbers};
 
@@ -40,7 +39,7 @@ fn make(
         return Err(WordsError::UnreadableLamp);
     }
     let lamp = Lamp::new(bounds, features, options, clock)?;
-    words.copy_from_slice(&lamps::lamp_words(lamp));
+    words.copy_from_slice(&lamp_words(lamp));
     Ok(())
 }
 
@@ -64,8 +63,8 @@ fn call_lamp(words: &mut [u64], call: &[u64], answer: &mut [u64]) -> Result<(), 
         return Err(WordsError::UnreadableCall);
     }
     let given = commands::call(lamp_of(words), calls::call_of(call));
-    words.copy_from_slice(&lamps::lamp_words(given.lamp));
-    answer.copy_from_slice(&answers::answer_words(given));
+    words.copy_from_slice(&lamp_words(given.lamp));
+    answer.copy_from_slice(&answer_words(given));
     given.verdict?;
     Ok(())
 }

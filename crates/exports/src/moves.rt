@@ -30,6 +30,7 @@ const STOP: u64 = 7;
 const LARGEST: u64 = 9223372036854775807;
 
 // A task's kind and its six numbers, as C has them; `known` says whether they are a task.
+// Check and reading are apart, not one `TryFrom`: `measure` reads without the check.
 #[derive(Clone, Copy, Default)]
 pub struct TaskNumbers {
     pub kind: u64,
@@ -153,7 +154,8 @@ impl TaskNumbers {
         }
     }
 
-    // Whether each number is within its field.
+    // Whether each number is within its field. `fits`, `known` and `task` all go by the kind, and each asks another thing:
+    // the widths, the enums' numbers, the task.
     #[tactic(auto, unfolding(crate::specs::Moves::task_fits))]
     fn fits(self) -> bool
         ensures { result ≡ task_fits self }

@@ -1,5 +1,5 @@
 -- A checksum over words: two sums that wrap at 64 bits, the second one of the first's values, so that the order counts.
-use Rattle.std.specs.Prelude.{ℕ, ◌+◌, ◌%◌, ◌^◌, List, [], ◌∷◌, ◌++◌}
+use Rattle.std.specs.Prelude.{ℕ, ◌+◌, ◌%◌, ◌^◌, List, [], ◌∷◌, ◌++◌, fold}
 use Rattle.lamp.specs.declared.Answer.{Answer}
 use Rattle.lamp.specs.declared.Lamp.{Lamp}
 use Rattle.exports.specs.Failures.{unreadable}
@@ -13,8 +13,7 @@ unfoldable pub added : Sums → ℕ → Sums
 added s x = record { a = (s.a + x) % 2 ^ 64; b = (s.b + (s.a + x) % 2 ^ 64) % 2 ^ 64 }
 
 unfoldable pub added_all : Sums → List ℕ → Sums
-added_all s [] = s
-added_all s (x ∷ xs) = added_all (added s x) xs
+added_all = fold added
 
 -- every number of an answer: its own and those of its lamp
 abbrev pub answer_added : Sums → Answer → Sums

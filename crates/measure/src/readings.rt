@@ -23,7 +23,7 @@ fn of_mask(mask: u32) -> u64
     numbered(running_count(mask), lowest_running(mask))
 }
 
-// By the lamps.
+// By the lamps. In one walk, since `bench/` measures it beside the two walks.
 fn of_lamps(lamps: &[Lamp]) -> u64
     requires { length lamps.now ≤ 32 }
     ensures { result ≡ of_lamps lamps.now }
