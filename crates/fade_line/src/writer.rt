@@ -35,8 +35,7 @@ fn has_room(at: usize, len: usize) -> bool
 fn notices<S: Sink>(out: &mut S, list: Notices)
     ensures { out.new ≡ fold S.push out.old (spaced_all (numbers list)) }
 {
-    let used = list.len.min(16);
-    for number in &list.places[..used] {
+    for number in list.used() {
         spaced(out, u64::from(*number));
     }
 }

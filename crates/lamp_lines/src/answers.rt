@@ -78,8 +78,7 @@ fn notices<S: Sink>(out: &mut S, list: Notices)
     if list.len == 0 {
         return text(out, b" -");
     }
-    let used = list.len.min(16);
-    for notice in &list.places[..used] {
+    for notice in list.used() {
         spaced(out, u64::from(*notice));
     }
 }
