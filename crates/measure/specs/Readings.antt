@@ -1,6 +1,6 @@
 -- How many of 32 lamps run and the lowest place, asked again and again.
 use Rattle.std.specs.Prelude.{Option, Some, None}
-use Rattle.std.specs.Prelude.{ℕ, ◌+◌, ◌*◌, ◌%◌, ltb, cond, List, [], ◌∷◌, set, replicate}
+use Rattle.std.specs.Prelude.{ℕ, ◌+◌, ◌*◌, ◌%◌, ltb, cond, List, [], ◌∷◌, set, replicate, fold}
 use Rattle.lamp.specs.declared.Lamp.{Lamp}
 use Rattle.tasks.specs.declared.Running.{Running}
 use Rattle.rows.specs.Rows.{count_of, lowest_of, running_count, first_running}
@@ -26,8 +26,7 @@ abbrev pub turned : Lamp → ℕ → Lamp
 turned l turn = record l { running = cond (ltb turn 32) l.running Running.Idle }
 
 unfoldable pub masks_read : Sums → List ℕ → Sums
-masks_read s [] = s
-masks_read s (m ∷ ms) = masks_read (added s (of_mask (m % 4294967296))) ms
+masks_read = fold (λ s m. added s (of_mask (m % 4294967296)))
 
 -- at each turn one lamp starts or halts, and all are read
 unfoldable pub records_from : Lamp → List Lamp → Sums → List ℕ → Sums

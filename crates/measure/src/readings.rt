@@ -52,14 +52,13 @@ fn turned(lamp: Lamp, turn: u64) -> Lamp
 }
 
 // The masks, one after another.
+#[tactic(auto, unfolding(crate::specs::Readings::masks_read))]
 pub(crate) fn masks(masks: &[u64]) -> Sums
     ensures { result ≡ masks_read (record { a = 0; b = 0 }) masks.now }
 {
-    let mut sums = Sums::default();
-    for mask in masks {
-        sums = sums.add(of_mask((mask % 4294967296) as u32));
-    }
-    sums
+    masks.iter().fold(Sums::default(), |sums, mask| {
+        sums.add(of_mask((mask % 4294967296) as u32))
+    })
 }
 
 // 32 idle lamps, of which one starts or halts at each turn; then all of their records are read.
