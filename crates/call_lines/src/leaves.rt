@@ -112,10 +112,11 @@ pub fn read(words: &mut Words) -> Option<Leaf>
 }
 
 // 0 or 1: the library prints a bool by a word.
+#[tactic(auto, unfolding(text::specs::Digits::decimal))]
 fn bit<S: Sink>(out: &mut S, b: bool)
     ensures { out.new ≡ fold S.push out.old (bit_text b) }
 {
-    out.byte(b'0' + u8::from(b));
+    decimal(out, u64::from(b));
 }
 
 #[tactic(auto, unfolding(crate::specs::Leaves::delta_text))]
