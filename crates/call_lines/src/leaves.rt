@@ -1,4 +1,5 @@
-// A leaf's function, asked for its answer: no lamp has a part in it.
+// A leaf's function, asked for its answer: no lamp has a part in it. Into a `Sink`, not by `Display`, as
+// `lamp_lines` writes its answers: writing cannot fail.
 ghost use Rattle.std.specs.Prelude.{◌≡◌};
 ghost use Rattle.text.specs.Readers.{Reads};
 ghost use Rattle.std.specs.List.{fold};
@@ -110,10 +111,12 @@ pub fn read(words: &mut Words) -> Option<Leaf>
     }
 }
 
+// 0 or 1: the library prints a bool by a word.
+#[tactic(auto, unfolding(text::specs::Digits::decimal))]
 fn bit<S: Sink>(out: &mut S, b: bool)
     ensures { out.new ≡ fold S.push out.old (bit_text b) }
 {
-    out.byte(b'0' + u8::from(b));
+    decimal(out, u64::from(b));
 }
 
 #[tactic(auto, unfolding(crate::specs::Leaves::delta_text))]

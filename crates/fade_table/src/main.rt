@@ -42,6 +42,7 @@ fn show_zeros(to: &mut impl Write, name: &[u8], input: &[u8]) {
     show_asked(to, name, zeros.read(input).asked());
 }
 
+// The table, as statements: each call is an example with its name, and some come in parts.
 fn good(to: &mut impl Write) {
     show(to, b"the lines of document 01", b"128 0 2 5000\n");
     show(to, b"hue 254", b"254 0 1 0\n");

@@ -1,4 +1,5 @@
 // What the lines of a row come to, and the texts of their answers, into any sink; the newline is the caller's.
+// Into a `Sink`, not by `Display`: the same bytes go to a buffer and into the row's sum, and writing cannot fail.
 ghost use Rattle.std.specs.Prelude.{◌≡◌, ◌++◌, cond, ◌+◌, ◌%◌, ◌<◌, min, length};
 ghost use Rattle.std.specs.List.{fold};
 ghost use Rattle.text.specs.Ascii.{ascii};
@@ -103,7 +104,8 @@ fn error<S: Sink>(row: Row, out: &mut S) -> RowTurn
     RowTurn { row, task: None }
 }
 
-// A lamp as `new 153 500 31 0 0` makes it.
+// A lamp as `new 153 500 31 0 0` makes it. It repeats `lamp`'s private `fresh`: `Lamp::new` gives a `Result`, and these
+// numbers leave no refusal to answer here.
 fn fresh_lamp() -> Lamp
     ensures { result ≡ fresh_place }
 {
@@ -199,7 +201,7 @@ fn is_filled(bytes: &[u8], from: u8) -> bool
         .all(|(i, b)| *b == byte_at(from, i))
 }
 
-// The bytes of a slice; `-` where there is none.
+// The bytes of a slice; `-` where there is none. Not text's `spaced_or_dash`, which takes a number.
 #[tactic(auto, unfolding(crate::specs::RowAnswers::slice_text))]
 fn slice<S: Sink>(out: &mut S, bytes: &[u8])
     ensures { out.new ≡ fold S.push out.old (slice_text bytes.now) }
@@ -293,7 +295,8 @@ fn asked_at(line: Line, last: Option<Task>) -> Option<Asked>
     }
 }
 
-// The answer of the lamp at the place.
+// The answer of the lamp at the place. The clause is this private function's alone, and its caller has tested the place: a
+// struct of places would be made and taken apart at once, since the row's public functions take any byte.
 fn lamp_answer(answered: RowAnswer, place: u8) -> Answer
     requires { place < 32 }
     ensures { result ≡ lamp_answer answered place }

@@ -21,7 +21,7 @@ pub fn is_hex_digit(byte: u8) -> bool
     matches!(byte, b'0'..=b'9' | b'a'..=b'f')
 }
 
-// A hexadecimal digit's number; 0 for any other byte.
+// A hexadecimal digit's number; 0 for any other byte, and no Option: callers have checked with `is_hex_digit`.
 #[tactic(auto, unfolding(crate::specs::Digits::hex_value))]
 pub fn hex_value(byte: u8) -> u8
     ensures { (result ≡ hex_value byte) × (result < 16) }
