@@ -191,7 +191,7 @@ impl Row {
     }
 
     /// Every lamp of the row is visited, in rising place: the row then, the least wait, and the first of their causes. What
-    /// they report goes into `bytes`. By place: over an iterator of the lamps the row is copied once more, 40 ns of a row call
+    /// they report goes into `bytes`. By place: over an iterator of the lamps the row is copied once more, 22 to 27 ns of a row call
     /// (docs/SPEED.md).
     fn visit_all(self, bytes: &mut [u8], clock: u64) -> RowStepped {
         let mut lamps = self.lamps;

@@ -95,6 +95,7 @@ fn kept_hue_mode(emode: EnhancedColorModeEnum) -> EnhancedColorModeEnum
     }
 }
 
+// Whether both modes say the same: a rule of the cluster over two types, and no equality of one.
 fn modes_agree(mode: ColorModeEnum, emode: EnhancedColorModeEnum) -> bool
     ensures { result ≡ modes_agree mode emode }
 {

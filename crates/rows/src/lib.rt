@@ -244,7 +244,7 @@ impl Row {
     }
 
     // Every lamp of the row is visited, in rising place: the row then, the least wait, and the first of their causes. What
-    // they report goes into `bytes`. By place: over an iterator of the lamps the row is copied once more, 40 ns of a row call
+    // they report goes into `bytes`. By place: over an iterator of the lamps the row is copied once more, 22 to 27 ns of a row call
     // (docs/SPEED.md).
     #[tactic(auto, unfolding(crate::specs::Rows::lesser), using(crate::proofs::Causes::none_graver))]
     fn visit_all(self, bytes: &mut [u8], clock: u64) -> RowStepped
