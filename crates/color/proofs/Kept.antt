@@ -6,8 +6,9 @@ use mathlib.Core.Path.{◌≡◌, refl}
 use native.Mathlib.Omega.{arith}
 use lib.Dec.{leb}
 use lib.ListN.{length, length-append}
-use borrow.Author.Tests.{leb-true, le-leb}
+use borrow.Author.Tests.{leb-true, le-leb, ltb-false}
 use Rattle.matter.specs.declared.limits.Bounds.{Bounds}
+use Rattle.matter.specs.Bounds.{crossed}
 use Rattle.matter.specs.declared.enums.ColorModeEnum.{ColorModeEnum}
 use Rattle.matter.specs.declared.enums.EnhancedColorModeEnum.{EnhancedColorModeEnum}
 use Rattle.matter.proofs.Laws.{cond_both, leb-later, each, all_of}
@@ -19,6 +20,8 @@ use Rattle.notices.specs.Notices.{only}
 use Rattle.color.specs.declared.Change.{Change}
 use Rattle.color.specs.declared.Color.{Color}
 use Rattle.color.specs.Valid.{modes_agree, color_valid}
+use Rattle.color.specs.Bounded.{mireds_within, mireds_move, bounded}
+use Rattle.progress.proofs.Laws.{clamp-within}
 use Rattle.color.specs.Setters.{due, change_notices, change_reported, same, hue_mode, kept_hue_mode, hue_set, saturation_set, mireds_set}
 
 -- ---- validity lasts
@@ -98,6 +101,18 @@ module _ (c : Color) (bounds : Bounds) (clock : ℕ) (validity : color_valid c b
       let (s, (a, (b, (o, (m, (x, (y, (z, tt)))))))) = each _ validity in
       cond_both (λ d. color_valid d bounds clock ≡ true) (same c.mireds new end) _ _ (λ e. validity)
       (λ e. all_of _ (s, (le-leb _ _ h, (le-leb _ _ k, (o, (refl, (x, (y, (stamped (due end c.stamps.mireds clock) _ clock z, tt)))))))))
+
+-- ---- new bounds that are not crossed
+
+module _ (c : Color) (old new : Bounds) (clock : ℕ) (validity : color_valid c old clock ≡ true) (uncrossed : crossed new ≡ false) where
+  -- the colour under them is valid under them
+  pub bounded-valid : color_valid (bounded c new clock) new clock ≡ true
+  unfolding color_valid bounded
+  bounded-valid =
+      let (s, (a, (b, (o, (m, (x, (y, (z, tt)))))))) = each _ validity in
+      let order : new.min ≤ new.max = ltb-false new.max new.min uncrossed in
+      let now : (new.min ≤ mireds_within c new) × (mireds_within c new ≤ new.max) = clamp-within new.min new.max _ order in
+      all_of _ (s, (le-leb _ _ now.0, (le-leb _ _ now.1, (le-leb _ _ order, (m, (x, (y, (stamped (mireds_move c new) _ clock z, tt))))))))
 
 -- ---- the hue that a setter leaves
 

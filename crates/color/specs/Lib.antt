@@ -2,3 +2,4 @@ pub mod Setters
 pub mod Valid
 pub mod Making
 pub mod Changes
+pub mod Bounded

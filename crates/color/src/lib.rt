@@ -8,6 +8,7 @@ ghost use Rattle.notices.specs.Numerals.{in_front};
 ghost use Rattle.color.specs.Setters.{due, change_reported, hue_mode, kept_hue_mode, set_hue, set_saturation, set_mireds};
 ghost use Rattle.color.specs.Valid.{modes_agree, color_valid};
 ghost use Rattle.color.specs.Making.{new_color};
+ghost use Rattle.color.specs.Bounded.{bounded};
 
 use matter::{Bounds, ColorModeEnum, EnhancedColorModeEnum, color_mode_of, default_color_mode};
 use notices::{Notice, Numeral};
@@ -239,6 +240,23 @@ impl Color {
                 attribute: Notice::ColorTemperatureMireds,
                 enhanced: false,
             }),
+        }
+    }
+
+    // The colour under new bounds, which is no setter: mireds outside go to the nearer one, with their stamp.
+    #[tactic(auto, unfolding(crate::specs::Bounded::bounded))]
+    pub fn bounded(self, bounds: Bounds, clock: u64) -> Color
+        ensures { result ≡ bounded self bounds clock }
+    {
+        let mireds = clamped_sum(bounds.min, bounds.max, self.mireds, 0);
+        let stamp = stamp_at(mireds != self.mireds, clock, self.stamps.mireds);
+        Color {
+            mireds,
+            stamps: Stamps {
+                mireds: stamp,
+                ..self.stamps
+            },
+            ..self
         }
     }
 

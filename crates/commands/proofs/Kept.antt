@@ -30,15 +30,17 @@ use Rattle.lamp.specs.declared.Lamp.{Lamp}
 use Rattle.lamp.specs.declared.LoopSettings.{LoopSettings}
 use Rattle.lamp.specs.declared.Answer.{Answer}
 use Rattle.lamp.specs.Answers.{at_clock, first_cause, unchanged}
-use Rattle.lamp.specs.Calls.{start_cause, step_cause, start_answer, step_answer, halt_answer}
+use Rattle.lamp.specs.Calls.{start_cause, step_cause, start_answer, step_answer, halt_answer, with_bounds, bounds_cause, bounds_answer}
 use Rattle.lamp.specs.Valid.{lamp_valid}
-use Rattle.lamp.proofs.Kept.{valid-clock, valid-color, valid-running, valid-of, no-cause, ready, start-ready, step-ready, choose-both, start-valid, step-valid, halt-valid}
+use Rattle.lamp.proofs.Kept.{valid-clock, valid-color, valid-running, valid-of, no-cause, ready, start-ready, step-ready, choose-both, start-valid, step-valid, halt-valid, bounds-ready, set-bounds-valid}
 use Rattle.lamp.specs.Passes.{changed}
 use Rattle.lamp.specs.declared.Call.{Call}
 use Rattle.lamp.specs.InRange.{InRangeLamp, InRangeCall}
-use Rattle.lamp.proofs.InRangeKept.{started-any, stepped-any, in-range-of, clock-in-range, changed-in-range, started-in-range, stepped-in-range}
+use Rattle.lamp.proofs.InRangeKept.{started-any, stepped-any, in-range-of, clock-in-range, changed-in-range, started-in-range, stepped-in-range, with-bounds-in-range}
 use Rattle.commands.specs.Answers.{after_clock, allowed, command_cause, command_done, command_answer, cause, answer, granted, clock_of, is_loop_set}
 use Rattle.commands.specs.Ties.{aim_of, aim_ties}
+use Rattle.commands.specs.Unchanged.{sets_bounds}
+use Rattle.matter.specs.declared.limits.Bounds.{Bounds}
 use Rattle.commands.specs.Commands.{CommandEffect, skip, giving_with, checks, with_loop, updated, updated_reported, acted, deactivated, activated, loop_set, command_effect}
 
 -- ---- an answer is a refusal with its cause, or what is granted where there is none
@@ -46,11 +48,12 @@ use Rattle.commands.specs.Commands.{CommandEffect, skip, giving_with, checks, wi
 module _ (l : Lamp) where
   -- what holds of both holds of the answer
   pub answer-both : (P : Answer → Type 0) (x : Call) → (cause l x ≡ accepted → P (granted l x)) → ((cause l x ≡ accepted → ⊥) → P (unchanged l (cause l x))) → P (answer l x)
-  unfolding cause answer command_answer start_answer step_answer halt_answer
+  unfolding cause answer command_answer start_answer step_answer halt_answer bounds_answer
   answer-both P (Call.Command r on_off clock) h k = choose-both P (command_cause l r clock) l _ h k
   answer-both P (Call.Start task clock) h k = choose-both P (start_cause l task clock) l _ h k
   answer-both P (Call.Step clock) h k = choose-both P (step_cause l clock) l _ h k
   answer-both P (Call.Halt clock) h k = choose-both P (first_cause l clock) l _ h k
+  answer-both P (Call.SetBounds bounds clock) h k = choose-both P (bounds_cause l bounds clock) l _ h k
 
   -- what is granted is accepted
   granted-number : (x : Call) → (granted l x).verdict ≡ accepted
@@ -58,6 +61,7 @@ module _ (l : Lamp) where
   granted-number (Call.Start task clock) = refl
   granted-number (Call.Step clock) = refl
   granted-number (Call.Halt clock) = refl
+  granted-number (Call.SetBounds bounds clock) = refl
 
   -- the verdict of an answer is its cause
   pub number-is-cause : (x : Call) → (answer l x).verdict ≡ cause l x
@@ -74,6 +78,7 @@ module _ (l : Lamp) where
   granted-ready (Call.Start task clock) e = (start-ready l clock task e).0
   granted-ready (Call.Step clock) e = step-ready l clock e
   granted-ready (Call.Halt clock) e = ready l clock e
+  granted-ready (Call.SetBounds bounds clock) e = (bounds-ready l clock bounds e).0
 
 -- ---- what a command does: a task given, nothing, or the colour loop's
 
@@ -162,12 +167,28 @@ done-in-range l r on_off in_range t =
 
 -- ---- every call
 
--- what holds at the call's clock with the same bounds and options holds of what is granted
-granted-any : (l : Lamp) (x : Call) (P : Lamp → Type 0) → ((m : Lamp) → P (record { clock = clock_of x; bounds = l.bounds; color = m.color; looping = m.looping; remaining = m.remaining; options = l.options; running = m.running })) → P (granted l x).lamp
+-- the bounds that an accepted call leaves
+abbrev bounds_after : Lamp → Call → Bounds
+bounds_after l (Call.Command r on_off clock) = l.bounds
+bounds_after l (Call.Start task clock) = l.bounds
+bounds_after l (Call.Step clock) = l.bounds
+bounds_after l (Call.Halt clock) = l.bounds
+bounds_after l (Call.SetBounds bounds clock) = bounds
+
+-- what holds at the call's clock with the bounds that it leaves and the same options holds of what is granted
+granted-any : (l : Lamp) (x : Call) (P : Lamp → Type 0) → ((m : Lamp) → P (record { clock = clock_of x; bounds = bounds_after l x; color = m.color; looping = m.looping; remaining = m.remaining; options = l.options; running = m.running })) → P (granted l x).lamp
 granted-any l (Call.Command r on_off clock) P any = done-any (at_clock l clock) P (λ d s. any (with_loop l d s)) r on_off
 granted-any l (Call.Start task clock) P any = started-any (at_clock l clock) P (λ c r t. any (changed l c r t)) task
 granted-any l (Call.Step clock) P any = stepped-any (at_clock l clock) P (λ c r t. any (changed l c r t)) l.running
 granted-any l (Call.Halt clock) P any = any (changed l l.color Running.Idle l.remaining)
+granted-any l (Call.SetBounds bounds clock) P any = any (with_bounds (at_clock l clock) bounds).lamp
+
+others-leave : (l : Lamp) (x : Call) → sets_bounds x ≡ false → bounds_after l x ≡ l.bounds
+others-leave l (Call.Command r on_off clock) h = refl
+others-leave l (Call.Start task clock) h = refl
+others-leave l (Call.Step clock) h = refl
+others-leave l (Call.Halt clock) h = refl
+others-leave l (Call.SetBounds bounds clock) h = absurd (true≢false h)
 
 module _ (l : Lamp) (x : Call) where
   -- an accepted call sets the clock
@@ -175,11 +196,12 @@ module _ (l : Lamp) (x : Call) where
   accepted-clock z =
       answer-both l (λ a. a.lamp.clock ≡ clock_of x) x (λ e. granted-any l x (λ m. m.clock ≡ clock_of x) (λ m. refl)) (λ n. absurd (n z))
 
-  -- no call changes the bounds
-  pub bounds-kept : (answer l x).lamp.bounds ≡ l.bounds
-  bounds-kept = answer-both l (λ a. a.lamp.bounds ≡ l.bounds) x (λ e. granted-any l x (λ m. m.bounds ≡ l.bounds) (λ m. refl)) (λ n. refl)
+  -- no call but an accepted one of new bounds changes the bounds
+  pub bounds-kept : sets_bounds x ≡ false → (answer l x).lamp.bounds ≡ l.bounds
+  bounds-kept h =
+      answer-both l (λ a. a.lamp.bounds ≡ l.bounds) x (λ e. granted-any l x (λ m. m.bounds ≡ l.bounds) (λ m. others-leave l x h)) (λ n. refl)
 
-  -- nor the options
+  -- and none the options
   pub options-kept : (answer l x).lamp.options ≡ l.options
   options-kept =
       answer-both l (λ a. a.lamp.options ≡ l.options) x (λ e. granted-any l x (λ m. m.options ≡ l.options) (λ m. refl)) (λ n. refl)
@@ -192,6 +214,7 @@ valid-kept l (Call.Command r on_off clock) validity =
 valid-kept l (Call.Start task clock) validity = start-valid l clock validity task
 valid-kept l (Call.Step clock) validity = step-valid l clock validity
 valid-kept l (Call.Halt clock) validity = halt-valid l clock validity
+valid-kept l (Call.SetBounds bounds clock) validity = set-bounds-valid l clock validity bounds
 
 -- what is granted keeps widths
 granted-in-range : (l : Lamp) (x : Call) → lamp_valid (at_clock l (clock_of x)) ≡ true → InRangeLamp l → InRangeCall x → lamp_valid (granted l x).lamp ≡ true → InRangeLamp (granted l x).lamp
@@ -200,6 +223,8 @@ granted-in-range l (Call.Start task clock) before in_range t validity = started-
 granted-in-range l (Call.Step clock) before in_range t validity = stepped-in-range _ (clock-in-range l in_range clock before) l.running in_range.running validity
 granted-in-range l (Call.Halt clock) before in_range t validity =
     changed-in-range _ (clock-in-range l in_range clock before) _ _ _ validity in_range.hue in_range.remaining tt
+granted-in-range l (Call.SetBounds bounds clock) before in_range t validity =
+    with-bounds-in-range (at_clock l clock) bounds validity (clock-in-range l in_range clock before) t.0
 
 -- every call keeps widths
 pub in-range-kept : (l : Lamp) (x : Call) → lamp_valid l ≡ true → InRangeLamp l → InRangeCall x → InRangeLamp (answer l x).lamp

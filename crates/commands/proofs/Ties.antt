@@ -11,9 +11,10 @@ use Rattle.matter.specs.declared.enums.DirectionEnum.{DirectionEnum}
 use Rattle.matter.specs.declared.enums.OnOff.{OnOff}
 use Rattle.hue.specs.Hue.{is_tie}
 use Rattle.matter.proofs.Laws.{cond_both, not-ok}
-use Rattle.notices.specs.Names.{task_given, hue_tie}
+use Rattle.notices.specs.Names.{task_given, hue_tie, ColorTemperatureMireds}
+use Rattle.color.specs.Bounded.{mireds_move}
 use Rattle.notices.specs.Notices.{only, filled, noted}
-use Rattle.notices.proofs.Numerals.{Below, none, more, below-later, below_at, below-filled}
+use Rattle.notices.proofs.Numerals.{Below, none, more, below-later, below-only, below_at, below-filled}
 use Rattle.lamp.specs.declared.Answer.{Answer}
 use Rattle.lamp.specs.declared.Call.{Call}
 use Rattle.lamp.specs.declared.Lamp.{Lamp}
@@ -106,6 +107,10 @@ call-noted l (Call.Step clock) =
 call-noted l (Call.Halt clock) =
     answer-both l (λ a. Noted l.color.hue a nowhere) (Call.Halt clock)
     (λ e. record { reported = []; places = refl; listed = without none })
+    (λ n. record { reported = []; places = refl; listed = without none })
+call-noted l (Call.SetBounds bounds clock) =
+    answer-both l (λ a. Noted l.color.hue a nowhere) (Call.SetBounds bounds clock)
+    (λ e. record { reported = _; places = refl; listed = without (below-only (mireds_move l.color bounds) ColorTemperatureMireds (omega arith)) })
     (λ n. record { reported = []; places = refl; listed = without none })
 
 alone : (current : ℕ) (a : Answer) (to : Aim) → Noted current a to → (place : ℕ) → get_or a.notices.places place 0 ≡ hue_tie → (tie : Bool) → aim_ties current to ≡ tie → tie ≡ true

@@ -12,6 +12,7 @@ use Rattle.lamp.specs.declared.Lamp.{Lamp}
 use Rattle.lamp.specs.declared.Answer.{Answer}
 use Rattle.lamp.specs.Answers.{at_clock, first_cause}
 use Rattle.lamp.specs.Calls.{choose, done, started, stepped, start_cause, step_cause, start_answer, step_answer, halt_answer}
+use Rattle.lamp.specs.Calls.{with_bounds, bounds_cause, bounds_answer}
 use Rattle.lamp.specs.Passes.{idled}
 use Rattle.lamp.specs.declared.Call.{Call}
 use Rattle.commands.specs.Commands.{CommandEffect, skip, giving, checks, command_effect}
@@ -53,12 +54,14 @@ cause l (Call.Command r on_off clock) = command_cause l r clock
 cause l (Call.Start task clock) = start_cause l task clock
 cause l (Call.Step clock) = step_cause l clock
 cause l (Call.Halt clock) = first_cause l clock
+cause l (Call.SetBounds bounds clock) = bounds_cause l bounds clock
 
 unfoldable pub answer : Lamp → Call → Answer
 answer l (Call.Command r on_off clock) = command_answer l r on_off clock
 answer l (Call.Start task clock) = start_answer l task clock
 answer l (Call.Step clock) = step_answer l clock
 answer l (Call.Halt clock) = halt_answer l clock
+answer l (Call.SetBounds bounds clock) = bounds_answer l bounds clock
 
 -- ---- what theorems say of a call
 
@@ -68,6 +71,7 @@ granted l (Call.Command r on_off clock) = command_accepted (command_done (at_clo
 granted l (Call.Start task clock) = done (started (at_clock l clock) task)
 granted l (Call.Step clock) = done (stepped (at_clock l clock) l.running)
 granted l (Call.Halt clock) = done (idled (at_clock l clock))
+granted l (Call.SetBounds bounds clock) = done (with_bounds (at_clock l clock) bounds)
 
 -- its clock
 abbrev pub clock_of : Call → ℕ
@@ -75,6 +79,7 @@ clock_of (Call.Command r on_off clock) = clock
 clock_of (Call.Start task clock) = clock
 clock_of (Call.Step clock) = clock
 clock_of (Call.Halt clock) = clock
+clock_of (Call.SetBounds bounds clock) = clock
 
 -- whether a command is the colour loop's
 abbrev pub is_loop_set : Command → Bool

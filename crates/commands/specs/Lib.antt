@@ -5,3 +5,4 @@ pub mod Table
 pub mod Unchanged
 pub mod StepLimits
 pub mod Ties
+pub mod NewBounds

@@ -42,6 +42,7 @@ aim l (Call.Command r on_off clock) =
 aim l (Call.Start task clock) = nowhere
 aim l (Call.Step clock) = nowhere
 aim l (Call.Halt clock) = nowhere
+aim l (Call.SetBounds bounds clock) = nowhere
 
 abbrev pub aim_ties : ℕ → Aim → Bool
 aim_ties current (toward target direction) = is_tie current target direction

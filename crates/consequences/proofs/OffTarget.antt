@@ -16,6 +16,7 @@ use Rattle.hue.specs.Hue.{modulo, moved_hue}
 use Rattle.hue.proofs.Laws.{moved_up, moved_down, arrives}
 use Rattle.progress.specs.Progress.{part_of}
 use Rattle.progress.proofs.Laws.{permille-most, part-whole}
+use Rattle.color.specs.Bounded.{bounded}
 use Rattle.tasks.specs.declared.Running.{Running}
 use Rattle.lamp.specs.declared.Lamp.{Lamp}
 use Rattle.lamp.specs.Answers.{at_clock}
@@ -78,12 +79,14 @@ module _ (f : Fed) (hue saturation : ℕ) where
   steps_on l clock (inr r) = subst (λ (run : Running). Underway (stepped (at_clock l clock) run).lamp) (sym r.0) (inr (refl, r.1))
 
   accepted-on : (l : Lamp) (x : Call) → Underway l → not (interrupts x && accepts l x) ≡ true → accepts l x ≡ true → Underway (next l x)
+  unfolding bounded
   accepted-on l (Call.Command r on_off clock) u q a =
       let z : is_loop_set r.command ≡ false = not-true (is_loop_set r.command) (rw (a, and-true) at q) in
       rw (quiet-command l r on_off clock z (no-cause l (Call.Command r on_off clock) a)) u
   accepted-on l (Call.Start task clock) u q a = never a (not-true (accepts l (Call.Start task clock)) q)
   accepted-on l (Call.Step clock) u q a = rw (next, accepted-is l (Call.Step clock) a) (steps_on l clock u)
   accepted-on l (Call.Halt clock) u q a = never a (not-true (accepts l (Call.Halt clock)) q)
+  accepted-on l (Call.SetBounds bounds clock) u q a = rw (next, accepted-is l (Call.SetBounds bounds clock) a) u
 
   -- a quiet list
   goes_on : (xs : List Call) (l : Lamp) → Underway l → quiet l xs ≡ true → Underway (after l xs)

@@ -50,6 +50,7 @@ module _ (f : Fed) (s : Shown) (c : ℕ) (m : At f c s) where
   one l (Call.Start task clock) e = other (takes s (Call.Start task clock)) clock
   one l (Call.Step clock) e = rw e (stepped (takes s (Call.Step clock)) clock)
   one l (Call.Halt clock) e = other (takes s (Call.Halt clock)) clock
+  one l (Call.SetBounds bounds clock) e = other (takes s (Call.SetBounds bounds clock)) clock
 
 -- all along the calls that follow the start: `ys` are behind, and left the lamp `l` and the schedule `s`
 module _ (a : Answer) (f : Fed) (calls : List Call) (k : KeptFade a f calls) where

@@ -29,7 +29,9 @@ use Rattle.tasks.specs.InRange.{InRangeTask, InRangeRunning}
 use Rattle.lamp.specs.declared.Lamp.{Lamp}
 use Rattle.lamp.specs.Answers.{at_clock}
 use Rattle.matter.specs.Bounds.{lower, upper}
-use Rattle.lamp.specs.Calls.{hue_saturation_start, temperature_to_start, temperature_start, started, stepped}
+use Rattle.lamp.specs.Calls.{hue_saturation_start, temperature_to_start, temperature_start, started, stepped, with_bounds}
+use Rattle.color.specs.Bounded.{bounded}
+use Rattle.matter.specs.declared.limits.Bounds.{Bounds}
 use Rattle.lamp.specs.Valid.{lamp_valid}
 use Rattle.lamp.proofs.Kept.{valid-clock, valid-color}
 use Rattle.matter.specs.Rules.{signed}
@@ -183,3 +185,9 @@ started-in-range l (Task.ColorTemperatureMove task) before validity in_range t =
     validity
 started-in-range l (Task.ColorLoop task) before validity in_range t = loop-in-range l in_range _ (in_range.clock, in_range.hue, t) validity
 started-in-range l Task.Stop before validity in_range t = changed-in-range l in_range _ _ _ validity in_range.hue in_range.remaining tt
+
+-- new bounds keep widths
+pub with-bounds-in-range : (l : Lamp) (bounds : Bounds) → lamp_valid (with_bounds l bounds).lamp ≡ true → InRangeLamp l → InRangeBounds bounds → InRangeLamp (with_bounds l bounds).lamp
+unfolding bounded
+with-bounds-in-range l bounds validity in_range t =
+    in-range-of _ validity t in_range.hue in_range.loop_time in_range.loop_start in_range.loop_stored in_range.remaining in_range.options in_range.running

@@ -27,7 +27,7 @@ use Rattle.progress.proofs.Laws.{clamp-within}
 use Rattle.progress.specs.Progress.{permille_of, delta_at_rate, clamp, clamped_sum}
 use Rattle.color.specs.declared.Color.{Color}
 use Rattle.color.specs.Valid.{color_valid}
-use Rattle.color.proofs.Kept.{color-later, valid-saturation, valid-above, valid-below, hue-kept, saturation-kept, mireds-kept, enhanced_change}
+use Rattle.color.proofs.Kept.{color-later, valid-saturation, valid-above, valid-below, hue-kept, saturation-kept, mireds-kept, bounded-valid, enhanced_change}
 use Rattle.tasks.specs.declared.HueSaturationMoveTo.{HueSaturationMoveTo}
 use Rattle.tasks.specs.declared.ColorTemperatureMoveTo.{ColorTemperatureMoveTo}
 use Rattle.tasks.specs.declared.ColorTemperatureMove.{ColorTemperatureMove}
@@ -39,13 +39,13 @@ use Rattle.tasks.specs.declared.ColorTemperatureRun.{ColorTemperatureRun}
 use Rattle.tasks.specs.declared.ColorLoopRun.{ColorLoopRun}
 use Rattle.tasks.specs.declared.Running.{Running}
 use Rattle.tasks.specs.declared.Task.{Task}
-use Rattle.tasks.specs.Runs.{runs, loop_run, loop_running}
+use Rattle.tasks.specs.Runs.{runs, moves_mireds, loop_run, loop_running}
 use Rattle.tasks.specs.Valid.{time_valid, rate_valid, saturation_valid, move_to_valid, within_bounds, task_valid, running_valid}
 use Rattle.lamp.specs.declared.Lamp.{Lamp}
 use Rattle.lamp.specs.declared.Answer.{Answer}
 use Rattle.lamp.specs.Answers.{at_clock, bad_clock, first_cause, unchanged}
-use Rattle.matter.specs.Bounds.{lower, upper}
-use Rattle.lamp.specs.Calls.{full_written, start_permille, hue_saturation_start, temperature_to_start, temperature_start, started, stepped, choose, start_cause, step_cause, start_answer, step_answer, halt_answer}
+use Rattle.matter.specs.Bounds.{crossed, lower, upper}
+use Rattle.lamp.specs.Calls.{full_written, start_permille, hue_saturation_start, temperature_to_start, temperature_start, started, stepped, choose, start_cause, step_cause, start_answer, step_answer, halt_answer, with_bounds, bounds_cause, bounds_answer}
 use Rattle.lamp.specs.Valid.{lamp_valid}
 use Rattle.matter.specs.Rules.{signed}
 use Rattle.lamp.specs.declared.passes.Found.{Found}
@@ -96,6 +96,17 @@ running-later (Running.ColorTemperatureMove run) b c d e h =
     let (t, (m, (o, (p, (q, (z, tt)))))) = each _ e in
     all_of _ (t, (m, (o, (p, (q, (leb-later _ c d z h, tt))))))
 running-later (Running.ColorLoop direction hue seconds start) b c d e h = leb-later _ c d e h
+
+-- one that moves no mireds saves none: it is valid under any bounds
+running-bounded : (r : Running) (old new : Bounds) (c : ℕ) → moves_mireds r ≡ false → running_valid r old c ≡ true → running_valid r new c ≡ true
+unfolding running_valid
+running-bounded Running.Idle old new c m e = e
+running-bounded (Running.HueSaturationMoveTo run) old new c m e = e
+running-bounded (Running.HueMove run) old new c m e = e
+running-bounded (Running.SaturationMove run) old new c m e = e
+running-bounded (Running.ColorTemperatureMoveTo run) old new c m e = absurd (true≢false m)
+running-bounded (Running.ColorTemperatureMove run) old new c m e = absurd (true≢false m)
+running-bounded (Running.ColorLoop direction hue seconds start) old new c m e = e
 
 -- a valid lamp is valid at a later clock, up to the limit
 pub later-valid : (l : Lamp) (clock : ℕ) → lamp_valid l ≡ true → l.clock ≤ clock → clock ≤ clock_limit → lamp_valid (at_clock l clock) ≡ true
@@ -304,6 +315,18 @@ module _ (l : Lamp) (clock : ℕ) where
       let (h, k) = good-clock (no-first (bad_clock l clock) Refusal.Clock accepted (no-first (not (runs l.running)) Refusal.StepWhileIdle _ r).1).0 in
       later-valid l clock (not-false _ f) h k
 
+  -- accepted new bounds: ready, they are not crossed, and no mired task runs
+  pub bounds-ready : (bounds : Bounds) → bounds_cause l bounds clock ≡ accepted → (lamp_valid (at_clock l clock) ≡ true) × (crossed bounds ≡ false) × (moves_mireds l.running ≡ false)
+  bounds-ready bounds e =
+      let (f, t) = no-cause (first_cause l clock) _ e in
+      let (u, m) = no-first (crossed bounds) Refusal.CrossedBounds _ t in
+      (ready f, u, (no-first (moves_mireds l.running) Refusal.MiredTaskRuns accepted m).0)
+
+-- with new bounds that are not crossed, and no mired task, a lamp stays valid
+pub with-bounds-valid : (l : Lamp) (bounds : Bounds) → lamp_valid l ≡ true → crossed bounds ≡ false → moves_mireds l.running ≡ false → lamp_valid (with_bounds l bounds).lamp ≡ true
+with-bounds-valid l bounds h u m =
+    valid-of _ (valid-clock l h) (bounded-valid l.color l.bounds bounds l.clock (valid-color l h) u) (running-bounded l.running l.bounds bounds l.clock m (valid-running l h))
+
 -- ---- answers keep validity
 
 -- what holds of a refusal, and of the answer where there is no cause, holds of the one chosen
@@ -331,6 +354,14 @@ module _ (l : Lamp) (clock : ℕ) (validity : lamp_valid l ≡ true) where
   halt-valid =
       choose-both (λ a. lamp_valid a.lamp ≡ true) (first_cause l clock) l _
       (λ e. idled-valid (at_clock l clock) (ready l clock e))
+      (λ e. validity)
+
+  -- and that of new bounds
+  pub set-bounds-valid : (bounds : Bounds) → lamp_valid (bounds_answer l bounds clock).lamp ≡ true
+  unfolding bounds_answer
+  set-bounds-valid bounds =
+      choose-both (λ a. lamp_valid a.lamp ≡ true) (bounds_cause l bounds clock) l _
+      (λ e. let (h, u, m) = bounds-ready l clock bounds e in with-bounds-valid (at_clock l clock) bounds h u m)
       (λ e. validity)
 
 -- ---- what a start or step reports: few notices, none of them a command's

@@ -1,12 +1,17 @@
--- Starts, steps and halts: document 01, leaf 6, halt of "Added by design", and their rows of the table of causes.
+-- Starts, steps and halts: document 01, leaf 6, halt of "Added by design", and their rows of the table of causes. New
+-- bounds: document 02, A.9.
 use Rattle.std.specs.Prelude.{Option, Some, None, ℤ}
 use Rattle.std.specs.Prelude.{ℕ, ◌-◌, Bool, true, not, cond, ◌&&◌, ◌||◌, leb, eqb, is_ok, pos, nat_abs}
 use Rattle.matter.specs.Causes.{Verdict, accepted, clock_refused, invalid_task, step_while_idle, invalid_lamp}
-use Rattle.matter.specs.Bounds.{lower, upper}
-use Rattle.notices.specs.Notices.{noted}
+use Rattle.matter.specs.Causes.{crossed_bounds, mired_task_runs}
+use Rattle.matter.specs.declared.limits.Bounds.{Bounds}
+use Rattle.matter.specs.Bounds.{crossed, lower, upper}
+use Rattle.notices.specs.Notices.{only, noted}
+use Rattle.notices.specs.Names.{ColorTemperatureMireds}
 use Rattle.progress.specs.Progress.{permille_of, clamp}
 use Rattle.remaining_time.specs.declared.Written.{Written}
 use Rattle.remaining_time.specs.RemainingTime.{written_quietly}
+use Rattle.color.specs.Bounded.{mireds_move, bounded}
 use Rattle.tasks.specs.declared.HueSaturationMoveTo.{HueSaturationMoveTo}
 use Rattle.tasks.specs.declared.ColorTemperatureMoveTo.{ColorTemperatureMoveTo}
 use Rattle.tasks.specs.declared.ColorTemperatureMove.{ColorTemperatureMove}
@@ -15,7 +20,7 @@ use Rattle.tasks.specs.declared.ColorTemperatureToRun.{ColorTemperatureToRun}
 use Rattle.tasks.specs.declared.Task.{Task}
 use Rattle.tasks.specs.declared.Running.{Running}
 use Rattle.tasks.specs.Valid.{task_valid}
-use Rattle.tasks.specs.Runs.{runs, loop_run}
+use Rattle.tasks.specs.Runs.{runs, moves_mireds, loop_run}
 use Rattle.lamp.specs.declared.Lamp.{Lamp}
 use Rattle.lamp.specs.declared.Answer.{Answer}
 use Rattle.lamp.specs.declared.passes.Left.{Left}
@@ -137,3 +142,31 @@ step_answer l clock = choose (step_cause l clock) l (done (stepped (at_clock l c
 -- "halt, which only makes the lamp idle"; "halt 8, 4"
 unfoldable pub halt_answer : Lamp → ℕ → Answer
 halt_answer l clock = choose (first_cause l clock) l (done (idled (at_clock l clock)))
+
+-- "Crossed new bounds are refused with 5, after 8 and 4"; "18, a mired task is running, after 5"
+abbrev pub bounds_cause : Lamp → Bounds → ℕ → Verdict
+bounds_cause l bounds clock =
+    cond (is_ok (first_cause l clock))
+    (cond (crossed bounds) crossed_bounds (cond (moves_mireds l.running) mired_task_runs accepted))
+    (first_cause l clock)
+
+-- "with notice 5 alone", where the mireds move; "The wait is 0"
+abbrev pub with_bounds : Lamp → Bounds → Effect
+with_bounds l bounds =
+    record {
+      lamp =
+          record {
+            clock = l.clock;
+            bounds = bounds;
+            color = bounded l.color bounds l.clock;
+            looping = l.looping;
+            remaining = l.remaining;
+            options = l.options;
+            running = l.running;
+          };
+      reported = only (mireds_move l.color bounds) ColorTemperatureMireds;
+      wait = 0;
+    }
+
+unfoldable pub bounds_answer : Lamp → Bounds → ℕ → Answer
+bounds_answer l bounds clock = choose (bounds_cause l bounds clock) l (done (with_bounds (at_clock l clock) bounds))

@@ -26,3 +26,4 @@ InRangeCall (Call.Command r on_off clock) = InRangeRequest r × Clock clock
 InRangeCall (Call.Start task clock) = InRangeTask task × Clock clock
 InRangeCall (Call.Step clock) = Clock clock
 InRangeCall (Call.Halt clock) = Clock clock
+InRangeCall (Call.SetBounds bounds clock) = InRangeBounds bounds × Clock clock

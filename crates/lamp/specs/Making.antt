@@ -1,6 +1,7 @@
 -- Making: document 01, leaf 4, and the row of the table that has no lamp.
 use Rattle.std.specs.Prelude.{ℕ, false, cond, ltb, Option, Some, None, Result, Ok, Err}
 use Rattle.matter.specs.declared.limits.Bounds.{Bounds}
+use Rattle.matter.specs.Bounds.{crossed}
 use Rattle.matter.specs.declared.enums.ColorLoopDirectionEnum.{ColorLoopDirectionEnum}
 use Rattle.matter.specs.Causes.{Verdict, unless_refused, accepted, refusal_number, clock_refused, crossed_bounds}
 use Rattle.matter.specs.Limits.{clock_limit}
@@ -27,7 +28,7 @@ fresh_lamp bounds features options clock =
 -- why a making is refused: "making 4, 5, both with no lamp"
 abbrev pub making_cause : Bounds → ℕ → Verdict
 making_cause bounds clock =
-    cond (ltb clock_limit clock) clock_refused (cond (ltb bounds.max bounds.min) crossed_bounds accepted)
+    cond (ltb clock_limit clock) clock_refused (cond (crossed bounds) crossed_bounds accepted)
 
 unfoldable pub making : Bounds → ℕ → ℕ → ℕ → Result Lamp Refusal
 making bounds features options clock =
@@ -47,5 +48,5 @@ made_values (Err refusal) = record { number = refusal_number refusal; lamp = Non
 unfoldable pub making_values : Bounds → ℕ → ℕ → ℕ → MadeValues
 making_values bounds features options clock =
     cond (ltb clock_limit clock) (record { number = 4; lamp = None })
-    (cond (ltb bounds.max bounds.min) (record { number = 5; lamp = None })
+    (cond (crossed bounds) (record { number = 5; lamp = None })
     (record { number = 0; lamp = Some (fresh_lamp bounds features options clock) }))

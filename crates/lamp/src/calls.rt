@@ -6,7 +6,7 @@ ghost use Rattle.notices.proofs.Numerals.{Bytes};
 ghost use Rattle.color.specs.Setters.{change_reported};
 ghost use Rattle.tasks.specs.Valid.{move_to_valid, rate_valid, task_valid, running_valid};
 ghost use Rattle.matter.specs.Bounds.{lower, upper};
-ghost use Rattle.lamp.specs.Calls.{no_hue_delta, no_saturation_delta, start_permille, hue_saturation_start, temperature_to_start, temperature_start, started, stepped, done, start_answer, step_answer, halt_answer};
+ghost use Rattle.lamp.specs.Calls.{no_hue_delta, no_saturation_delta, start_permille, hue_saturation_start, temperature_to_start, temperature_start, started, stepped, done, start_answer, step_answer, halt_answer, bounds_cause, bounds_answer};
 ghost use Rattle.lamp.specs.Answers.{at_clock};
 ghost use Rattle.lamp.specs.Passes.{found_with, reported_behind, pass_reported, left_effect};
 
@@ -291,6 +291,46 @@ impl Lamp {
                 ..self
             },
             notices: Notices::new(),
+            task: None,
+            wait: 0,
+        }
+    }
+
+    // Why new bounds are refused: 8, 4, crossed bounds, a mired task that runs.
+    fn bounds_cause(self, bounds: Bounds, clock: u64) -> Result<(), Refusal>
+        ensures { result ≡ bounds_cause self bounds clock }
+    {
+        self.first_cause(clock)?;
+        if bounds.are_crossed() {
+            return Err(Refusal::CrossedBounds);
+        }
+        if self.running.moves_mireds() {
+            return Err(Refusal::MiredTaskRuns);
+        }
+        Ok(())
+    }
+
+    // New physical bounds. Mireds outside go to the nearer one and are reported; nothing is stored, and the device is not written.
+    #[tactic(auto, unfolding(crate::specs::Calls::bounds_answer))]
+    pub fn set_bounds(self, bounds: Bounds, clock: u64) -> Answer
+        ensures { result ≡ bounds_answer self bounds clock }
+    {
+        if let Err(cause) = self.bounds_cause(bounds, clock) {
+            return self.refused(cause);
+        }
+        let color = self.color.bounded(bounds, clock);
+        let is_moved = color.mireds != self.color.mireds;
+        Answer {
+            verdict: Ok(()),
+            lamp: Lamp {
+                clock,
+                bounds,
+                color,
+                ..self
+            },
+            notices: Numeral::new()
+                .note_if(is_moved, Notice::ColorTemperatureMireds)
+                .notices(),
             task: None,
             wait: 0,
         }

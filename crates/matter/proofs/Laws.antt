@@ -68,6 +68,7 @@ refusal-some Refusal.StepWhileIdle = omega arith
 refusal-some Refusal.InvalidLamp = omega arith
 refusal-some Refusal.ShortSlice = omega arith
 refusal-some Refusal.NoPlace = omega arith
+refusal-some Refusal.MiredTaskRuns = omega arith
 
 pub number-0 : (v : Verdict) → number_of v ≡ 0 → v ≡ accepted
 number-0 (Ok u) e = refl
@@ -82,7 +83,7 @@ of_number : ℕ → Verdict
 of_number =
     case_numbered refusal_number Err accepted
     (Refusal.ConstraintError ∷ Refusal.InvalidCommand ∷ Refusal.Clock ∷ Refusal.CrossedBounds ∷ Refusal.InvalidTask ∷ Refusal.StepWhileIdle
-    ∷ Refusal.InvalidLamp ∷ Refusal.ShortSlice ∷ Refusal.NoPlace ∷ [])
+    ∷ Refusal.InvalidLamp ∷ Refusal.ShortSlice ∷ Refusal.NoPlace ∷ Refusal.MiredTaskRuns ∷ [])
 
 back : (v : Verdict) → of_number (number_of v) ≡ v
 unfolding of_number
@@ -96,6 +97,7 @@ back (Err Refusal.StepWhileIdle) = refl
 back (Err Refusal.InvalidLamp) = refl
 back (Err Refusal.ShortSlice) = refl
 back (Err Refusal.NoPlace) = refl
+back (Err Refusal.MiredTaskRuns) = refl
 
 pub same_number : (v w : Verdict) → number_of v ≡ number_of w → v ≡ w
 same_number v w e = sym (back v) ∙ ap of_number e ∙ back w

@@ -10,7 +10,7 @@ refusal_number Refusal.ConstraintError = 1
 refusal_number Refusal.InvalidCommand = 2
 -- clock earlier than the lamp's, or above the limit
 refusal_number Refusal.Clock = 4
--- physical minimum above maximum at making
+-- physical minimum above maximum at making; document 02, A.9: "Crossed new bounds" too
 refusal_number Refusal.CrossedBounds = 5
 -- an invalid task
 refusal_number Refusal.InvalidTask = 6
@@ -22,6 +22,8 @@ refusal_number Refusal.InvalidLamp = 8
 refusal_number Refusal.ShortSlice = 9
 -- document 02, A.1: "10, place not in the row"
 refusal_number Refusal.NoPlace = 10
+-- document 02, A.9: "18, a mired task is running"
+refusal_number Refusal.MiredTaskRuns = 18
 
 -- of a call: that it is accepted, or its cause
 abbrev pub Verdict : Type 0
@@ -66,3 +68,6 @@ short_slice = Err Refusal.ShortSlice
 
 abbrev pub no_place : Verdict
 no_place = Err Refusal.NoPlace
+
+abbrev pub mired_task_runs : Verdict
+mired_task_runs = Err Refusal.MiredTaskRuns

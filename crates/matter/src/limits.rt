@@ -1,6 +1,6 @@
 // The limits that document 01 sets, and the physical bounds of a lamp.
 ghost use Rattle.std.specs.Prelude.{◌≡◌};
-ghost use Rattle.matter.specs.Bounds.{lower, upper};
+ghost use Rattle.matter.specs.Bounds.{crossed, lower, upper};
 
 // The largest clock, in milliseconds: a call with a later one is refused.
 pub const CLOCK_LIMIT: u64 = 1_099_511_627_776;
@@ -13,6 +13,13 @@ pub struct Bounds {
 }
 
 impl Bounds {
+    // The minimum above the maximum.
+    pub fn are_crossed(self) -> bool
+        ensures { result ≡ crossed self }
+    {
+        self.max < self.min
+    }
+
     // The larger minimum of a mired move or step: the limit, or the physical one.
     pub fn lower_limit(self, limit: u16) -> u16
         ensures { result ≡ lower self limit }

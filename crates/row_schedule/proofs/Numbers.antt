@@ -1,16 +1,18 @@
 -- From a valid row: the numbers that never occur, whatever the calls; and the row stays in range.
-use Prim.Native.Nat.{ℕ, ◌*◌, ◌<◌}
+use Prim.Native.Nat.{ℕ, ◌*◌, ◌≤◌, ◌<◌}
 use mathlib.Core.Bool.{Bool, true, false, cond, not, ◌||◌}
 use mathlib.Core.List.{List}
 use mathlib.Core.Path.{◌≡◌, sym, ap, ◌∙◌, subst}
 use native.Mathlib.Omega.{arith}
 use lib.Dec.{leb, ltb}
-use borrow.Author.Tests.{le-ltb, leb-true, leb-false}
+use borrow.Author.Tests.{le-ltb, leb-true, leb-false, ltb-true, ltb-false}
+use Rattle.matter.specs.Bounds.{crossed}
+use mathlib.Core.Logic.{inl, inr}
 use Rattle.matter.specs.Causes as causes
 use Rattle.matter.specs.Causes.{accepted, clock_refused, invalid_lamp, short_slice}
 use Rattle.matter.specs.Limits.{clock_limit}
 use Rattle.tasks.specs.Valid.{task_valid}
-use Rattle.tasks.specs.Runs.{runs}
+use Rattle.tasks.specs.Runs.{runs, moves_mireds}
 use Rattle.lamp.specs.declared.Lamp.{Lamp}
 use Rattle.lamp.specs.declared.Call.{Call}
 use Rattle.lamp.specs.Answers.{bad_clock}
@@ -50,6 +52,13 @@ valid-no-8 l (Call.Halt clock) v e =
     let t = table.halts l clock in
     either (bad_clock l clock) (λ b. omega (arith, t.halt-4 v b, e)) (λ b. omega (arith, t.halt-0 v b, e))
 
+valid-no-8 l (Call.SetBounds bounds clock) v e =
+    let t = table.bounds l clock bounds in
+    either (bad_clock l clock) (λ b. omega (arith, t.bounds-4 v b, e))
+    (λ b. either (crossed bounds) (λ u. omega (arith, t.bounds-5 v b (ltb-true _ _ u), e))
+    (λ u. let order : bounds.min ≤ bounds.max = ltb-false _ _ u in
+    either (moves_mireds l.running) (λ m. omega (arith, t.bounds-18 v b order m, e)) (λ m. omega (arith, t.bounds-0 v b order m, e))))
+
 -- the number of the answer to a call
 abbrev pub number_of : Row → RowCall → ℕ
 number_of r (each size clock) = causes.number_of (row_stepped r size clock).verdict
@@ -83,7 +92,8 @@ never-10 r ys k x v h e =
     let w = row-valid-after r ys v in
     let l = lamp_at (after_row r ys) k in
     let own = ((table-of-rows.places (after_row r ys) k x).own w.count (omega (arith, count-after r ys, h)) w.mask).verdict in
-    omega (arith, table.most l x, ap causes.number_of (number-is-cause l x), ap causes.number_of own, e)
+    let same : causes.number_of (cause l x) ≡ 10 = ap causes.number_of (sym (number-is-cause l x) ∙ sym own) ∙ e in
+    elim (table.most l x) [ inl h ↦ omega (arith, same) | inr h ↦ omega (arith, same, h.1) ]
 
 -- the widths of every lamp of the row
 abbrev pub InRangeRow : Row → Type 0

@@ -4,11 +4,12 @@ use mathlib.Core.Bool.{Bool, true, false, not, cond, ◌&&◌, ◌||◌}
 use mathlib.Core.Path.{◌≡◌, refl, sym, ◌∙◌, ap}
 use lib.Dec.{leb}
 use Rattle.std.specs.Prelude.{is_ok}
-use Rattle.matter.specs.Causes.{Verdict, accepted, clock_refused, invalid_task, step_while_idle}
+use Rattle.matter.specs.Causes.{Verdict, accepted, clock_refused, invalid_task, step_while_idle, crossed_bounds, mired_task_runs}
+use Rattle.matter.specs.Bounds.{crossed}
 use Rattle.matter.proofs.Laws.{accepted-of, refused-of}
 use Rattle.matter.specs.Limits.{clock_limit}
 use Rattle.tasks.specs.Valid.{task_valid}
-use Rattle.tasks.specs.Runs.{runs}
+use Rattle.tasks.specs.Runs.{runs, moves_mireds}
 use Rattle.lamp.specs.declared.Lamp.{Lamp}
 use Rattle.lamp.specs.declared.Answer.{Answer}
 use Rattle.lamp.specs.Answers.{bad_clock, first_cause}
@@ -31,6 +32,7 @@ grounds l (Call.Command r on_off clock) = (checks r.command).stop || is_ok (chec
 grounds l (Call.Start task clock) = task_valid task
 grounds l (Call.Step clock) = runs l.running
 grounds l (Call.Halt clock) = true
+grounds l (Call.SetBounds bounds clock) = not (crossed bounds) && not (moves_mireds l.running)
 
 bad-is : (l : Lamp) (clock : ℕ) → bad_clock l clock ≡ not (timely l.clock clock)
 bad-is l clock = grind (arith, nat_tests)
@@ -59,12 +61,20 @@ halt-table : (t : Bool) → is_ok (clock-table t) ≡ (t && true)
 halt-table true = refl
 halt-table false = refl
 
+bounds-table : (t crosses moves : Bool) → is_ok (cond (is_ok (clock-table t)) (cond crosses crossed_bounds (cond moves mired_task_runs accepted)) (clock-table t)) ≡ (t && (not crosses && not moves))
+bounds-table false crosses moves = refl
+bounds-table true true moves = refl
+bounds-table true false true = refl
+bounds-table true false false = refl
+
 table : (l : Lamp) (x : Call) → lamp_valid l ≡ true → is_ok (cause l x) ≡ (timely l.clock (clock_of x) && grounds l x)
 unfolding cause command_cause first_cause
 table l (Call.Command r on_off clock) f = rw (f, bad-is l clock) (command-table (timely l.clock clock) (checks r.command).stop (checks r.command).cause)
 table l (Call.Start task clock) f = rw (f, bad-is l clock) (start-table (timely l.clock clock) (task_valid task))
 table l (Call.Step clock) f = rw (f, bad-is l clock) (step-table (timely l.clock clock) (runs l.running))
 table l (Call.Halt clock) f = rw (f, bad-is l clock) (halt-table (timely l.clock clock))
+table l (Call.SetBounds bounds clock) f =
+    rw (f, bad-is l clock) (bounds-table (timely l.clock clock) (crossed bounds) (moves_mireds l.running))
 
 -- accepted where clock and grounds are good
 pub accepts-is : (l : Lamp) (x : Call) → lamp_valid l ≡ true → accepts l x ≡ (timely l.clock (clock_of x) && grounds l x)

@@ -136,6 +136,7 @@ step-open s (Call.Command asked on_off clock) e = never refl (sym e)
 step-open s (Call.Start task clock) e = never refl (sym e)
 step-open s (Call.Step clock) e = (not-true s.done (and_right (leb s.clock clock && leb clock clock_limit) _ e), takes-late s (Call.Step clock) e)
 step-open s (Call.Halt clock) e = never refl (sym e)
+step-open s (Call.SetBounds bounds clock) e = never refl (sym e)
 
 -- and leads to the place of its clock
 pub step_is : (f : Fed) (s : Shown) (x : Call) → step_taken s x ≡ true → followed f s x ≡ shown_at f (clock_of x)
@@ -143,6 +144,7 @@ step_is f s (Call.Command asked on_off clock) e = never refl (sym e)
 step_is f s (Call.Start task clock) e = never refl (sym e)
 step_is f s (Call.Step clock) e = taken f s (Call.Step clock) e
 step_is f s (Call.Halt clock) e = never refl (sym e)
+step_is f s (Call.SetBounds bounds clock) e = never refl (sym e)
 
 -- no other call changes whether it is done
 same-done : (s t : Shown) (b : Bool) → t.done ≡ s.done → (cond b t s).done ≡ s.done
@@ -154,6 +156,7 @@ other-is f s (Call.Command asked on_off clock) e = same-done s (when_taken f s (
 other-is f s (Call.Start task clock) e = same-done s (when_taken f s (Call.Start task clock)) (takes s (Call.Start task clock)) refl
 other-is f s (Call.Step clock) e = ap (λ (t : Shown). t.done) (refused f s (Call.Step clock) e)
 other-is f s (Call.Halt clock) e = same-done s (when_taken f s (Call.Halt clock)) (takes s (Call.Halt clock)) refl
+other-is f s (Call.SetBounds bounds clock) e = same-done s (when_taken f s (Call.SetBounds bounds clock)) (takes s (Call.SetBounds bounds clock)) refl
 
 module _ (f : Fed) (n : Sane f) (s : Shown) (r : Right f s) where
   taken-right : (x : Call) → takes s x ≡ true → Right f (when_taken f s x)
@@ -161,6 +164,7 @@ module _ (f : Fed) (n : Sane f) (s : Shown) (r : Right f s) where
   taken-right (Call.Start task clock) e = later-right f s clock r (takes-late s (Call.Start task clock) e)
   taken-right (Call.Step clock) e = at_right f n clock (le_trans r.since (takes-late s (Call.Step clock) e))
   taken-right (Call.Halt clock) e = later-right f s clock r (takes-late s (Call.Halt clock) e)
+  taken-right (Call.SetBounds bounds clock) e = later-right f s clock r (takes-late s (Call.SetBounds bounds clock) e)
 
   pub followed-right : (x : Call) → Right f (followed f s x)
   followed-right x = elim (cases_Bool (takes s x)) [ inl e ↦ rw e (taken-right x e) | inr e ↦ rw e r ]
@@ -170,6 +174,7 @@ module _ (f : Fed) (n : Sane f) (s : Shown) (r : Right f s) where
   taken-on (Call.Start task clock) e = le_refl (gone_of f s.hue)
   taken-on (Call.Step clock) e = let o = step-open s (Call.Step clock) e in at_on f n s clock r o.0 o.1
   taken-on (Call.Halt clock) e = le_refl (gone_of f s.hue)
+  taken-on (Call.SetBounds bounds clock) e = le_refl (gone_of f s.hue)
 
   -- over a call the way travelled never shrinks
   pub followed-on : (x : Call) → gone_of f s.hue ≤ gone_of f (followed f s x).hue

@@ -2,7 +2,7 @@
 use Rattle.std.proofs.lemmas.Bool.{cases_Bool}
 use Rattle.std.specs.Prelude.{Some}
 use Prim.Native.Nat.{ℕ, ◌-◌, ◌≤◌, ◌<◌, min}
-use mathlib.Core.Bool.{Bool, true, false, not, ◌&&◌, ◌||◌, and-true, or-false}
+use mathlib.Core.Bool.{Bool, true, false, not, cond, ◌&&◌, ◌||◌, and-true, or-false}
 use mathlib.Core.Logic.{inl, inr}
 use mathlib.Core.Path.{◌≡◌, refl, sym, ◌∙◌, ap, subst}
 use native.Mathlib.Nat.{sub_self, zero-div, le_refl}
@@ -11,17 +11,21 @@ use lib.Dec.{leb, eqb}
 use borrow.Author.Tests.{leb-true, ne_eqb, not-true}
 use Rattle.progress.specs.Progress.{permille_of}
 use Rattle.progress.proofs.Laws.{permille-full, permille-is}
-use Rattle.tasks.specs.Runs.{runs}
+use Rattle.tasks.specs.Runs.{runs, moves_mireds}
+use Rattle.color.specs.Bounded.{bounded}
 use Rattle.tasks.specs.declared.Running.{Running}
 use Rattle.lamp.specs.declared.Lamp.{Lamp}
 use Rattle.lamp.specs.declared.Answer.{Answer}
-use Rattle.lamp.specs.Answers.{at_clock}
+use Rattle.lamp.specs.Answers.{at_clock, bad_clock, first_cause}
+use Rattle.matter.specs.declared.limits.Bounds.{Bounds}
+use Rattle.matter.specs.Bounds.{crossed}
+use Rattle.matter.specs.Causes.{accepted, clock_refused, crossed_bounds}
 use Rattle.lamp.specs.Calls.{stepped, started, hue_saturation_start, start_permille, no_hue_delta}
 use Rattle.lamp.specs.Valid.{lamp_valid}
 use Rattle.lamp.specs.Passes.{hue_saturation_pass}
 use Rattle.lamp.proofs.Passed.{with_full_time}
 use Rattle.lamp.specs.declared.Call.{Call}
-use Rattle.commands.specs.Answers.{answer, is_loop_set}
+use Rattle.commands.specs.Answers.{cause, answer, is_loop_set}
 use Rattle.commands.proofs.Kept.{valid-kept, quiet-command}
 use Rattle.schedule.specs.Calls.{next, accepts, idle, accepted_step, interrupts}
 use Rattle.schedule.specs.Schedule.{task_of, time, delta_from, Fed, Shown, over, shown_at, own, takes, when_taken, followed}
@@ -47,6 +51,10 @@ not-runs-is : (f : Fed) (saturation : ℕ) (b : Bool) → not (runs (running_of 
 not-runs-is f saturation true = refl
 not-runs-is f saturation false = refl
 
+no-mireds : (f : Fed) (saturation : ℕ) (b : Bool) → moves_mireds (running_of f saturation b) ≡ false
+no-mireds f saturation true = refl
+no-mireds f saturation false = refl
+
 module _ {f : Fed} {l : Lamp} {s : Shown} (k : Fading f l s) where
   pub idle-is : idle l ≡ s.done
   idle-is = rw k.shows.running (not-runs-is f k.saturation s.done)
@@ -56,9 +64,17 @@ module _ {f : Fed} {l : Lamp} {s : Shown} (k : Fading f l s) where
   grounds-are (Call.Start task clock) = refl
   grounds-are (Call.Step clock) = rw k.shows.running (runs-is f k.saturation s.done)
   grounds-are (Call.Halt clock) = refl
+  grounds-are (Call.SetBounds bounds clock) = rw (k.shows.running, no-mireds f k.saturation s.done, and-true) refl
 
   pub accepts-takes : (x : Call) → accepts l x ≡ takes s x
   accepts-takes x = accepts-is l x k.valid ∙ rw (grounds-are x, k.shows.clock)
+
+-- new bounds meet neither an invalid lamp nor a mired task
+pub new-bounds-cause : {f : Fed} {l : Lamp} {s : Shown} → Fading f l s → (bounds : Bounds) (clock : ℕ) → cause l (Call.SetBounds bounds clock) ≡ cond (bad_clock l clock) clock_refused (cond (crossed bounds) crossed_bounds accepted)
+unfolding cause first_cause
+new-bounds-cause {f} {l} {s} k bounds clock =
+    rw (k.valid, k.shows.running, no-mireds f k.saturation s.done)
+    (elim (cases_Bool (bad_clock l clock)) [ inl e ↦ rw e refl | inr e ↦ rw e refl ])
 
 -- ---- one call
 
@@ -80,6 +96,7 @@ step-meets {f} {l} {s} k clock n d =
 
 module _ {f : Fed} {l : Lamp} {s : Shown} (k : Fading f l s) (n : Sane f) where
   accepted-shows : (x : Call) → not (interrupts x && accepts l x) ≡ true → accepts l x ≡ true → Shows f k.saturation (next l x) (when_taken f s x)
+  unfolding bounded
   accepted-shows (Call.Command r on_off clock) q a =
       let z : is_loop_set r.command ≡ false = not-true (is_loop_set r.command) (rw (a, and-true) at q) in
       rw (quiet-command l r on_off clock z (no-cause l (Call.Command r on_off clock) a))
@@ -89,6 +106,9 @@ module _ {f : Fed} {l : Lamp} {s : Shown} (k : Fading f l s) (n : Sane f) where
       let o = step-open s (Call.Step clock) (sym (accepts-takes k (Call.Step clock)) ∙ a) in
       rw (next, accepted-is l (Call.Step clock) a) (step-meets k clock n o.0).shows
   accepted-shows (Call.Halt clock) q a = never a (not-true (accepts l (Call.Halt clock)) q)
+  accepted-shows (Call.SetBounds bounds clock) q a =
+      rw (next, accepted-is l (Call.SetBounds bounds clock) a)
+      (record { clock = refl; hue = k.shows.hue; remaining = k.shows.remaining; running = k.shows.running })
 
   -- the lamp that a call leaves fades on as the schedule says
   pub fades-on : (x : Call) → not (interrupts x && accepts l x) ≡ true → Fading f (next l x) (followed f s x)
@@ -112,6 +132,7 @@ module _ {f : Fed} {l : Lamp} {s : Shown} (k : Fading f l s) (n : Sane f) where
       let t = sym (accepts-takes k (Call.Step clock)) ∙ e in
       rw (accepted-is l (Call.Step clock) e, t) (step-meets k clock n (step-open s (Call.Step clock) t).0).wait
   wait-is (Call.Halt clock) e = never refl (sym e)
+  wait-is (Call.SetBounds bounds clock) e = never refl (sym e)
 
 -- ---- the start
 

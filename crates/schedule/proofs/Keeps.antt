@@ -26,7 +26,7 @@ use Rattle.schedule.specs.Schedule.{HueCommand, as_request, target, time, task_o
 use Rattle.schedule.specs.Claim.{Keeps, KeepsAt, KeptFade, fed, Kept, Claim}
 use Rattle.schedule.proofs.Course.{Sane, followed-on, at_open, begins-done}
 use Rattle.schedule.proofs.Accepts.{timely, accepts-is, accepted-is}
-use Rattle.schedule.proofs.Fading.{Fading, idle-is, accepts-takes, fades-on, wait-is, Begins, begins}
+use Rattle.schedule.proofs.Fading.{Fading, idle-is, accepts-takes, fades-on, wait-is, Begins, begins, new-bounds-cause}
 use Rattle.schedule.proofs.Lists.{after_one, scheduled-one, quiet-front, quiet-back, quiet-call, in-range-split, valid-after, in-range-after}
 use Rattle.schedule.proofs.Pace.{fades-after, done-exactly, left, done-stays, pace-kept}
 
@@ -68,6 +68,7 @@ module _ (f : Fed) (n : Sane f) (a : Answer) (b : Begins f a) where
           end = λ e.
               let r = fading.right.ends (sym (idle-is fading) ∙ e) in
               (fading.shows.hue ∙ r.0, fading.shows.remaining ∙ r.1);
+          new_bounds = new-bounds-cause fading;
         }
 
     -- at a call that does not interrupt it

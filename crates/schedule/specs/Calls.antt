@@ -31,6 +31,7 @@ is_step (Call.Command r on_off clock) = false
 is_step (Call.Start task clock) = false
 is_step (Call.Step clock) = true
 is_step (Call.Halt clock) = false
+is_step (Call.SetBounds bounds clock) = false
 
 -- a start, a halt or a colour-loop command
 abbrev pub interrupts : Call → Bool
@@ -38,6 +39,7 @@ interrupts (Call.Command r on_off clock) = is_loop_set r.command
 interrupts (Call.Start task clock) = true
 interrupts (Call.Step clock) = false
 interrupts (Call.Halt clock) = true
+interrupts (Call.SetBounds bounds clock) = false
 
 -- "no other accepted start, halt or colour-loop command follows"
 unfoldable pub quiet : Lamp → List Call → Bool

@@ -6,13 +6,17 @@ use Rattle.std.specs.Prelude.{Some}
 use Rattle.std.specs.Prelude.{ℕ, ◌+◌, ◌≤◌, true, cond, ◌||◌, List, [], ◌∷◌, ◌++◌, ◌≡◌, eqb, pos, nat_abs}
 use Rattle.std.specs.Int.Signed.{le_z}
 use Rattle.matter.specs.declared.enums.OnOff.{OnOff}
+use Rattle.matter.specs.declared.limits.Bounds.{Bounds}
+use Rattle.matter.specs.Bounds.{crossed}
+use Rattle.matter.specs.Causes.{accepted, clock_refused, crossed_bounds}
 use Rattle.hue.specs.Hue.{distance}
 use Rattle.lamp.specs.declared.Lamp.{Lamp}
 use Rattle.lamp.specs.declared.Answer.{Answer}
 use Rattle.lamp.specs.Valid.{lamp_valid}
 use Rattle.lamp.specs.declared.Call.{Call}
 use Rattle.lamp.specs.InRange.{InRangeLamp}
-use Rattle.commands.specs.Answers.{answer, allowed}
+use Rattle.lamp.specs.Answers.{bad_clock}
+use Rattle.commands.specs.Answers.{cause, answer, allowed}
 use Rattle.schedule.specs.Calls.{next, after, accepts, idle, InRangeCalls, quiet, accepted_step, steps, reached}
 use Rattle.schedule.specs.Calls.{paced}
 use Rattle.schedule.specs.Schedule.{HueCommand, as_request, target, delta_from, time, task_of, Fed, Shown, takes}
@@ -49,6 +53,9 @@ pub record Keeps (a : Answer) (f : Fed) (ys : List Call) : Type 0 where
   -- (g) "At done, the hue is the target and the remaining time 0"
   pub end : idle (after a.lamp ys) ≡ true →
       ((after a.lamp ys).color.hue ≡ target f.fade) × ((after a.lamp ys).remaining.tenths ≡ 0)
+  -- document 02, A.9: new bounds can be refused with 4 or 5, never with 8 or 18
+  pub new_bounds : (bounds : Bounds) (clock : ℕ) → cause (after a.lamp ys) (Call.SetBounds bounds clock)
+      ≡ cond (bad_clock (after a.lamp ys) clock) clock_refused (cond (crossed bounds) crossed_bounds accepted)
 
 -- at the call `x` that comes after those
 pub record KeepsAt (a : Answer) (f : Fed) (ys : List Call) (x : Call) : Type 0 where

@@ -9,6 +9,7 @@ use Rattle.matter.specs.declared.commands.Request.{Request}
 use Rattle.matter.specs.Requests.{request}
 use Rattle.matter.specs.declared.enums.DirectionEnum.{DirectionEnum}
 use Rattle.matter.specs.Limits.{clock_limit}
+use Rattle.matter.specs.Bounds.{crossed}
 use Rattle.hue.specs.Hue.{path_delta, moved_hue}
 use Rattle.progress.specs.Progress.{permille_of, part_of, tenths_of}
 use Rattle.tasks.specs.declared.Task.{Task}
@@ -96,6 +97,7 @@ own (Call.Command r on_off clock) done = (checks r.command).stop || is_ok (check
 own (Call.Start task clock) done = task_valid task
 own (Call.Step clock) done = not done
 own (Call.Halt clock) done = true
+own (Call.SetBounds bounds clock) done = not (crossed bounds)
 
 abbrev pub takes : Shown → Call → Bool
 takes s x = (leb s.clock (clock_of x) && leb (clock_of x) clock_limit) && own x s.done
@@ -108,6 +110,8 @@ when_taken f s (Call.Start task clock) =
     record { clock = clock; hue = s.hue; remaining = s.remaining; wait = s.wait; done = s.done }
 when_taken f s (Call.Step clock) = shown_at f clock
 when_taken f s (Call.Halt clock) =
+    record { clock = clock; hue = s.hue; remaining = s.remaining; wait = s.wait; done = s.done }
+when_taken f s (Call.SetBounds bounds clock) =
     record { clock = clock; hue = s.hue; remaining = s.remaining; wait = s.wait; done = s.done }
 
 abbrev pub followed : Fed → Shown → Call → Shown

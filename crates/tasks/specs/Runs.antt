@@ -1,4 +1,4 @@
--- Whether a record runs: every one but idle; and the colour loop's record as what runs.
+-- Whether a record runs, which is every one but idle, and whether it moves the mireds; the colour loop's record as what runs.
 use Rattle.std.specs.Prelude.{ℕ, Bool, true, false}
 use Rattle.matter.specs.declared.enums.ColorLoopDirectionEnum.{ColorLoopDirectionEnum}
 use Rattle.tasks.specs.declared.ColorLoopRun.{ColorLoopRun}
@@ -12,6 +12,16 @@ runs (Running.SaturationMove run) = true
 runs (Running.ColorTemperatureMoveTo run) = true
 runs (Running.ColorTemperatureMove run) = true
 runs (Running.ColorLoop direction hue seconds start) = true
+
+-- document 02, A.9: whether "a mired task is running"
+abbrev pub moves_mireds : Running → Bool
+moves_mireds Running.Idle = false
+moves_mireds (Running.HueSaturationMoveTo run) = false
+moves_mireds (Running.HueMove run) = false
+moves_mireds (Running.SaturationMove run) = false
+moves_mireds (Running.ColorTemperatureMoveTo run) = true
+moves_mireds (Running.ColorTemperatureMove run) = true
+moves_mireds (Running.ColorLoop direction hue seconds start) = false
 
 -- the colour loop's record of its four numbers
 abbrev pub loop_run : ColorLoopDirectionEnum → ℕ → ℕ → ℕ → ColorLoopRun

@@ -5,7 +5,7 @@
 
 ghost use Rattle.std.specs.Prelude.{◌≡◌};
 ghost use Rattle.tasks.specs.Valid.{time_valid, delta_valid, saturation_valid, moves, within_bounds, rate_valid, move_to_valid, move_valid, hue_move_valid, saturation_move_valid, task_valid, running_valid};
-ghost use Rattle.tasks.specs.Runs.{runs, loop_running};
+ghost use Rattle.tasks.specs.Runs.{runs, moves_mireds, loop_running};
 
 use matter::{Bounds, ColorLoopDirectionEnum, MoveModeEnum};
 
@@ -247,6 +247,16 @@ impl Running {
         ensures { result ≡ runs self }
     {
         !matches!(self, Running::Idle)
+    }
+
+    // Whether a mired task runs.
+    pub fn moves_mireds(self) -> bool
+        ensures { result ≡ moves_mireds self }
+    {
+        matches!(
+            self,
+            Running::ColorTemperatureMoveTo(_) | Running::ColorTemperatureMove(_)
+        )
     }
 
     // Whether a lamp with these bounds and this clock can be valid with this record.
