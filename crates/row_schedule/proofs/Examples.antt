@@ -8,15 +8,16 @@ use lib.ListN.{replicate}
 use lib.IntN.{pos, neg_ℤ}
 use Rattle.matter.specs.All.{all_true}
 use Rattle.hue.specs.Hue.{moved_hue}
-use Rattle.progress.specs.Progress.{permille_of}
+use Rattle.progress.specs.Progress.{permille_of, clamp}
 use Rattle.color.specs.Valid.{color_valid}
 use Rattle.color.specs.Setters.{hue_set}
+use Rattle.color.specs.Bounded.{bounded}
 use Rattle.tasks.specs.declared.Task.{Task}
 use Rattle.tasks.specs.Valid.{move_to_valid, task_valid, running_valid}
 use Rattle.lamp.specs.declared.Lamp.{Lamp}
 use Rattle.lamp.specs.declared.Call.{Call}
 use Rattle.lamp.specs.Answers.{first_cause}
-use Rattle.lamp.specs.Calls.{hue_saturation_start, started, stepped, start_answer, step_answer, halt_answer}
+use Rattle.lamp.specs.Calls.{hue_saturation_start, started, stepped, start_answer, step_answer, halt_answer, bounds_answer}
 use Rattle.lamp.specs.Valid.{lamp_valid}
 use Rattle.lamp.specs.Passes.{hue_saturation_moved, timed}
 use Rattle.commands.specs.Answers.{answer}
@@ -52,13 +53,14 @@ abbrev pub hues : Row → List ℕ
 hues r = map (λ (l : Lamp). l.color.hue) (placed r)
 
 -- one row call turns all ten; two fades begun 50 ms apart, where a row call by the first one's wait is early for the second and one
--- before the second's start is refused; a neighbour started and halted in between leaves the others as they were
+-- before the second's start is refused, new bounds of the first lamp between leave both as they were; a neighbour started and halted in between leaves the others as they were
 pub turns :
     (hues (after_row ten (starts 10 0 ++ (each 160 5100 ∷ []))) ≡ replicate 10 49152)
     × (hues (after_row two (fifty_apart (each 32 5100 ∷ []))) ≡ 49152 ∷ 57344 ∷ [])
+    × (hues (after_row two (fifty_apart (at 0 (Call.SetBounds (record { min = 300; max = 600 }) 5060) ∷ each 32 5100 ∷ []))) ≡ 49152 ∷ 57344 ∷ [])
     × (hues (after_row ten (starts 9 0 ++ (at 9 (Call.Start down 5000) ∷ at 9 (Call.Halt 5000) ∷ each 160 5200 ∷ []))) ≡ replicate 9 32768 ++ (0 ∷ []))
-unfolding after_row row_stepped row_cause answered_at place_cause visited answer start_answer step_answer halt_answer first_cause started stepped hue_saturation_start hue_saturation_moved timed task_valid move_to_valid lamp_valid color_valid running_valid hue_set permille_of moved_hue all_true
-turns = (refl, refl, refl)
+unfolding after_row row_stepped row_cause answered_at place_cause visited answer start_answer step_answer halt_answer bounds_answer first_cause started stepped hue_saturation_start hue_saturation_moved timed task_valid move_to_valid lamp_valid color_valid running_valid hue_set bounded clamp permille_of moved_hue all_true
+turns = (refl, refl, refl, refl)
 
 -- the waits that the calls ask for
 abbrev waits : Row → List RowCall → List ℕ

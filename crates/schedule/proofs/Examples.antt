@@ -20,7 +20,7 @@ use Rattle.matter.specs.Flags.{has_flag}
 use Rattle.matter.specs.InRange.{InRangeCommand, InRangeRequest}
 use Rattle.matter.specs.Requests.{request}
 use Rattle.hue.specs.Hue.{distance, path_delta, is_tie, moved_hue}
-use Rattle.progress.specs.Progress.{permille_of}
+use Rattle.progress.specs.Progress.{permille_of, clamp}
 use Rattle.color.specs.Valid.{color_valid}
 use Rattle.color.specs.Setters.{hue_set}
 use Rattle.tasks.specs.declared.Running.{Running}
@@ -28,7 +28,8 @@ use Rattle.tasks.specs.declared.Task.{Task}
 use Rattle.tasks.specs.Valid.{move_to_valid, task_valid, running_valid}
 use Rattle.lamp.specs.declared.Lamp.{Lamp}
 use Rattle.lamp.specs.Answers.{first_cause}
-use Rattle.lamp.specs.Calls.{hue_saturation_start, started, stepped, start_answer, step_answer, halt_answer}
+use Rattle.lamp.specs.Calls.{hue_saturation_start, started, stepped, start_answer, step_answer, halt_answer, bounds_answer}
+use Rattle.color.specs.Bounded.{bounded}
 use Rattle.lamp.specs.Valid.{lamp_valid}
 use Rattle.lamp.specs.Passes.{hue_saturation_moved, timed}
 use Rattle.lamp.specs.declared.Call.{Call}
@@ -127,6 +128,10 @@ among_others =
           ∷ Call.Command (request (Command.MoveToHue 254 DirectionEnum.Shortest 1) plain) OnOff.Off 5270
           -- accepted: a mired step whose limits cross
           ∷ Call.Command (request (Command.StepColorTemperature StepModeEnum.Up 10 1 400 300) plain) OnOff.On 5280
+          -- accepted: new bounds, above the mireds
+          ∷ Call.SetBounds (record { min = 300; max = 600 }) 5285
+          -- refused: crossed ones
+          ∷ Call.SetBounds (record { min = 600; max = 300 }) 5290
           -- refused: past the limit
           ∷ Call.Halt 1_099_511_627_777
           -- far behind the time
@@ -179,7 +184,7 @@ meets e in_range_lamp in_range_calls valid accepted may_execute started undistur
     }
 
 pub all_meet : Premised pace_kept × Premised no_delta × Premised no_time × Premised past_zero × Premised among_others
-unfolding after quiet answer command_cause command_answer first_cause lamp_valid all_true color_valid running_valid move_to_valid task_valid command_effect start_answer step_answer halt_answer started stepped hue_saturation_start hue_saturation_moved timed hue_set permille_of path_delta is_tie distance moved_hue has_flag
+unfolding after quiet answer command_cause command_answer first_cause lamp_valid all_true color_valid running_valid move_to_valid task_valid command_effect start_answer step_answer halt_answer bounds_answer started stepped hue_saturation_start hue_saturation_moved timed hue_set bounded clamp permille_of path_delta is_tie distance moved_hue has_flag
 all_meet = (
   record {
     others = meets _ (in-range-lamp 0 (lit< tt))
@@ -207,7 +212,7 @@ all_meet = (
   },
   record {
     others = meets _ (in-range-lamp 60000 (lit< tt))
-        (lit< tt, (lit< tt, ((in-range-plain _ (lit< tt, lit< tt), lit< tt), ((in-range-plain _ (lit< tt, lit< tt), lit< tt), ((record { delta = lit< tt; saturation = tt; ms = lit< tt }, lit< tt), (lit< tt, (lit< tt, ((in-range-plain _ (lit< tt, lit< tt), lit< tt), ((in-range-plain _ (lit< tt), lit< tt), ((tt, lit< tt), ((in-range-plain _ (lit< tt, lit< tt, lit< tt), lit< tt), ((in-range-plain _ (lit< tt, lit< tt), lit< tt), ((in-range-plain _ (lit< tt, lit< tt, lit< tt, lit< tt), lit< tt), (lit< tt, (lit< tt, (lit< tt, tt))))))))))))))))
+        (lit< tt, (lit< tt, ((in-range-plain _ (lit< tt, lit< tt), lit< tt), ((in-range-plain _ (lit< tt, lit< tt), lit< tt), ((record { delta = lit< tt; saturation = tt; ms = lit< tt }, lit< tt), (lit< tt, (lit< tt, ((in-range-plain _ (lit< tt, lit< tt), lit< tt), ((in-range-plain _ (lit< tt), lit< tt), ((tt, lit< tt), ((in-range-plain _ (lit< tt, lit< tt, lit< tt), lit< tt), ((in-range-plain _ (lit< tt, lit< tt), lit< tt), ((in-range-plain _ (lit< tt, lit< tt, lit< tt, lit< tt), lit< tt), ((record { min = lit< tt; max = lit< tt }, lit< tt), ((record { min = lit< tt; max = lit< tt }, lit< tt), (lit< tt, (lit< tt, (lit< tt, tt))))))))))))))))))
         refl refl refl refl refl;
     hue = refl;
   },
@@ -215,7 +220,7 @@ all_meet = (
 
 -- and each accepted step comes at or after the wait that was asked
 pub all-wait : map waits_kept examples ≡ true ∷ true ∷ true ∷ true ∷ true ∷ []
-unfolding paced after answer command_cause command_answer first_cause lamp_valid all_true color_valid running_valid move_to_valid task_valid command_effect start_answer step_answer halt_answer started stepped hue_saturation_start hue_saturation_moved timed hue_set permille_of path_delta is_tie distance moved_hue has_flag
+unfolding paced after answer command_cause command_answer first_cause lamp_valid all_true color_valid running_valid move_to_valid task_valid command_effect start_answer step_answer halt_answer bounds_answer started stepped hue_saturation_start hue_saturation_moved timed hue_set bounded clamp permille_of path_delta is_tie distance moved_hue has_flag
 all-wait = refl
 
 -- ---- what their lamps show, from the start on
@@ -226,12 +231,13 @@ pub all-show : map shown examples ≡
     ∷ (seen 2560 0 true ∷ seen 2560 0 true ∷ [])
     ∷ (seen 1000 4 false ∷ seen 500 3 false ∷ seen 0 2 false ∷ seen 65036 1 false ∷ seen 64536 0 true ∷ [])
     ∷ (seen 60000 10 false ∷ seen 60653 9 false ∷ seen 60653 9 false ∷ seen 60653 9 false ∷ seen 60653 9 false ∷ seen 60653 9 false
-    ∷ seen 60653 9 false ∷ seen 60653 9 false ∷ seen 60653 9 false ∷ seen 60653 9 false ∷ seen 1000 0 true ∷ seen 1000 0 true ∷ [])
+    ∷ seen 60653 9 false ∷ seen 60653 9 false ∷ seen 60653 9 false ∷ seen 60653 9 false ∷ seen 60653 9 false ∷ seen 60653 9 false
+    ∷ seen 1000 0 true ∷ seen 1000 0 true ∷ [])
     ∷ []
-unfolding observations after answer command_cause command_answer first_cause lamp_valid all_true color_valid running_valid move_to_valid task_valid command_effect start_answer step_answer halt_answer started stepped hue_saturation_start hue_saturation_moved timed hue_set permille_of path_delta is_tie distance moved_hue has_flag
+unfolding observations after answer command_cause command_answer first_cause lamp_valid all_true color_valid running_valid move_to_valid task_valid command_effect start_answer step_answer halt_answer bounds_answer started stepped hue_saturation_start hue_saturation_moved timed hue_set bounded clamp permille_of path_delta is_tie distance moved_hue has_flag
 all-show = refl
 
 -- as many steps as tenths, where each comes as soon as it may
 pub all_take : map steps_taken examples ≡ 2 ∷ 0 ∷ 0 ∷ 4 ∷ 2 ∷ []
-unfolding steps after answer command_cause command_answer first_cause lamp_valid all_true color_valid running_valid move_to_valid task_valid command_effect start_answer step_answer halt_answer started stepped hue_saturation_start hue_saturation_moved timed hue_set permille_of path_delta is_tie distance moved_hue has_flag
+unfolding steps after answer command_cause command_answer first_cause lamp_valid all_true color_valid running_valid move_to_valid task_valid command_effect start_answer step_answer halt_answer bounds_answer started stepped hue_saturation_start hue_saturation_moved timed hue_set bounded clamp permille_of path_delta is_tie distance moved_hue has_flag
 all_take = refl

@@ -5,3 +5,4 @@ pub mod Runs
 pub mod Busy
 pub mod Validity
 pub mod Making
+pub mod NewBounds
