@@ -2,7 +2,7 @@
 use Rattle.std.specs.Prelude.{Some, None}
 use Prim.Native.Nat.{ℕ}
 use mathlib.Core.Bool.{false}
-use mathlib.Core.List.{List, [], ◌∷◌}
+use mathlib.Core.List.{List, [], ◌∷◌, map}
 use mathlib.Core.Path.{◌≡◌, refl}
 use lib.IntN.{pos}
 use lib.ListN.{take}
@@ -13,23 +13,24 @@ use Rattle.matter.specs.Requests.{request, options}
 use Rattle.matter.specs.Rules.{default_color_mode}
 use Rattle.matter.specs.declared.commands.Command.{Command}
 use Rattle.matter.specs.declared.enums.MoveModeEnum.{MoveModeEnum}
+use Rattle.matter.specs.declared.enums.ColorLoopDirectionEnum.{ColorLoopDirectionEnum}
 use Rattle.matter.specs.declared.enums.OnOff.{OnOff}
 use Rattle.notices.specs.Notices.{filled}
 use Rattle.remaining_time.specs.RemainingTime.{reported}
 use Rattle.hue.specs.Hue.{moved_hue}
-use Rattle.progress.specs.Progress.{permille_of, clamp}
+use Rattle.progress.specs.Progress.{permille_of, clamp, loop_turn, snapped}
 use Rattle.color.specs.Bounded.{bounded}
-use Rattle.color.specs.Setters.{hue_set, mireds_set}
+use Rattle.color.specs.Setters.{hue_set, saturation_set, mireds_set}
 use Rattle.color.specs.Valid.{color_valid}
 use Rattle.tasks.specs.declared.Task.{Task}
-use Rattle.tasks.specs.Valid.{move_to_valid, task_valid, running_valid}
+use Rattle.tasks.specs.Valid.{hue_move_valid, saturation_move_valid, move_to_valid, task_valid, running_valid}
 use Rattle.lamp.specs.declared.Answer.{Answer}
 use Rattle.lamp.specs.declared.Call.{Call}
 use Rattle.lamp.specs.declared.Lamp.{Lamp}
 use Rattle.lamp.specs.Answers.{first_cause}
 use Rattle.lamp.specs.Calls.{hue_saturation_start, temperature_to_start, temperature_start, started, stepped, start_answer, step_answer, bounds_answer}
 use Rattle.lamp.specs.Making.{fresh_lamp}
-use Rattle.lamp.specs.Passes.{hue_saturation_moved, temperature_passed, temperature_to_moved, timed}
+use Rattle.lamp.specs.Passes.{hue_saturation_moved, hue_passed, saturation_passed, loop_passed, temperature_passed, temperature_to_moved, timed}
 use Rattle.lamp.specs.Valid.{lamp_valid}
 use Rattle.commands.specs.Answers.{command_answer, command_cause, answer}
 use Rattle.commands.specs.Commands.{command_effect}
@@ -70,6 +71,19 @@ up_task = Task.ColorTemperatureMove (record { rate = pos 100; min = 153; max = 5
 abbrev pub to_500 : Task
 to_500 = Task.ColorTemperatureMoveTo (record { ms = 1000; target = 500 })
 
+-- tasks that move no mireds
+abbrev pub hue_move : Task
+hue_move = Task.HueMove (record { rate = 256; direction = MoveModeEnum.Up; enhanced = false })
+
+abbrev pub saturation_move : Task
+saturation_move = Task.SaturationMove (record { rate = 10; direction = MoveModeEnum.Up })
+
+abbrev pub loop : Task
+loop = Task.ColorLoop (record { direction = ColorLoopDirectionEnum.Increment; seconds = 25 })
+
+abbrev pub saturation_to : Task
+saturation_to = Task.HueSaturationMoveTo (record { delta = None; ms = 1000; saturation = Some 100; enhanced = false })
+
 pub record NewBoundsReported : Type 0 where
   -- 4 before 5 before 18, and 18 whatever the bounds
   pub order :
@@ -79,6 +93,11 @@ pub record NewBoundsReported : Type 0 where
   pub moves :
       seen_along made (set_to 300 500 5000 ∷ set_to 301 500 5001 ∷ set_to 301 400 5002 ∷ set_to 0 280 5003 ∷ set_to 0 0 5004 ∷ set_to 65535 65535 5005 ∷ [])
       ≡ (0, 5 ∷ [], 300, 5000) ∷ (0, 5 ∷ [], 301, 5001) ∷ (0, [], 301, 5001) ∷ (0, 5 ∷ [], 280, 5003) ∷ (0, 5 ∷ [], 0, 5004) ∷ (0, 5 ∷ [], 65535, 5005) ∷ []
+  -- only a mired task stands in the way: the numbers of new bounds behind a start of each other kind, and of both kinds of mired
+  -- task
+  pub others :
+      map (λ (task : Task). number_of (answer (answer made (Call.Start task 5000)).lamp (set_to 600 700 5000)).verdict)
+      (hue_move ∷ saturation_move ∷ loop ∷ saturation_to ∷ up_task ∷ to_400 ∷ []) ≡ 0 ∷ 0 ∷ 0 ∷ 0 ∷ 18 ∷ 18 ∷ []
   -- a fade of the hue runs on
   pub fades :
       seen_along made (Call.Start (Task.HueSaturationMoveTo (record { delta = Some (pos 100); ms = 1000; saturation = None; enhanced = false })) 5000 ∷ set_to 600 700 5000 ∷ Call.Step 5100 ∷ [])
@@ -95,6 +114,6 @@ pub record NewBoundsReported : Type 0 where
       ≡ (0, 17 ∷ [], 250, 0) ∷ (0, [], 250, 0) ∷ (0, 16 ∷ [], 250, 0) ∷ (0, 13 ∷ 5 ∷ 6 ∷ 7 ∷ 14 ∷ 16 ∷ 1 ∷ [], 400, 6000) ∷ []
 
 pub new-bounds-reported : NewBoundsReported
-unfolding answer command_answer command_cause command_effect start_answer step_answer bounds_answer started stepped first_cause hue_saturation_start temperature_to_start temperature_start lamp_valid color_valid running_valid task_valid move_to_valid all_true has_flag default_color_mode hue_saturation_moved temperature_to_moved temperature_passed timed hue_set mireds_set bounded clamp permille_of moved_hue reported filled
+unfolding answer command_answer command_cause command_effect start_answer step_answer bounds_answer started stepped first_cause hue_saturation_start temperature_to_start temperature_start lamp_valid color_valid running_valid task_valid move_to_valid all_true has_flag default_color_mode hue_saturation_moved temperature_to_moved temperature_passed timed hue_set mireds_set bounded clamp permille_of moved_hue reported filled hue_move_valid hue_passed saturation_move_valid saturation_passed loop_passed saturation_set loop_turn snapped
 new-bounds-reported =
-    record { order = refl; moves = refl; fades = refl; rate_task = refl; rate = refl; target_task = refl; target = refl }
+    record { order = refl; moves = refl; others = refl; fades = refl; rate_task = refl; rate = refl; target_task = refl; target = refl }
