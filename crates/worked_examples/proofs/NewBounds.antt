@@ -17,7 +17,7 @@ use Rattle.matter.specs.declared.enums.ColorLoopDirectionEnum.{ColorLoopDirectio
 use Rattle.matter.specs.declared.enums.OnOff.{OnOff}
 use Rattle.notices.specs.Notices.{filled}
 use Rattle.remaining_time.specs.RemainingTime.{reported}
-use Rattle.hue.specs.Hue.{moved_hue}
+use Rattle.hue.specs.Hue.{distance, path_delta, is_tie, moved_hue}
 use Rattle.progress.specs.Progress.{permille_of, clamp, loop_turn, snapped}
 use Rattle.color.specs.Bounded.{bounded}
 use Rattle.color.specs.Setters.{hue_set, saturation_set, mireds_set}
@@ -33,7 +33,9 @@ use Rattle.lamp.specs.Making.{fresh_lamp}
 use Rattle.lamp.specs.Passes.{hue_saturation_moved, hue_passed, saturation_passed, loop_passed, temperature_passed, temperature_to_moved, timed}
 use Rattle.lamp.specs.Valid.{lamp_valid}
 use Rattle.commands.specs.Answers.{command_answer, command_cause, answer}
-use Rattle.commands.specs.Commands.{command_effect}
+use Rattle.commands.specs.Commands.{activated, loop_set, command_effect}
+use Rattle.commands.specs.NewBounds.{with_mireds}
+use Rattle.worked_examples.specs.Cases.{next, busy}
 
 -- ---- what a call is answered with: its number, its notices, and the mireds and their stamp after it
 
@@ -98,6 +100,8 @@ pub record NewBoundsReported : Type 0 where
   pub others :
       map (λ (task : Task). number_of (answer (answer made (Call.Start task 5000)).lamp (set_to 600 700 5000)).verdict)
       (hue_move ∷ saturation_move ∷ loop ∷ saturation_to ∷ up_task ∷ to_400 ∷ []) ≡ 0 ∷ 0 ∷ 0 ∷ 0 ∷ 18 ∷ 18 ∷ []
+  -- the whole answer, of a lamp that runs with its loop active and 6 tenths left
+  pub whole : answer busy (set_to 300 400 5600) ≡ with_mireds busy (record { min = 300; max = 400 }) 5600 300 5600 (5 ∷ [])
   -- a fade of the hue runs on
   pub fades :
       seen_along made (Call.Start (Task.HueSaturationMoveTo (record { delta = Some (pos 100); ms = 1000; saturation = None; enhanced = false })) 5000 ∷ set_to 600 700 5000 ∷ Call.Step 5100 ∷ [])
@@ -114,6 +118,6 @@ pub record NewBoundsReported : Type 0 where
       ≡ (0, 17 ∷ [], 250, 0) ∷ (0, [], 250, 0) ∷ (0, 16 ∷ [], 250, 0) ∷ (0, 13 ∷ 5 ∷ 6 ∷ 7 ∷ 14 ∷ 16 ∷ 1 ∷ [], 400, 6000) ∷ []
 
 pub new-bounds-reported : NewBoundsReported
-unfolding answer command_answer command_cause command_effect start_answer step_answer bounds_answer started stepped first_cause hue_saturation_start temperature_to_start temperature_start lamp_valid color_valid running_valid task_valid move_to_valid all_true has_flag default_color_mode hue_saturation_moved temperature_to_moved temperature_passed timed hue_set mireds_set bounded clamp permille_of moved_hue reported filled hue_move_valid hue_passed saturation_move_valid saturation_passed loop_passed saturation_set loop_turn snapped
+unfolding answer command_answer command_cause command_effect start_answer step_answer bounds_answer started stepped first_cause hue_saturation_start temperature_to_start temperature_start lamp_valid color_valid running_valid task_valid move_to_valid all_true has_flag default_color_mode hue_saturation_moved temperature_to_moved temperature_passed timed hue_set mireds_set bounded clamp permille_of moved_hue reported filled hue_move_valid hue_passed saturation_move_valid saturation_passed loop_passed saturation_set loop_turn snapped next loop_set activated path_delta distance is_tie
 new-bounds-reported =
-    record { order = refl; moves = refl; others = refl; fades = refl; rate_task = refl; rate = refl; target_task = refl; target = refl }
+    record { order = refl; moves = refl; others = refl; whole = refl; fades = refl; rate_task = refl; rate = refl; target_task = refl; target = refl }
