@@ -19,7 +19,7 @@ enum {
     YEMKRUOS_ANSWER_WORDS = 25
 };
 
-/* The kinds of calls: a command's number in the cluster, and the last three. */
+/* The kinds of calls: a command's number in the cluster, and the last four. */
 enum {
     YEMKRUOS_MOVE_TO_HUE = 0,
     YEMKRUOS_MOVE_HUE = 1,
@@ -38,7 +38,8 @@ enum {
     YEMKRUOS_STEP_COLOR_TEMPERATURE = 76,
     YEMKRUOS_START = 256,
     YEMKRUOS_STEP = 257,
-    YEMKRUOS_HALT = 258
+    YEMKRUOS_HALT = 258,
+    YEMKRUOS_SET_BOUNDS = 259
 };
 
 /* Places of words. */
@@ -51,6 +52,8 @@ enum {
     YEMKRUOS_CALL_OVERRIDE = 4,
     YEMKRUOS_CALL_ARGUMENTS = 5, /* five of them */
     YEMKRUOS_CALL_TASK = 3,      /* of a start: seven words */
+    YEMKRUOS_CALL_MINIMUM = 3,   /* of new bounds */
+    YEMKRUOS_CALL_MAXIMUM = 4,
     /* in a lamp */
     YEMKRUOS_LAMP_CLOCK = 2,
     YEMKRUOS_LAMP_REMAINING = 4,
@@ -70,7 +73,7 @@ uint64_t yemkruos_new(uint64_t *lamp, size_t lamp_words, uint16_t min, uint16_t 
                       uint32_t features, uint8_t options, uint64_t clock);
 
 /* Sends a call of 10 words to the lamp, which is left as the call leaves it, and writes the answer's
- * 25 words. 0, or why not: 1, 2, 4 or 6 to 8, with the lamp as it was; or 100, 101 or 102: then nothing
+ * 25 words. 0, or why not: 1, 2, 4 to 8 or 18, with the lamp as it was; or 100, 101 or 102: then nothing
  * changes, nor is an answer written. Lamp, call and answer do not overlap. */
 uint64_t yemkruos_call(uint64_t *lamp, size_t lamp_words, const uint64_t *call, size_t call_words,
                        uint64_t *answer, size_t answer_words);

@@ -19,7 +19,7 @@ const START: u64 = 256;
 const STEP: u64 = 257;
 const HALT: u64 = 258;
 /// A kind that does not exist: the call is turned away unread.
-const NONE: u64 = 259;
+const NONE: u64 = 260;
 
 #[derive(Clone, Copy)]
 pub enum Call {

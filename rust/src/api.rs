@@ -79,6 +79,7 @@ numbered! {
         InvalidLamp = 8: "an invalid lamp, a row of more than 32, or a wrong running mask",
         ShortSlice = 9: "a slice shorter than sixteen bytes a lamp of the row",
         NoPlace = 10: "a place that the row does not have",
+        MiredTaskRuns = 18: "new bounds while a mired task runs",
     }
 }
 
@@ -229,7 +230,7 @@ impl NewLamp {
 }
 
 impl Lamp {
-    /// Sends any call: a command, a start, a step or a halt.
+    /// Sends any call: a command, a start, a step, a halt or new bounds.
     #[inline]
     pub fn call(self, call: Call) -> Result<Answer, Refusal> {
         commands::call(self, call).result()
@@ -295,6 +296,18 @@ impl Row {
     #[inline]
     pub fn halt_at(self, place: u8, clock: u64) -> Result<RowAnswer, Refusal> {
         self.call_at(place, Call::Halt { clock }).result()
+    }
+
+    /// Sets the physical bounds of the lamp at a place, as [`Lamp::set_bounds`] does to a lamp alone.
+    #[inline]
+    pub fn set_bounds_at(
+        self,
+        place: u8,
+        bounds: Bounds,
+        clock: u64,
+    ) -> Result<RowAnswer, Refusal> {
+        self.call_at(place, Call::SetBounds { bounds, clock })
+            .result()
     }
 }
 

@@ -76,6 +76,24 @@
 //! # }
 //! ```
 //!
+//! # Bounds set at service
+//!
+//! New physical bounds take the mireds along where those lie outside, and are refused while a task moves them.
+//!
+//! ```
+//! use yemkruos::{ALL_FEATURES, Bounds, NewLamp, Notice, Refusal};
+//!
+//! # fn main() -> Result<(), Refusal> {
+//! let bounds = Bounds { min: 153, max: 500 };
+//! let lamp = NewLamp { bounds, features: ALL_FEATURES, options: 0, clock: 5000 }.make()?;
+//! assert_eq!(lamp.color.mireds, 250);
+//! let answer = lamp.set_bounds(Bounds { min: 300, max: 400 }, 5000).result()?;
+//! assert!(answer.notices.iter().eq([Notice::ColorTemperatureMireds]));
+//! assert_eq!(answer.lamp.color.mireds, 300);
+//! # Ok(())
+//! # }
+//! ```
+//!
 //! # A row
 //!
 //! A [`Row`] has up to 32 lamps. One call steps those that run, at one clock; any other call goes to a place.

@@ -2,7 +2,7 @@
 
 use yemkruos::hue;
 use yemkruos::matter::{self, CLOCK_LIMIT};
-use yemkruos::tasks::HueSaturationMoveTo;
+use yemkruos::tasks::{ColorTemperatureMoveTo, HueSaturationMoveTo};
 use yemkruos::{
     ALL_FEATURES, Band, Bounds, Call, Command, DirectionEnum, Lamp, NewLamp, Notice, OnOff,
     Refusal, Row, Task, lowest_running, notices_at, passes_through, plain_passes_through,
@@ -19,12 +19,12 @@ const NEW: NewLamp = NewLamp {
 #[test]
 fn numbers_and_names_agree() {
     let refusals = Refusal::ALL.iter().map(|r| (r.number(), *r));
-    // 3 is free.
+    // 3 is free, and 11 to 17 are not the lamp's.
     assert!(
         refusals
             .clone()
             .map(|(n, _)| n)
-            .eq([1, 2, 4, 5, 6, 7, 8, 9, 10])
+            .eq([1, 2, 4, 5, 6, 7, 8, 9, 10, 18])
     );
     assert!(
         refusals
@@ -83,6 +83,29 @@ fn refusals_have_their_causes() {
     let mut broken = lamp;
     broken.color.saturation = 255;
     assert_eq!(broken.halt(5000).result(), Err(Refusal::InvalidLamp));
+}
+
+/// New bounds at a place: mireds outside move, a mired task stands in their way.
+#[test]
+fn bounds_are_set_at_a_place() {
+    let row = row_of_three();
+    let bounds = Bounds { min: 300, max: 400 };
+    let answer = row.set_bounds_at(2, bounds, 5000).unwrap();
+    assert!(answer.notices.iter().eq([Notice::ColorTemperatureMireds]));
+    assert_eq!((answer.wait, answer.given_task()), (0, None));
+    let lamp = answer.row.lamps[2];
+    assert_eq!(lamp, row.lamps[2].set_bounds(bounds, 5000).lamp);
+    assert_eq!((lamp.bounds, lamp.color.mireds), (bounds, 300));
+    let task = Task::ColorTemperatureMoveTo(ColorTemperatureMoveTo {
+        target: 400,
+        ms: 500,
+    });
+    let warming = answer.row.start_at(2, task, 5000).unwrap().row;
+    let refused = |bounds, clock| warming.set_bounds_at(2, bounds, clock).unwrap_err();
+    assert_eq!(refused(bounds, 5000), Refusal::MiredTaskRuns);
+    let crossed = Bounds { min: 2, max: 1 };
+    assert_eq!(refused(crossed, 5000), Refusal::CrossedBounds);
+    assert_eq!(refused(crossed, 4999), Refusal::Clock);
 }
 
 /// A lamp that is off skips a command, unless ExecuteIfOff is set.

@@ -6,6 +6,7 @@ use Rattle.matter.specs.Causes.{number_of}
 use Prim.Native.Nat.{ℕ, zero, suc, ◌%◌, ◌^◌, ◌<◌, ◌≤◌}
 use mathlib.Core.Bool.{Bool, true, false, ◌&&◌}
 use mathlib.Core.List.{List, [], ◌∷◌}
+use mathlib.Core.Logic.{⊎_elim}
 use mathlib.Core.Path.{◌≡◌, refl, sym, ap, ◌∙◌}
 use native.Mathlib.Omega.{arith}
 use lib.Dec.{leb, ltb, eqb}
@@ -116,12 +117,14 @@ unfolding call_of
 call-in-range call clock =
     cond_both InRangeCall (eqb (at call 0) K.step) _ _ (λ e. clock)
     (λ e. cond_both InRangeCall (eqb (at call 0) K.start) _ _ (λ e. (task-in-range (start_numbers call), clock))
-    (λ e. cond_both InRangeCall (eqb (at call 0) K.halt) _ _ (λ e. clock) (λ e. (request-in-range (command_numbers call), clock))))
+    (λ e. cond_both InRangeCall (eqb (at call 0) K.halt) _ _ (λ e. clock)
+    (λ e. cond_both InRangeCall (eqb (at call 0) K.set_bounds) _ _ (λ e. (record { min = omega arith; max = omega arith }, clock))
+    (λ e. (request-in-range (command_numbers call), clock)))))
 
 -- ---- the number of an answer to a call that is read
 
-answer-small : (l : Lamp) (x : Call) → number_of (C.answer l x).verdict ≤ 8
-answer-small l x = rw (number-is-cause l x) (cause-small l x)
+answer-small : (l : Lamp) (x : Call) → number_of (C.answer l x).verdict ≤ 18
+answer-small l x = rw (number-is-cause l x) (⊎_elim (λ h. omega (arith, h)) (λ h. omega (arith, h.1)) (cause-small l x))
 
 -- ---- one call
 

@@ -35,6 +35,16 @@ use Rattle.matter.specs.Rules.{default_color_mode}
 use Rattle.progress.specs.Progress.{clamp}
 use Rattle.lamp.specs.Making.{making}
 use Rattle.exports.specs.Words.{flag, signed, sign_of}
+use Rattle.exports.specs.Bounds.{bounds_fit}
+use Rattle.matter.specs.All.{all_true}
+use Rattle.notices.specs.Notices.{filled}
+use Rattle.color.specs.Valid.{color_valid}
+use Rattle.color.specs.Bounded.{bounded}
+use Rattle.tasks.specs.Valid.{running_valid}
+use Rattle.lamp.specs.Valid.{lamp_valid}
+use Rattle.lamp.specs.Answers.{first_cause}
+use Rattle.lamp.specs.Calls.{bounds_answer}
+use Rattle.commands.specs.Answers.{answer}
 
 -- ---- enums
 
@@ -88,6 +98,10 @@ sending command on_off = Call.Command (request command options) on_off 5000
 
 abbrev pub start_words : ℕ → ℕ → ℕ → ℕ → ℕ → ℕ → ℕ → List ℕ
 start_words kind a b c d e f = 256 ∷ 5000 ∷ 0 ∷ kind ∷ a ∷ b ∷ c ∷ d ∷ e ∷ f ∷ []
+
+-- and of a call that sets bounds
+abbrev pub bounds_words : ℕ → ℕ → List ℕ
+bounds_words min max = 259 ∷ 5000 ∷ 0 ∷ min ∷ max ∷ 0 ∷ 0 ∷ 0 ∷ 0 ∷ 0 ∷ []
 
 pub record CommandWords : Type 0 where
   pub move-to-hue :
@@ -161,9 +175,10 @@ pub record StartWords : Type 0 where
       Reads (start_words 6 1 33 0 0 0 0)
       (Call.Start (Task.ColorLoop (record { direction = ColorLoopDirectionEnum.Increment; seconds = 33 })) 5000)
   pub stop : Reads (start_words 7 0 0 0 0 0 0) (Call.Start Task.Stop 5000)
-  -- and a step and a halt
+  -- and a step, a halt and new bounds
   pub stepping : Reads (257 ∷ 5000 ∷ 0 ∷ 0 ∷ 0 ∷ 0 ∷ 0 ∷ 0 ∷ 0 ∷ 0 ∷ []) (Call.Step 5000)
   pub halting : Reads (258 ∷ 5000 ∷ 0 ∷ 0 ∷ 0 ∷ 0 ∷ 0 ∷ 0 ∷ 0 ∷ 0 ∷ []) (Call.Halt 5000)
+  pub setting-bounds : Reads (bounds_words 160 400) (Call.SetBounds (record { min = 160; max = 400 }) 5000)
 
 -- ---- lamps
 
@@ -283,6 +298,41 @@ pub record NumbersReturned : Type 0 where
   pub no_call : (answered fresh_words (replicate 9 0) (replicate 25 0)).number ≡ 100
   pub no-such-kind : (answered fresh_words (words 7 1 0 0 0 0 0) (replicate 25 0)).number ≡ 100
   pub past-its-field : (answered fresh_words (words 0 1 256 0 0 0 0) (replicate 25 0)).number ≡ 100
+  pub past-the-last-kind : (answered fresh_words (260 ∷ replicate 9 0) (replicate 25 0)).number ≡ 100
+
+-- ---- new bounds
+
+-- the words of a fresh lamp, but for its bounds, the stamp of its mireds, its mireds and its running record
+abbrev pub bounded_words : ℕ → ℕ → ℕ → ℕ → List ℕ → List ℕ
+bounded_words min max stamp mireds running =
+    min ∷ max ∷ 5000 ∷ 0 ∷ 0 ∷ 0 ∷ 0 ∷ stamp ∷ 0 ∷ 0 ∷ mireds ∷ 1 ∷ 1 ∷ 0 ∷ 1 ∷ 25 ∷ 8960 ∷ 0 ∷ running
+
+-- of one that moves from 250 mireds to 300 in 7.7 s
+abbrev pub warming_words : List ℕ
+warming_words = bounded_words 153 500 0 250 (5000 ∷ 250 ∷ 0 ∷ 4 ∷ 300 ∷ 7700 ∷ 0 ∷ 0 ∷ 0 ∷ 0 ∷ [])
+
+-- where an answer is to go
+abbrev pub room : List ℕ
+room = replicate 25 7
+
+pub record BoundsSent : Type 0 where
+  -- the mireds go to the nearer one, with notice 5 and their stamp
+  pub moved :
+      answered fresh_words (bounds_words 300 400) room
+      ≡ record { number = 0; lamp = bounded_words 300 400 5000 300 (replicate 10 0); answer = 0 ∷ 5 ∷ replicate 23 0 }
+  pub inside :
+      answered fresh_words (bounds_words 160 400) room
+      ≡ record { number = 0; lamp = bounded_words 160 400 0 250 (replicate 10 0); answer = replicate 25 0 }
+  pub crossed-bounds :
+      answered fresh_words (bounds_words 400 300) room
+      ≡ record { number = 5; lamp = fresh_words; answer = 5 ∷ replicate 24 0 }
+  pub mired-task :
+      answered warming_words (bounds_words 160 400) room
+      ≡ record { number = 18; lamp = warming_words; answer = 18 ∷ replicate 24 0 }
+  pub least-past-its-field :
+      answered fresh_words (bounds_words 65536 65535) room ≡ record { number = 100; lamp = fresh_words; answer = room }
+  pub most-past-its-field :
+      answered fresh_words (bounds_words 160 65536) room ≡ record { number = 100; lamp = fresh_words; answer = room }
 
 -- ---- by computation
 
@@ -330,7 +380,7 @@ command-words =
     }
 
 pub start-words : StartWords
-unfolding flag signed delta_of target_of move_to_of hue_move_of saturation_move_of mireds_to_of mireds_move_of color_loop_of task_of task_fits task_known call_of call_known read_of known_of
+unfolding flag signed delta_of target_of move_to_of hue_move_of saturation_move_of mireds_to_of mireds_move_of color_loop_of task_of task_fits task_known bounds_fit call_of call_known read_of known_of
 start-words =
     record {
       move-to = (refl, refl);
@@ -344,6 +394,7 @@ start-words =
       stop = (refl, refl);
       stepping = (refl, refl);
       halting = (refl, refl);
+      setting-bounds = (refl, refl);
     }
 
 pub lamp-words : LampWords
@@ -364,7 +415,7 @@ unfolding sign_of task_numbers given_numbers
 answer-words = record { given = refl; stopping = refl; nothing = refl }
 
 pub numbers-returned : NumbersReturned
-unfolding making made answered lamp_fits lamp_known record_known command_fits command_known call_known known_of
+unfolding making made answered bounds_fit lamp_fits lamp_known record_known command_fits command_known call_known known_of
 numbers-returned =
     record {
       new-short = refl;
@@ -376,4 +427,17 @@ numbers-returned =
       no_call = refl;
       no-such-kind = refl;
       past-its-field = refl;
+      past-the-last-kind = refl;
+    }
+
+pub bounds-sent : BoundsSent
+unfolding flag read_of known_of bounds_fit lamp_fits lamp_known task_fits task_known record_known task_of mireds_to_of command_fits command_known call_of call_known all_true color_valid running_valid lamp_valid first_cause clamp filled bounded bounds_answer answer task_numbers given_numbers record_numbers answered
+bounds-sent =
+    record {
+      moved = refl;
+      inside = refl;
+      crossed-bounds = refl;
+      mired-task = refl;
+      least-past-its-field = refl;
+      most-past-its-field = refl;
     }

@@ -35,6 +35,7 @@ use Rattle.lamp.specs.InRange.{InRangeLamp}
 use Rattle.exports.specs.Words.{flag, flag_number, signed, sign_of, size_of}
 use Rattle.exports.specs.Enums.{read_of, known_of, direction_read, direction_known, move_mode_read, move_mode_known, step_mode_read, step_mode_known, loop_action_read, loop_action_known, loop_direction_read, loop_direction_known, color_mode_read, color_mode_known, enhanced_mode_read, enhanced_mode_known, on_off_read, on_off_known}
 use Rattle.exports.specs.Moves.{delta_of, target_of, move_to_of, hue_move_of, saturation_move_of, mireds_to_of, mireds_move_of, color_loop_of, task_of, running_of, task_fits, task_known, record_known, none, delta_sign, delta_size, target_given, target_number, task_numbers, record_numbers}
+use Rattle.exports.specs.Bounds.{bounds_fit}
 use Rattle.exports.specs.RoundTrips.{Back}
 use Rattle.exports.specs.Lamps.{record_of, lamp_of, lamp_fits, lamp_known, lamp_words}
 
@@ -216,7 +217,7 @@ running-back (Running.ColorLoop direction hue seconds start) bounds clock e h =
 
 -- a valid lamp in range
 pub lamp-back : (l : Lamp) → lamp_valid l ≡ true → InRangeLamp l → Back lamp_of lamp_known (lamp_words l) l
-unfolding lamp_known lamp_fits
+unfolding bounds_fit lamp_known lamp_fits
 lamp-back l validity h =
     let low = within 65535 h.bounds.min in
     let high = within 65535 h.bounds.max in

@@ -1,5 +1,5 @@
--- A call in ten words: its kind, the clock, the on/off number; then a command's mask, override and five arguments, or a
--- task's kind and six numbers.
+-- A call in ten words: its kind, the clock, the on/off number; then a command's mask, override and five arguments, a
+-- task's kind and six numbers, or a new minimum and maximum.
 use Rattle.std.specs.Prelude.{ℕ, Option, Some, None, Bool, cond, not, ◌&&◌, ◌||◌, List, leb, ltb, eqb, length}
 use Rattle.matter.specs.declared.commands.Command.{Command}
 use Rattle.matter.specs.declared.commands.Request.{Request}
@@ -11,6 +11,7 @@ use Rattle.commands.specs.Answers.{answer}
 use Rattle.exports.specs.declared.moves.TaskNumbers.{TaskNumbers}
 use Rattle.exports.specs.declared.calls.CommandNumbers.{CommandNumbers}
 use Rattle.exports.specs.Kinds as K
+use Rattle.exports.specs.Bounds.{bounds_of, bounds_fit}
 use Rattle.exports.specs.Words.{at, byte, short, flag}
 use Rattle.exports.specs.Enums.{direction_read, move_mode_read, step_mode_read, loop_action_read, loop_direction_read}
 use Rattle.exports.specs.Enums.{on_off_read, direction_known, move_mode_known, step_mode_known, loop_action_known}
@@ -116,15 +117,17 @@ call_of w =
     cond (eqb (at w 0) K.step) (Call.Step (at w 1))
     (cond (eqb (at w 0) K.start) (Call.Start (task_of (start_numbers w)) (at w 1))
     (cond (eqb (at w 0) K.halt) (Call.Halt (at w 1))
-    (Call.Command (request_of (command_numbers w)) (on_off_read (at w 2)) (at w 1))))
+    (cond (eqb (at w 0) K.set_bounds) (Call.SetBounds (bounds_of w 3) (at w 1))
+    (Call.Command (request_of (command_numbers w)) (on_off_read (at w 2)) (at w 1)))))
 
 -- words that are a call: ten of them, with a kind and enums' numbers that exist, and each within its field
 unfoldable pub call_known : List ℕ → Bool
 call_known w =
     eqb (length w) 10
     && ((eqb (at w 0) K.start && task_known (start_numbers w)) || eqb (at w 0) K.step || eqb (at w 0) K.halt
+    || (eqb (at w 0) K.set_bounds && bounds_fit w 3)
     || (command_known (command_numbers w) && on_off_known (at w 2)))
 
 -- the answer to a call in words; a kind past the last one is no call
 unfoldable pub sent : Lamp → List ℕ → Option Answer
-sent l w = cond (ltb K.halt (at w 0)) None (Some (answer l (call_of w)))
+sent l w = cond (ltb K.set_bounds (at w 0)) None (Some (answer l (call_of w)))

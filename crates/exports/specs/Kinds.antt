@@ -1,5 +1,5 @@
 -- The kinds of calls: a command's is its number in the cluster (Matter Application Cluster Specification, Color
--- Control, commands); a start, a step and a halt have numbers past those.
+-- Control, commands); a start, a step, a halt and new bounds have numbers past those.
 use Rattle.std.specs.Prelude.{ℕ}
 
 abbrev pub move_to_hue : ℕ
@@ -55,3 +55,6 @@ step = 257
 
 abbrev pub halt : ℕ
 halt = 258
+
+abbrev pub set_bounds : ℕ
+set_bounds = 259

@@ -7,6 +7,7 @@ use Rattle.lamp.specs.declared.Lamp.{Lamp}
 use Rattle.lamp.specs.declared.LoopSettings.{LoopSettings}
 use Rattle.exports.specs.declared.moves.TaskNumbers.{TaskNumbers}
 use Rattle.exports.specs.declared.moves.RecordNumbers.{RecordNumbers}
+use Rattle.exports.specs.Bounds.{bounds_of, bounds_fit}
 use Rattle.exports.specs.Words.{at, byte, short, flag, flag_number}
 use Rattle.exports.specs.Enums.{color_mode_read, enhanced_mode_read, loop_direction_read, color_mode_known}
 use Rattle.exports.specs.Enums.{enhanced_mode_known, loop_direction_known}
@@ -48,7 +49,7 @@ abbrev pub lamp_of : List ℕ → Lamp
 lamp_of w =
     record {
       clock = at w 2;
-      bounds = record { min = short (at w 0); max = short (at w 1) };
+      bounds = bounds_of w 0;
       color = color_of w;
       looping = looping_of w;
       remaining = record { tenths = short (at w 4) };
@@ -59,7 +60,7 @@ lamp_of w =
 -- each number is within its field
 unfoldable pub lamp_fits : List ℕ → Bool
 lamp_fits w =
-    leb (at w 0) 65535 && leb (at w 1) 65535 && leb (at w 3) 255 && leb (at w 4) 65535
+    bounds_fit w 0 && leb (at w 3) 255 && leb (at w 4) 65535
     && leb (at w 8) 65535
     && leb (at w 9) 255
     && leb (at w 10) 65535

@@ -1,4 +1,5 @@
 pub mod Words
+pub mod Bounds
 pub mod Enums
 pub mod Failures
 pub mod Moves

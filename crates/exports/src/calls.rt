@@ -1,12 +1,12 @@
-// A call in ten words: its kind, the clock, the on/off number; then a command's mask, override and five arguments, or a
-// task's kind and six numbers.
+// A call in ten words: its kind, the clock, the on/off number; then a command's mask, override and five arguments, a
+// task's kind and six numbers, or a new minimum and maximum.
 ghost use Rattle.std.specs.Prelude.{◌≡◌};
 ghost use Rattle.exports.specs.Calls as C;
 ghost use Rattle.exports.specs.Calls.{hue_command, saturation_command, enhanced_command, mireds_command, loop_command, command_of, request_of, command_fits, command_known, command_numbers, call_of, call_known};
 
 use crate::moves::TaskNumbers;
 use crate::words::at;
-use crate::{enums, words};
+use crate::{bounds, enums, words};
 use lamp::{Answer, Call, Lamp};
 use matter::{
     ColorLoopActionEnum, ColorLoopDirectionEnum, Command, CommandOptions, DirectionEnum,
@@ -15,8 +15,8 @@ use matter::{
 
 pub const CALL_WORDS: usize = 10;
 
-// The kinds of calls: a command's number in the cluster, and START, STEP and HALT past those. They are numbers since C
-// writes them (docs/WORDS.md).
+// The kinds of calls: a command's number in the cluster, and START, STEP, HALT and SET_BOUNDS past those. They are
+// numbers since C writes them (docs/WORDS.md).
 const MOVE_TO_HUE: u64 = 0;
 
 const MOVE_HUE: u64 = 1;
@@ -52,6 +52,8 @@ const START: u64 = 256;
 const STEP: u64 = 257;
 
 const HALT: u64 = 258;
+
+const SET_BOUNDS: u64 = 259;
 
 // A command's number, options and arguments, as C writes them; `known` says whether they are a command.
 // Check and reading are apart, not one `TryFrom`: `measure` reads without the check.
@@ -281,6 +283,7 @@ pub(crate) fn call_known(w: &[u64]) -> bool
         && ((kind == START && TaskNumbers::from_words(w, 3).known())
             || kind == STEP
             || kind == HALT
+            || (kind == SET_BOUNDS && bounds::fit(w, 3))
             || (CommandNumbers::from_words(w).known() && enums::is_known::<OnOff>(at(w, 2))))
 }
 
@@ -297,6 +300,10 @@ pub fn call_of(w: &[u64]) -> Call
             clock,
         },
         HALT => Call::Halt { clock },
+        SET_BOUNDS => Call::SetBounds {
+            bounds: bounds::read(w, 3),
+            clock,
+        },
         _ => Call::Command {
             request: CommandNumbers::from_words(w).request(),
             on_off: enums::read(at(w, 2)),
@@ -310,7 +317,7 @@ pub fn call_of(w: &[u64]) -> Call
 pub fn sent(lamp: Lamp, w: &[u64]) -> Option<Answer>
     ensures { result ≡ C.sent lamp w.now }
 {
-    if HALT < at(w, 0) {
+    if SET_BOUNDS < at(w, 0) {
         None
     } else {
         Some(commands::call(lamp, call_of(w)))

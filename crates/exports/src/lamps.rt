@@ -1,27 +1,17 @@
 // A lamp in 28 words: the protocol's eighteen fields in their order, then the running record in ten: its clock, the two
 // numbers found at its start, its task's kind and six numbers.
 ghost use Rattle.std.specs.Prelude.{◌≡◌};
-ghost use Rattle.exports.specs.Words.{at, short};
 ghost use Rattle.exports.specs.Lamps.{color_of, looping_of, record_of, lamp_of, lamp_fits, lamp_known, lamp_words};
 
 use crate::moves::{RecordNumbers, TaskNumbers};
 use crate::words::at;
-use crate::{enums, words};
+use crate::{bounds, enums, words};
 use color::{Color, Stamps};
 use lamp::{Lamp, LoopSettings};
-use matter::{Bounds, ColorLoopDirectionEnum, ColorModeEnum, EnhancedColorModeEnum};
+use matter::{ColorLoopDirectionEnum, ColorModeEnum, EnhancedColorModeEnum};
 use remaining_time::RemainingTime;
 
 pub const LAMP_WORDS: usize = 28;
-
-fn bounds(w: &[u64]) -> Bounds
-    ensures { result ≡ record { min = short (at w.now 0); max = short (at w.now 1) } }
-{
-    Bounds {
-        min: words::short(at(w, 0)),
-        max: words::short(at(w, 1)),
-    }
-}
 
 fn color(w: &[u64]) -> Color
     ensures { result ≡ color_of w.now }
@@ -69,7 +59,7 @@ pub fn lamp_of(w: &[u64]) -> Lamp
 {
     Lamp {
         clock: at(w, 2),
-        bounds: bounds(w),
+        bounds: bounds::read(w, 0),
         color: color(w),
         looping: looping(w),
         remaining: RemainingTime {
@@ -85,8 +75,7 @@ pub fn lamp_of(w: &[u64]) -> Lamp
 fn lamp_fits(w: &[u64]) -> bool
     ensures { result ≡ lamp_fits w.now }
 {
-    at(w, 0) <= 65535
-        && at(w, 1) <= 65535
+    bounds::fit(w, 0)
         && at(w, 3) <= 255
         && at(w, 4) <= 65535
         && at(w, 8) <= 65535

@@ -3,6 +3,7 @@
 #![tactic(auto)]
 
 mod answers;
+mod bounds;
 mod calls;
 mod enums;
 mod failures;
@@ -86,7 +87,7 @@ pub fn yemkruos_new(
 }
 
 // Sends the call (10 words) to the lamp (28 words), which is left as the call leaves it, and writes the answer (25
-// words). 0, or the number of the refusal: 1, 2, 4, 6 to 8, or 100 (no call), 101 (no lamp), 102 (the answer has not 25
+// words). 0, or the number of the refusal: 1, 2, 4 to 8, 18, or 100 (no call), 101 (no lamp), 102 (the answer has not 25
 // words); after those three nothing changes.
 pub fn yemkruos_call(words: &mut [u64], call: &[u64], answer: &mut [u64]) -> u64
     ensures value { result ≡ (answered words.old call.now answer.old).number }
