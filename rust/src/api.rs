@@ -79,6 +79,7 @@ numbered! {
         InvalidLamp = 8: "an invalid lamp, a row of more than 32, or a wrong running mask",
         ShortSlice = 9: "a slice shorter than sixteen bytes a lamp of the row",
         NoPlace = 10: "a place that the row does not have",
+        MiredTaskRuns = 18: "new bounds while a mired task runs",
     }
 }
 

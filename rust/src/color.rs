@@ -213,6 +213,20 @@ impl Color {
         }
     }
 
+    /// The colour under new bounds, which is no setter: mireds outside go to the nearer one, with their stamp.
+    pub fn bounded(self, bounds: Bounds, clock: u64) -> Color {
+        let mireds = clamped_sum(bounds.min, bounds.max, self.mireds, 0);
+        let stamp = stamp_at(mireds != self.mireds, clock, self.stamps.mireds);
+        Color {
+            mireds,
+            stamps: Stamps {
+                mireds: stamp,
+                ..self.stamps
+            },
+            ..self
+        }
+    }
+
     /// Whether a lamp with this colour, these bounds and this clock can be valid.
     pub fn is_valid(self, bounds: Bounds, clock: u64) -> bool {
         (self.saturation <= 254)

@@ -173,7 +173,7 @@ pub fn cmd_stop_move_step(
     with_options(lamp, command, options_mask, options_override, on_off, clock)
 }
 
-/// Any call of a lamp: the one door to commands, starts, steps and halts.
+/// Any call of a lamp: the one door to commands, starts, steps, halts and new bounds.
 pub fn call(lamp: Lamp, call: Call) -> Answer {
     match call {
         Call::Command {
@@ -184,5 +184,6 @@ pub fn call(lamp: Lamp, call: Call) -> Answer {
         Call::Start { task, clock } => lamp.start(task, clock),
         Call::Step { clock } => lamp.step(clock),
         Call::Halt { clock } => lamp.halt(clock),
+        Call::SetBounds { bounds, clock } => lamp.set_bounds(bounds, clock),
     }
 }

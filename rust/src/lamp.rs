@@ -52,7 +52,7 @@ pub struct Answer {
     pub wait: u64,
 }
 
-/// A call of a lamp, with its clock. A command comes with what the on/off cluster says.
+/// A call of a lamp, with its clock. A command comes with what the on/off cluster says; new bounds are set at service.
 #[derive(Clone, Copy, Debug, PartialEq, Eq)]
 pub enum Call {
     Command {
@@ -68,6 +68,10 @@ pub enum Call {
         clock: u64,
     },
     Halt {
+        clock: u64,
+    },
+    SetBounds {
+        bounds: Bounds,
         clock: u64,
     },
 }
@@ -97,7 +101,7 @@ impl Lamp {
         if CLOCK_LIMIT < clock {
             return Err(Refusal::Clock);
         }
-        if bounds.max < bounds.min {
+        if bounds.are_crossed() {
             return Err(Refusal::CrossedBounds);
         }
         Ok(fresh(bounds, feature_map, options, clock))

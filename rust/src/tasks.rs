@@ -217,6 +217,14 @@ impl Running {
         !matches!(self, Running::Idle)
     }
 
+    /// Whether a mired task runs.
+    pub fn moves_mireds(self) -> bool {
+        matches!(
+            self,
+            Running::ColorTemperatureMoveTo(_) | Running::ColorTemperatureMove(_)
+        )
+    }
+
     /// Whether a lamp with these bounds and this clock can be valid with this record.
     pub fn is_valid(self, bounds: Bounds, clock: u64) -> bool {
         match self {

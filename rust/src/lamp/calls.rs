@@ -8,6 +8,7 @@ use crate::lamp::passes::left_by;
 use crate::lamp::Answer;
 use crate::lamp::Lamp;
 use crate::color::cons_change;
+use crate::matter::Bounds;
 use crate::matter::Refusal;
 use crate::notices::Notice;
 use crate::notices::Notices;
@@ -257,6 +258,41 @@ impl Lamp {
                 ..self
             },
             notices: Notices::new(),
+            task: None,
+            wait: 0,
+        }
+    }
+
+    /// Why new bounds are refused: 8, 4, crossed bounds, a mired task that runs.
+    fn bounds_cause(self, bounds: Bounds, clock: u64) -> Result<(), Refusal> {
+        self.first_cause(clock)?;
+        if bounds.are_crossed() {
+            return Err(Refusal::CrossedBounds);
+        }
+        if self.running.moves_mireds() {
+            return Err(Refusal::MiredTaskRuns);
+        }
+        Ok(())
+    }
+
+    /// New physical bounds. Mireds outside go to the nearer one and are reported; nothing is stored, and the device is not written.
+    pub fn set_bounds(self, bounds: Bounds, clock: u64) -> Answer {
+        if let Err(cause) = self.bounds_cause(bounds, clock) {
+            return self.refused(cause);
+        }
+        let color = self.color.bounded(bounds, clock);
+        let is_moved = color.mireds != self.color.mireds;
+        Answer {
+            verdict: Ok(()),
+            lamp: Lamp {
+                clock,
+                bounds,
+                color,
+                ..self
+            },
+            notices: Numeral::new()
+                .note_if(is_moved, Notice::ColorTemperatureMireds)
+                .notices(),
             task: None,
             wait: 0,
         }

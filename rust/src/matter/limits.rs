@@ -12,6 +12,11 @@ pub struct Bounds {
 }
 
 impl Bounds {
+    /// The minimum above the maximum.
+    pub fn are_crossed(self) -> bool {
+        self.max < self.min
+    }
+
     /// The larger minimum of a mired move or step: the limit, or the physical one.
     pub fn lower_limit(self, limit: u16) -> u16 {
         limit.max(self.min)

@@ -10,7 +10,7 @@ pub enum Refusal {
     InvalidCommand = 2,
     /// A clock earlier than the lamp's, or above the limit.
     Clock = 4,
-    /// The physical minimum above the maximum.
+    /// The physical minimum above the maximum, at making or as new bounds.
     CrossedBounds = 5,
     InvalidTask = 6,
     StepWhileIdle = 7,
@@ -20,6 +20,8 @@ pub enum Refusal {
     ShortSlice = 9,
     /// A place that the row does not have.
     NoPlace = 10,
+    /// New bounds while a mired task runs.
+    MiredTaskRuns = 18,
 }
 
 impl From<Refusal> for u8 {
