@@ -1445,7 +1445,9 @@ impl<S: Stage> Maker<S> {
             0 => (f.min, f.max),
             1 => (m.max(1), m.max(1) - 1),
             2 if f.min < f.max => (f.max, f.min),
-            2 | 3 => self.r.pick(&[(1, 0), (65535, 0), (65535, 65534), (501, 500)]),
+            2 | 3 => self
+                .r
+                .pick(&[(1, 0), (65535, 0), (65535, 65534), (501, 500)]),
             4 => (m, m),
             5 => (m.saturating_add(1), 65535),
             6 => (0, m.saturating_sub(1)),

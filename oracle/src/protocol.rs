@@ -109,6 +109,7 @@ impl Player {
         }));
         let places = driver::PAIRS
             .iter()
+            .chain(driver::BESIDES)
             .enumerate()
             .map(|(i, p)| (*p, i))
             .collect();
