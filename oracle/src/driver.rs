@@ -129,57 +129,68 @@ pub fn direct<const MIN: u16, const MAX: u16>() -> &'static impl Handler {
 }
 
 macro_rules! pairs {
-    ($($min:literal $max:literal;)*) => {
-        /// The physical bounds are constants of a trait, so each pair is compiled by itself.
+    (drawn { $($min:literal $max:literal;)* } besides { $($least:literal $most:literal;)* }) => {
+        /// The physical bounds are constants of a trait, so each pair is compiled by itself. Of these the scripts draw.
         pub const PAIRS: &[(u16, u16)] = &[$(($min, $max)),*];
 
+        /// Those of the sample's lines alone.
+        pub const BESIDES: &[(u16, u16)] = &[$(($least, $most)),*];
+
+        /// In the order of both lists.
         pub fn handlers() -> Vec<&'static dyn Handler> {
-            vec![$(made::<$min, $max>()),*]
+            vec![$(made::<$min, $max>(),)* $(made::<$least, $most>(),)*]
         }
     };
 }
 
 pairs! {
-    153 500;
-    0 0;
-    0 65535;
-    65535 65535;
-    1 1;
-    1 65535;
-    250 250;
-    100 200;
-    300 400;
-    153 153;
-    500 500;
-    249 251;
-    0 249;
-    251 65535;
-    0 1;
-    0 250;
-    250 65535;
-    249 249;
-    251 251;
-    249 250;
-    250 251;
-    65534 65535;
-    1 2;
-    1 65279;
-    65279 65535;
-    154 370;
-    100 1000;
-    150 600;
-    0 500;
-    500 65535;
-    1 254;
-    255 256;
-    200 300;
-    1000 2000;
-    32767 32768;
-    0 32767;
-    32768 65535;
-    245 255;
-    2 65534;
-    199 201;
+    drawn {
+        153 500;
+        0 0;
+        0 65535;
+        65535 65535;
+        1 1;
+        1 65535;
+        250 250;
+        100 200;
+        300 400;
+        153 153;
+        500 500;
+        249 251;
+        0 249;
+        251 65535;
+        0 1;
+        0 250;
+        250 65535;
+        249 249;
+        251 251;
+        249 250;
+        250 251;
+        65534 65535;
+        1 2;
+        1 65279;
+        65279 65535;
+        154 370;
+        100 1000;
+        150 600;
+        0 500;
+        500 65535;
+        1 254;
+        255 256;
+        200 300;
+        1000 2000;
+        32767 32768;
+        0 32767;
+        32768 65535;
+        245 255;
+        2 65534;
+        199 201;
+    }
+    besides {
+        100 600;
+        153 400;
+        600 700;
+    }
 }
 
 fn options(byte: u8) -> OptionsBitmap {

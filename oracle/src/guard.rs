@@ -1,6 +1,6 @@
 //! What the Rust has not, written by hand: the causes 4 to 8, from document 01's table, looked
 //! at before the Rust is run (1 and 2 are the Rust's own errors); and, of document 02, the tie,
-//! which is put behind the Rust's answer, and CurrentHue from 65,280 on.
+//! which is put behind the Rust's answer, CurrentHue from 65,280 on, and new bounds.
 
 use crate::data::*;
 
@@ -110,4 +110,40 @@ pub fn record_in_form(f: &Fields, r: &Record) -> bool {
 
 pub fn lamp_in_form(f: &Fields, r: Option<&Record>) -> bool {
     fields_in_form(f) && r.map_or(true, |r| record_in_form(f, r))
+}
+
+/// The notice of mireds that moved.
+pub const MIREDS: u8 = 5;
+
+/// A.9: the lamp after new bounds, and whether its mireds moved; or why they are refused. The record stays.
+pub fn new_bounds(
+    f: &Fields,
+    runs: Option<&Record>,
+    (min, max): (u16, u16),
+    clock: u64,
+) -> Result<(Fields, bool), u8> {
+    let mired = |r: &Record| matches!(r.task, Task::CtTo { .. } | Task::CtMove { .. });
+    // In the order of the numbers' looks: the first that is so is the cause.
+    let looks = [
+        (8, !lamp_in_form(f, runs)),
+        (4, clock_refused(f, clock)),
+        (5, max < min),
+        (18, runs.is_some_and(mired)),
+    ];
+    if let Some((cause, _)) = looks.into_iter().find(|(_, is_so)| *is_so) {
+        return Err(cause);
+    }
+    let mut after = Fields {
+        min,
+        max,
+        clock,
+        ..*f
+    };
+    let moves = !(min..=max).contains(&f.mireds);
+    if moves {
+        let is_min_nearer = f.mireds.abs_diff(min) < f.mireds.abs_diff(max);
+        after.mireds = if is_min_nearer { min } else { max };
+        after.stamp_mireds = clock;
+    }
+    Ok((after, moves))
 }

@@ -1435,4 +1435,137 @@ impl<S: Stage> Maker<S> {
             }
         }
     }
+
+    // -- new bounds --
+
+    /// A pair of bounds for a lamp: of those that the Rust has, close to the mireds, or crossed.
+    fn new_pair(&mut self, f: &Fields) -> (u16, u16) {
+        let m = f.mireds;
+        match self.r.below(16) {
+            0 => (f.min, f.max),
+            1 => (m.max(1), m.max(1) - 1),
+            2 if f.min < f.max => (f.max, f.min),
+            2 | 3 => self
+                .r
+                .pick(&[(1, 0), (65535, 0), (65535, 65534), (501, 500)]),
+            4 => (m, m),
+            5 => (m.saturating_add(1), 65535),
+            6 => (0, m.saturating_sub(1)),
+            7 => {
+                let (a, b) = (self.r.next() as u16, self.r.next() as u16);
+                (a.min(b), a.max(b))
+            }
+            _ => self.r.pick(PAIRS),
+        }
+    }
+
+    fn say_bounds(&mut self) -> bool {
+        let Some(f) = self.stage.player().fields().copied() else {
+            return say!(self, "bounds 153 500 5000");
+        };
+        let (min, max) = self.new_pair(&f);
+        let clock = self.clock();
+        let accepted = say!(self, "bounds {min} {max} {clock}");
+        if accepted && !PAIRS.contains(&(min, max)) {
+            // The Rust of these bounds is not there: what needs none, then back.
+            match self.r.below(4) {
+                0 => say!(self, "show"),
+                1 => say!(self, "halt {clock}"),
+                2 => say!(self, "bounds {max} {min} {clock}"),
+                _ => false,
+            };
+            let (min, max) = self.r.pick(PAIRS);
+            let clock = self.clock();
+            say!(self, "bounds {min} {max} {clock}");
+        }
+        accepted
+    }
+
+    /// A call, mostly of new bounds, on a lamp that is out of form or has a record that is.
+    fn say_bounds_out_of_form(&mut self) {
+        let Some(f) = self.stage.player().fields().copied() else {
+            return;
+        };
+        if !guard::fields_in_form(&f) {
+            return;
+        }
+        match self.bit() {
+            0 => {
+                let broken = self.broken_fields(f);
+                self.say_lamp("poke", &broken);
+                self.say_bounds();
+                self.say_lamp("poke", &f);
+            }
+            _ => {
+                let record = self.broken_record(&f);
+                self.say_record(Some(&record));
+                self.say_bounds();
+                self.say_record(None);
+            }
+        }
+    }
+
+    /// New bounds, and commands, starts, steps and halts between them, until the script has so many lines.
+    pub fn bounds(&mut self, count: u64) {
+        // Before any lamp.
+        self.say_bounds();
+        while self.stage.lines() < count {
+            let f = self.fields();
+            self.say_lamp("lamp", &f);
+            for _ in 0..self.r.between(5, 60) {
+                let runs = self.stage.player().record().is_some();
+                match self.r.below(24) {
+                    0..=7 => {
+                        self.say_bounds();
+                    }
+                    8..=10 => {
+                        self.say_command();
+                        if self.stage.gave() && self.bit() == 0 {
+                            let clock = self.clock();
+                            say!(self, "startlast {clock}");
+                        }
+                    }
+                    11 => {
+                        let clock = self.clock();
+                        say!(self, "startlast {clock}");
+                    }
+                    12..=16 if runs || self.r.one_in(8) => {
+                        self.say_step();
+                    }
+                    12..=18 => {
+                        self.say_start();
+                    }
+                    19 => {
+                        let clock = self.clock();
+                        say!(self, "halt {clock}");
+                    }
+                    20 => {
+                        self.say_set();
+                    }
+                    21 => self.say_bounds_out_of_form(),
+                    22 => {
+                        let f = self.stage.player().fields().copied();
+                        if let Some(f) = f.filter(guard::fields_in_form) {
+                            let record = self.record(&f);
+                            self.say_record(Some(&record));
+                        }
+                    }
+                    _ => {
+                        const LINES: [&str; 8] = [
+                            "bounds",
+                            "bounds 153 500",
+                            "bounds 153 500 5000 0",
+                            "bounds 65536 500 5000",
+                            "bounds 153 65536 5000",
+                            "bounds - 500 5000",
+                            "bounds 00153 000500 18446744073709551616",
+                            "bound 153 500 5000",
+                        ];
+                        self.line = self.r.pick(&LINES).as_bytes().to_vec();
+                        self.emit();
+                    }
+                }
+            }
+        }
+    }
 }

@@ -51,6 +51,8 @@ pub enum Call {
     StartLast(u64),
     Step(u64),
     Halt(u64),
+    /// New physical bounds, and the clock.
+    Bounds(u16, u16, u64),
     SetHue(u16, bool, bool, u64),
     SetSat(u8, bool, u64),
     SetCt(u16, bool, u64),
@@ -107,6 +109,7 @@ impl Player {
         }));
         let places = driver::PAIRS
             .iter()
+            .chain(driver::BESIDES)
             .enumerate()
             .map(|(i, p)| (*p, i))
             .collect();
@@ -274,6 +277,27 @@ impl Player {
                 lamp.record = record;
                 lamp.running = None;
                 return QUIET;
+            }
+            // Added by document 02, A.9: no Rust has it. What comes after is the Rust's of the new bounds; a
+            // record that runs is brought about anew there.
+            Call::Bounds(min, max, clock) => {
+                let after =
+                    guard::new_bounds(&lamp.fields, lamp.record.as_ref(), (min, max), clock);
+                let (fields, moved) = match after {
+                    Ok(after) => after,
+                    Err(cause) => return End::Refused(cause),
+                };
+                lamp.place = self.places.get(&(min, max)).copied();
+                lamp.fields = fields;
+                recorder::begin(clock);
+                if moved {
+                    recorder::notice(guard::MIREDS);
+                }
+                return End::Done {
+                    given: None,
+                    wait: 0,
+                    noticed: true,
+                };
             }
             _ => {}
         }
@@ -979,6 +1003,7 @@ impl<'a> Words<'a> {
             b"startlast" => Call::StartLast(self.u64()?),
             b"step" => Call::Step(self.u64()?),
             b"halt" => Call::Halt(self.u64()?),
+            b"bounds" => Call::Bounds(self.u16()?, self.u16()?, self.u64()?),
             b"set" => match self.next()? {
                 b"hue" => Call::SetHue(self.u16()?, self.bit()?, self.bit()?, self.u64()?),
                 b"sat" => Call::SetSat(self.u8()?, self.bit()?, self.u64()?),

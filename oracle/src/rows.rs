@@ -206,7 +206,11 @@ impl Player {
                 }
                 is_edit = true;
             }
-            Call::Command(..) | Call::Start(..) | Call::Step(_) | Call::Halt(_) => {
+            Call::Command(..)
+            | Call::Start(..)
+            | Call::Step(_)
+            | Call::Halt(_)
+            | Call::Bounds(..) => {
                 cause = row.place_cause(place);
                 if !row.shows(place) {
                     out.extend_from_slice(b"refused ");

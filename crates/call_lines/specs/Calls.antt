@@ -2,6 +2,7 @@
 use Rattle.lamp.specs.declared.Call.{Call}
 use Rattle.text.specs.Readers.{Reader, give, ◌then◌, number64, by_next}
 use Rattle.lamp_lines.specs.Enums.{on_off_at}
+use Rattle.lamp_lines.specs.Fields.{bounds_at}
 use Rattle.lamp_lines.specs.Moves.{task_at}
 use Rattle.call_lines.specs.Commands.{options_at, command_at}
 
@@ -23,3 +24,7 @@ step_at = give Call.Step then number64
 -- <clock>
 unfoldable pub halt_at : Reader Call
 halt_at = give Call.Halt then number64
+
+-- <min> <max> <clock>
+unfoldable pub set_bounds_at : Reader Call
+set_bounds_at = give Call.SetBounds then bounds_at then number64

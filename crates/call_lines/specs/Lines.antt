@@ -18,7 +18,7 @@ use Rattle.call_lines.specs.declared.setters.Setting.{Setting}
 use Rattle.call_lines.specs.declared.lines.Making.{Making}
 use Rattle.call_lines.specs.declared.lines.OnLamp.{OnLamp}
 use Rattle.call_lines.specs.declared.lines.Line.{Line}
-use Rattle.call_lines.specs.Calls.{invoke_at, begin_at, step_at, halt_at}
+use Rattle.call_lines.specs.Calls.{invoke_at, begin_at, step_at, halt_at, set_bounds_at}
 use Rattle.call_lines.specs.Leaves.{leaf_at}
 use Rattle.call_lines.specs.Setters.{setting_at, setting_answer}
 
@@ -52,6 +52,7 @@ lines =
     ∷ "startlast" means (give Line.StartLast then number64)
     ∷ "start" means (give call_line then begin_at)
     ∷ "halt" means (give call_line then halt_at)
+    ∷ "bounds" means (give call_line then set_bounds_at)
     ∷ "leaf" means (give Line.Ask then leaf_at)
     ∷ "set" means (give set_line then setting_at)
     ∷ "lamp" means (give Line.Lamp then idle_lamp_at)

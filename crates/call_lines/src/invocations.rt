@@ -1,11 +1,11 @@
-// Reading a call of the lamp: a command, a start, a step or a halt.
+// Reading a call of the lamp: a command, a start, a step, a halt or new bounds.
 ghost use Rattle.text.specs.Readers.{Reads};
 ghost use Rattle.call_lines.specs.Commands.{move_to_hue_at, move_hue_at, step_hue_at, enhanced_move_to_hue_at, enhanced_move_hue_at, enhanced_step_hue_at, move_to_hue_and_saturation_at, move_to_saturation_at, move_saturation_at, step_saturation_at, move_to_color_temperature_at, move_color_temperature_at, step_color_temperature_at, color_loop_set_at, options_at, command_at};
-ghost use Rattle.call_lines.specs.Calls.{invoke_at, begin_at, step_at, halt_at};
+ghost use Rattle.call_lines.specs.Calls.{invoke_at, begin_at, step_at, halt_at, set_bounds_at};
 
 use lamp::Call;
 use lamp_lines::enums::{enumerated, on_off};
-use lamp_lines::moves;
+use lamp_lines::{fields, moves};
 use matter::{Command, CommandOptions, Request};
 use text::words::Words;
 
@@ -265,4 +265,13 @@ pub(crate) fn halt(words: &mut Words) -> Option<Call>
     Some(Call::Halt {
         clock: words.read()?,
     })
+}
+
+#[tactic(auto, unfolding(crate::specs::Calls::set_bounds_at))]
+pub(crate) fn set_bounds(words: &mut Words) -> Option<Call>
+    ensures { Reads (set_bounds_at words.old) result words.new }
+{
+    let bounds = fields::bounds(words)?;
+    let clock = words.read()?;
+    Some(Call::SetBounds { bounds, clock })
 }

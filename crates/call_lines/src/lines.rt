@@ -69,6 +69,8 @@ impl FromLine for Line {
             Some(Line::OnLamp(OnLamp::Call(invocations::begin(words)?)))
         } else if name == b"halt".as_slice() {
             Some(Line::OnLamp(OnLamp::Call(invocations::halt(words)?)))
+        } else if name == b"bounds".as_slice() {
+            Some(Line::OnLamp(OnLamp::Call(invocations::set_bounds(words)?)))
         } else if name == b"leaf".as_slice() {
             Some(Line::Ask(leaves::read(words)?))
         } else if name == b"set".as_slice() {

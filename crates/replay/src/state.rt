@@ -31,6 +31,7 @@ fn help(out: &mut impl Sink) {
           startlast <clock>\n\
           step <clock>\n\
           halt <clock>\n\
+          bounds <min> <max> <clock>\n\
           set hue <new> <end> <enhanced> <clock>\n\
           set sat <new> <end> <clock>\n\
           set ct <new> <end> <clock>\n\
@@ -44,7 +45,7 @@ fn help(out: &mut impl Sink) {
           rowcount <count>\n\
           rowshow\n\
           rowstep <length> <fill> <clock>\n\
-          at <place> lamp|poke|record|show|cmd|start|startlast|step|halt ...\n\
+          at <place> lamp|poke|record|show|cmd|start|startlast|step|halt|bounds ...\n\
           help",
     );
 }

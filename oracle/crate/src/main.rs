@@ -134,6 +134,7 @@ fn kind(call: &Call, reply: &protocol::Reply) -> &'static str {
         (Call::Start(..) | Call::StartLast(_), _) => "starts",
         (Call::Step(_), _) => "steps",
         (Call::Halt(_), _) => "halts",
+        (Call::Bounds(..), _) => "new bounds",
         (Call::SetHue(..) | Call::SetSat(..) | Call::SetCt(..), _) => "setters",
         (Call::New(..), _) => "makings",
         (Call::Lamp(_) | Call::Poke(_) | Call::Record(_) | Call::Show, _) => "lamps put and shown",

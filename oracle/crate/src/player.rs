@@ -102,6 +102,10 @@ impl Player {
             Call::StartLast(clock) => commands::call(at, start(self.last?, clock)),
             Call::Step(clock) => commands::call(at, lamp::Call::Step { clock }),
             Call::Halt(clock) => commands::call(at, lamp::Call::Halt { clock }),
+            Call::Bounds(min, max, clock) => {
+                let bounds = Bounds { min, max };
+                commands::call(at, lamp::Call::SetBounds { bounds, clock })
+            }
             Call::SetHue(hue, is_end, enhanced, clock) => {
                 set(at, Setter::Hue { hue, enhanced }, is_end, clock)
             }

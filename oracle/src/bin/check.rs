@@ -46,6 +46,7 @@ struct Counts {
     lengths: BTreeMap<usize, u64>,
     row_calls: BTreeMap<String, u64>,
     turning: BTreeMap<String, u64>,
+    bounds: BTreeMap<String, u64>,
 }
 
 fn add(map: &mut BTreeMap<String, u64>, key: &str) {
@@ -153,6 +154,7 @@ fn main() {
     table("starts and steps", counts.passes.into_iter());
     table("accepted row calls", counts.row_calls.into_iter());
     table("`turning`", counts.turning.into_iter());
+    table("new bounds", counts.bounds.into_iter());
     print_corners(&corners, stepped);
     println!("{compared} calls compared, 0 differences");
 }
@@ -200,6 +202,9 @@ fn count_of_row(counts: &mut Counts, text: &[u8], answer: &str) {
         _ => answer.split(" | ").next().unwrap_or(""),
     };
     let whose = if kind == "rowstep" { "row call " } else { "" };
+    if kind == "at .. bounds" {
+        count_of_bounds(counts, answer);
+    }
     add(&mut counts.calls, &kind);
     add(&mut counts.statuses, &format!("{whose}{status}"));
     if kind == "turning" {
@@ -231,6 +236,17 @@ fn count_of_row(counts: &mut Counts, text: &[u8], answer: &str) {
         };
         add(&mut counts.row_calls, end);
     }
+}
+
+/// An answer to new bounds: the cause, or whether the mireds moved, and whether a task runs.
+fn count_of_bounds(counts: &mut Counts, answer: &str) {
+    let parts: Vec<&str> = answer.split(" | ").collect();
+    let how = match parts.as_slice() {
+        ["ok", _, "-", _, _, running, ..] => format!("the mireds stay, {running}"),
+        ["ok", _, _, _, _, running, ..] => format!("the mireds move, {running}"),
+        parts => parts.first().unwrap_or(&"").to_string(),
+    };
+    add(&mut counts.bounds, &how);
 }
 
 fn count(counts: &mut Counts, text: &[u8], answer: &str, last: &mut String, runs: &mut String) {
@@ -272,6 +288,9 @@ fn count(counts: &mut Counts, text: &[u8], answer: &str, last: &mut String, runs
     if given != "-" {
         *last = given.split(' ').next().unwrap_or("").to_string();
         add(&mut counts.given, last);
+    }
+    if first == "bounds" {
+        count_of_bounds(counts, answer);
     }
     if status != "ok" {
         return;

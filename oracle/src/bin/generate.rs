@@ -12,7 +12,7 @@ use oracle_lib::{driver, guard};
 fn main() {
     let args: Vec<String> = std::env::args().skip(1).collect();
     let usage =
-        "generate delta|leave|mode_of|remaining|shown|set|corners|random|all|rows SEED COUNT [few]";
+        "generate delta|leave|mode_of|remaining|shown|set|corners|random|all|rows|bounds|row_bounds SEED COUNT [few]";
     let (Some(kind), Some(seed), Some(count)) = (
         args.first(),
         args.get(1).and_then(|x| x.parse().ok()),
@@ -32,7 +32,7 @@ fn main() {
             "mode_of" => "leaf mode_of 3",
             "remaining" => "leaf remaining 0 1100 0",
             "shown" => "leaf shown 65280",
-            "rows" => "rowshow",
+            "rows" | "row_bounds" => "rowshow",
             _ => "show",
         },
     };
@@ -52,6 +52,8 @@ fn main() {
             maker.random(count)
         }
         "rows" => Maker::new(Places::new(Text::new(out), seed), r).random(count),
+        "bounds" => Maker::new(Text::new(out), r).bounds(count),
+        "row_bounds" => Maker::new(Places::new(Text::new(out), seed), r).bounds(count),
         _ => {
             eprintln!("{usage}");
             std::process::exit(2);

@@ -361,6 +361,10 @@ impl Words<'_> {
             b"startlast" => Line::StartLast(self.u64()?),
             b"step" => Line::Call(Call::Step { clock: self.u64()? }),
             b"halt" => Line::Call(Call::Halt { clock: self.u64()? }),
+            b"bounds" => Line::Call(Call::SetBounds {
+                bounds: self.bounds()?,
+                clock: self.u64()?,
+            }),
             b"set" => self.setter()?,
             b"show" => Line::Show,
             b"leaf" => self.leaf()?,
