@@ -7,3 +7,4 @@ pub mod Built
 pub mod LoopLaws
 pub mod StepLimits
 pub mod Ties
+pub mod Granted

@@ -1,7 +1,7 @@
 pub mod Commands
 pub mod Answers
-pub mod Outcomes
 pub mod Table
 pub mod Unchanged
 pub mod StepLimits
 pub mod Ties
+pub mod Inner
