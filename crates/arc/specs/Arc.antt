@@ -1,5 +1,6 @@
 -- The arc of a fade, bands of hues, and the test whether they meet: document 01, "Arc". Hues are stored ones.
-use Rattle.std.specs.Prelude.{ℕ, ◌+◌, ◌*◌, ◌≤◌, min, Bool, true, cond, ◌&&◌, ◌||◌, ◌≡◌, leb, ltb, ℤ, pos, negsuc, neg_ℤ, nat_abs}
+use Rattle.std.specs.Prelude.{ℕ, ◌+◌, ◌*◌, ◌≤◌, min, Bool, true, cond, ◌&&◌, ◌||◌, ◌≡◌, leb, ltb}
+use Rattle.std.specs.Prelude.{ℤ, pos, negsuc, neg_ℤ, nat_abs}
 use Rattle.std.specs.Int.Signed.{le_z}
 use Rattle.matter.specs.declared.enums.DirectionEnum.{DirectionEnum}
 use Rattle.matter.specs.InRange.{Short}

@@ -1,5 +1,5 @@
 -- The lines of calls, by their first words, and what a lamp answers.
-use Rattle.std.specs.Prelude.{ℕ, List, [], ◌∷◌, Option}
+use Rattle.std.specs.Prelude.{ℕ, List, [], ◌∷◌}
 use Rattle.matter.specs.Causes.{accepted}
 use Rattle.tasks.specs.declared.Running.{Running}
 use Rattle.lamp.specs.declared.Answer.{Answer}
@@ -11,7 +11,7 @@ use Rattle.lamp.specs.Answers.{unchanged}
 use Rattle.lamp.specs.Making.{making}
 use Rattle.lamp.specs.Passes.{changed}
 use Rattle.commands.specs.Answers.{answer}
-use Rattle.text.specs.Readers.{Reader, give, ◌then◌, number8, number32, number64, Row, ◌means◌, named, unknown, line_of}
+use Rattle.text.specs.Readers.{Reader, give, ◌then◌, number8, number32, number64, Row, ◌means◌, named, unknown}
 use Rattle.lamp_lines.specs.Fields.{bounds_at, idle_lamp_at}
 use Rattle.lamp_lines.specs.Records.{running_at}
 use Rattle.call_lines.specs.declared.setters.Setting.{Setting}
@@ -66,10 +66,6 @@ lines =
 -- by the first word
 unfoldable pub line_at : List ℕ → Reader Line
 line_at = named lines unknown
-
--- a line is what was read where its last word ends it
-abbrev pub line_read : List ℕ → Option Line
-line_read = line_of line_at
 
 -- ---- what a lamp answers
 

@@ -18,11 +18,8 @@ setting_of value end clock = record { value = value; is_end = end; clock = clock
 -- <new> <end> <enhanced> <clock>
 unfoldable pub hue_setting_at : Reader Setting
 hue_setting_at =
-    give (λ hue end enhanced. setting_of (NewValue.Hue hue enhanced) end) then number16 then flag then flag then number64
-
--- <end> <clock>, behind a new value
-unfoldable pub ended_at : NewValue → Reader Setting
-ended_at value = give (setting_of value) then flag then number64
+    give (λ hue end enhanced. setting_of (NewValue.Hue hue enhanced) end) then number16 then flag then flag
+    then number64
 
 -- <new> <end> <clock>
 unfoldable pub saturation_setting_at : Reader Setting

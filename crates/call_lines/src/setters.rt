@@ -1,7 +1,7 @@
 // A setter on its own: its line, and the lamp at the clock with the colour that was set.
 ghost use Rattle.std.specs.Prelude.{◌≡◌};
-ghost use Rattle.text.specs.Readers.{Reads};
-ghost use Rattle.call_lines.specs.Setters.{hue_setting_at, saturation_setting_at, mireds_setting_at, ended_at, setting_at, setting_set, setting_answer};
+ghost use Rattle.text.specs.Readers.{Reads, give, ◌then◌, flag, number64};
+ghost use Rattle.call_lines.specs.Setters.{setting_of, hue_setting_at, saturation_setting_at, mireds_setting_at, setting_at, setting_set, setting_answer};
 
 use color::{Color, ColorSet, cons_change};
 use lamp::{Answer, Lamp};
@@ -37,9 +37,8 @@ fn hue(words: &mut Words) -> Option<Setting>
 }
 
 // The end and the clock behind a new value.
-#[tactic(auto, unfolding(crate::specs::Setters::ended_at))]
 fn ended(value: NewValue, words: &mut Words) -> Option<Setting>
-    ensures { Reads (ended_at value words.old) result words.new }
+    ensures { Reads ((give (setting_of value) then flag then number64) words.old) result words.new }
 {
     Some(Setting {
         value,
@@ -48,14 +47,14 @@ fn ended(value: NewValue, words: &mut Words) -> Option<Setting>
     })
 }
 
-#[tactic(auto, unfolding(crate::specs::Setters::saturation_setting_at, crate::specs::Setters::ended_at))]
+#[tactic(auto, unfolding(crate::specs::Setters::saturation_setting_at))]
 fn saturation(words: &mut Words) -> Option<Setting>
     ensures { Reads (saturation_setting_at words.old) result words.new }
 {
     ended(NewValue::Saturation(words.read()?), words)
 }
 
-#[tactic(auto, unfolding(crate::specs::Setters::mireds_setting_at, crate::specs::Setters::ended_at))]
+#[tactic(auto, unfolding(crate::specs::Setters::mireds_setting_at))]
 fn mireds(words: &mut Words) -> Option<Setting>
     ensures { Reads (mireds_setting_at words.old) result words.new }
 {

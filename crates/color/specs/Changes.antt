@@ -95,4 +95,5 @@ pub record SettersChange (c : Color) (new : ℕ) (end : Bool) (clock : ℕ) (act
       Changes saturation_attribute c new end clock active
       (saturation_set c new end clock) (saturation_reported c new end clock active)
   pub mireds :
-      Changes mireds_attribute c new end clock active (mireds_set c new end clock) (mireds_reported c new end clock active)
+      Changes mireds_attribute c new end clock active
+      (mireds_set c new end clock) (mireds_reported c new end clock active)

@@ -1,10 +1,12 @@
 -- The setters: document 01, leaf 5.
-use Rattle.std.specs.Prelude.{ℕ, ◌+◌, Bool, false, not, cond, ◌&&◌, ◌||◌, List, [], ◌∷◌, ◌++◌, eqb, leb, Option, Some, None}
+use Rattle.std.specs.Prelude.{ℕ, ◌+◌, Bool, false, not, cond, ◌&&◌, ◌||◌, List, [], ◌∷◌, ◌++◌, eqb, leb}
+use Rattle.std.specs.Prelude.{Option, Some, None}
 use Rattle.matter.specs.declared.enums.ColorModeEnum.{ColorModeEnum}
 use Rattle.matter.specs.declared.enums.EnhancedColorModeEnum.{EnhancedColorModeEnum}
 use Rattle.notices.specs.declared.Notice.{Notice}
 use Rattle.notices.specs.Notices.{only}
-use Rattle.notices.specs.Names.{EnhancedCurrentHue, ColorMode, EnhancedColorMode, marked_dirty, scenes_notified, notice_number}
+use Rattle.notices.specs.Names.{EnhancedCurrentHue, ColorMode, EnhancedColorMode, marked_dirty, scenes_notified}
+use Rattle.notices.specs.Names.{notice_number}
 use Rattle.color.specs.declared.Color.{Color}
 use Rattle.color.specs.declared.Change.{Change}
 use Rattle.color.specs.declared.ColorSet.{ColorSet}
@@ -33,7 +35,8 @@ hue_mode enhanced =
 
 -- "`set_saturation` keeps an enhanced mode that is already a hue one"
 abbrev pub kept_hue_mode : EnhancedColorModeEnum → EnhancedColorModeEnum
-kept_hue_mode EnhancedColorModeEnum.CurrentHueAndCurrentSaturation = EnhancedColorModeEnum.CurrentHueAndCurrentSaturation
+kept_hue_mode EnhancedColorModeEnum.CurrentHueAndCurrentSaturation =
+    EnhancedColorModeEnum.CurrentHueAndCurrentSaturation
 kept_hue_mode EnhancedColorModeEnum.CurrentXAndCurrentY = EnhancedColorModeEnum.CurrentHueAndCurrentSaturation
 kept_hue_mode EnhancedColorModeEnum.ColorTemperatureMireds = EnhancedColorModeEnum.CurrentHueAndCurrentSaturation
 kept_hue_mode EnhancedColorModeEnum.EnhancedCurrentHueAndCurrentSaturation =

@@ -27,7 +27,7 @@ use Rattle.lamp.specs.Answers.{at_clock, refusal}
 use Rattle.commands.specs.declared.outcomes.Outcome.{Outcome}
 use Rattle.commands.specs.Answers.{command_cause, command_done, command_answer}
 use Rattle.commands.specs.Commands.{CommandEffect, with_loop, updated_reported, acted, deactivated, activated, loop_set}
-use Rattle.commands.specs.Outcomes.{outcome_of}
+use Rattle.commands.specs.Inner.{outcome_of}
 use Rattle.commands.proofs.Kept.{done-by, done-any, commands-few}
 
 -- ---- a command reports bytes, and the colour loop's nothing from 18 on

@@ -37,7 +37,8 @@ use Rattle.lamp.specs.Passes.{changed}
 use Rattle.lamp.specs.declared.Call.{Call}
 use Rattle.lamp.specs.InRange.{InRangeLamp, InRangeCall}
 use Rattle.lamp.proofs.InRangeKept.{started-any, stepped-any, in-range-of, clock-in-range, changed-in-range, started-in-range, stepped-in-range, with-bounds-in-range}
-use Rattle.commands.specs.Answers.{after_clock, allowed, command_cause, command_done, command_answer, cause, answer, granted, clock_of, is_loop_set}
+use Rattle.commands.specs.Answers.{after_clock, allowed, command_cause, command_done, command_answer, cause, answer, clock_of, is_loop_set}
+use Rattle.commands.proofs.Granted.{granted}
 use Rattle.commands.specs.Ties.{aim_of, aim_ties}
 use Rattle.commands.specs.Unchanged.{sets_bounds}
 use Rattle.matter.specs.declared.limits.Bounds.{Bounds}

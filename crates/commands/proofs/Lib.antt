@@ -8,3 +8,4 @@ pub mod LoopLaws
 pub mod StepLimits
 pub mod Ties
 pub mod NewBounds
+pub mod Granted

@@ -14,7 +14,7 @@ use Rattle.color.specs.Setters.{hue_change, hue_reported, change_reported}
 use Rattle.lamp.specs.declared.Lamp.{Lamp}
 use Rattle.commands.specs.declared.outcomes.Outcome.{Outcome}
 use Rattle.commands.specs.Commands.{CommandEffect, skip, deactivated, activated, acted}
-use Rattle.commands.specs.Outcomes.{accepted_outcome}
+use Rattle.commands.specs.Inner.{accepted_outcome}
 
 -- the flags' notices
 pub flags-in-front : (l : Numeral) (a b c : Bool) →

@@ -14,7 +14,8 @@ use Rattle.color.specs.Bounded.{mireds_within, bounded}
 use Rattle.lamp.specs.declared.Lamp.{Lamp}
 use Rattle.lamp.specs.declared.Call.{Call}
 use Rattle.lamp.proofs.Kept.{bounds-ready}
-use Rattle.commands.specs.Answers.{cause, answer, granted}
+use Rattle.commands.specs.Answers.{cause, answer}
+use Rattle.commands.proofs.Granted.{granted}
 use Rattle.commands.specs.NewBounds.{NewBounds}
 use Rattle.commands.proofs.Kept.{answer-both}
 

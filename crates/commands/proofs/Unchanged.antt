@@ -14,7 +14,8 @@ use Rattle.lamp.specs.Calls.{temperature_start, started, stepped}
 use Rattle.lamp.specs.Passes.{Effect, hue_passed, loop_passed, saturation_passed, temperature_passed}
 use Rattle.lamp.specs.declared.Call.{Call}
 use Rattle.lamp.proofs.InRangeKept.{started-any, stepped-any}
-use Rattle.commands.specs.Answers.{answer, granted}
+use Rattle.commands.specs.Answers.{answer}
+use Rattle.commands.proofs.Granted.{granted}
 use Rattle.commands.specs.Unchanged.{is_move_to, moves_to, Unchanged}
 use Rattle.commands.proofs.Kept.{answer-both, refused-same, done-any, bounds-kept, options-kept}
 

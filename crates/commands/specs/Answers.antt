@@ -11,9 +11,8 @@ use Rattle.tasks.specs.declared.Task.{Task}
 use Rattle.lamp.specs.declared.Lamp.{Lamp}
 use Rattle.lamp.specs.declared.Answer.{Answer}
 use Rattle.lamp.specs.Answers.{at_clock, first_cause}
-use Rattle.lamp.specs.Calls.{choose, done, started, stepped, start_cause, step_cause, start_answer, step_answer, halt_answer}
-use Rattle.lamp.specs.Calls.{with_bounds, bounds_cause, bounds_answer}
-use Rattle.lamp.specs.Passes.{idled}
+use Rattle.lamp.specs.Calls.{choose, start_cause, step_cause, start_answer, step_answer, halt_answer, bounds_cause}
+use Rattle.lamp.specs.Calls.{bounds_answer}
 use Rattle.lamp.specs.declared.Call.{Call}
 use Rattle.commands.specs.Commands.{CommandEffect, skip, giving, checks, command_effect}
 
@@ -64,14 +63,6 @@ answer l (Call.Halt clock) = halt_answer l clock
 answer l (Call.SetBounds bounds clock) = bounds_answer l bounds clock
 
 -- ---- what theorems say of a call
-
--- its answer where it is accepted
-abbrev pub granted : Lamp → Call → Answer
-granted l (Call.Command r on_off clock) = command_accepted (command_done (at_clock l clock) r on_off)
-granted l (Call.Start task clock) = done (started (at_clock l clock) task)
-granted l (Call.Step clock) = done (stepped (at_clock l clock) l.running)
-granted l (Call.Halt clock) = done (idled (at_clock l clock))
-granted l (Call.SetBounds bounds clock) = done (with_bounds (at_clock l clock) bounds)
 
 -- its clock
 abbrev pub clock_of : Call → ℕ

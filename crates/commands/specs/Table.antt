@@ -27,8 +27,10 @@ use Rattle.commands.specs.Unchanged.{sets_bounds}
 pub record StepCauses (l : Lamp) (clock : ℕ) : Type 0 where
   pub step-8 : lamp_valid l ≡ false → number_of (cause l (Call.Step clock)) ≡ 8
   pub step-7 : lamp_valid l ≡ true → runs l.running ≡ false → number_of (cause l (Call.Step clock)) ≡ 7
-  pub step-4 : lamp_valid l ≡ true → runs l.running ≡ true → bad_clock l clock ≡ true → number_of (cause l (Call.Step clock)) ≡ 4
-  pub step-0 : lamp_valid l ≡ true → runs l.running ≡ true → bad_clock l clock ≡ false → number_of (cause l (Call.Step clock)) ≡ 0
+  pub step-4 : lamp_valid l ≡ true → runs l.running ≡ true → bad_clock l clock ≡ true →
+      number_of (cause l (Call.Step clock)) ≡ 4
+  pub step-0 : lamp_valid l ≡ true → runs l.running ≡ true → bad_clock l clock ≡ false →
+      number_of (cause l (Call.Step clock)) ≡ 0
 
 -- halts 8, 4
 pub record HaltCauses (l : Lamp) (clock : ℕ) : Type 0 where

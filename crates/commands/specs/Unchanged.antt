@@ -1,7 +1,6 @@
 -- What a call leaves as it was, for every lamp; a refusal and an accepted halt, written out.
 use Rattle.matter.specs.Causes.{accepted, Verdict}
-use Rattle.std.specs.Prelude.{None}
-use Rattle.std.specs.Prelude.{ℕ, Bool, true, false, [], ◌∷◌, ◌≡◌}
+use Rattle.std.specs.Prelude.{None, ℕ, Bool, true, false, [], ◌∷◌, ◌≡◌}
 use Rattle.matter.specs.declared.commands.Request.{Request}
 use Rattle.matter.specs.declared.enums.OnOff.{OnOff}
 use Rattle.tasks.specs.declared.Running.{Running}

@@ -6,7 +6,7 @@ ghost use Rattle.commands.specs.Answers.{command_answer};
 ghost use Rattle.notices.specs.Names.{hue_tie};
 ghost use Rattle.notices.specs.Notices.{only};
 ghost use Rattle.commands.specs.Commands.{giving, giving_with, giving_hue, hue_task, hue_move_task, step_delta, stored};
-ghost use Rattle.commands.specs.Outcomes.{accepted_outcome};
+ghost use Rattle.commands.specs.Inner.{accepted_outcome};
 
 use crate::outcomes::{Outcome, given, given_with};
 use crate::with_options;

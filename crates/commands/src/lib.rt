@@ -16,7 +16,7 @@ ghost use Rattle.matter.specs.Requests.{request, options};
 ghost use Rattle.lamp.specs.Answers.{at_clock};
 ghost use Rattle.commands.specs.Commands.{command_effect};
 ghost use Rattle.commands.specs.Answers.{command_answer, answer};
-ghost use Rattle.commands.specs.Outcomes.{outcome_of, accepted_outcome};
+ghost use Rattle.commands.specs.Inner.{outcome_of, accepted_outcome};
 
 use checks::checks_of;
 pub use hues::{
@@ -99,7 +99,7 @@ fn execute(lamp: Lamp, command: Command, clock: u64) -> Outcome
 }
 
 // A command's checks in their order: 8 and 4, Stop mode, its own numbers, off.
-#[tactic(auto, unfolding(crate::specs::Outcomes::outcome_of, crate::specs::Answers::command_cause))]
+#[tactic(auto, unfolding(crate::specs::Inner::outcome_of, crate::specs::Answers::command_cause))]
 fn outcome(lamp: Lamp, request: Request, on_off: OnOff, clock: u64) -> Result<Outcome, Refusal>
     ensures { result ≡ outcome_of lamp request on_off clock }
 {

@@ -6,7 +6,7 @@ ghost use Rattle.lamp.specs.Answers.{at_clock};
 ghost use Rattle.commands.specs.Commands.{skip, updated, updated_reported, deactivated, activated, acted, loop_set};
 ghost use Rattle.matter.specs.Requests.{request, options};
 ghost use Rattle.commands.specs.Answers.{command_answer};
-ghost use Rattle.commands.specs.Outcomes.{accepted_outcome};
+ghost use Rattle.commands.specs.Inner.{accepted_outcome};
 
 use crate::outcomes::{Outcome, skipped};
 use crate::with_options;

@@ -3,7 +3,7 @@ ghost use Rattle.std.specs.Prelude.{◌≡◌};
 ghost use Rattle.notices.specs.Names.{hue_tie};
 ghost use Rattle.notices.specs.Notices.{only};
 ghost use Rattle.commands.specs.Commands.{skip, giving, giving_with};
-ghost use Rattle.commands.specs.Outcomes.{accepted_outcome};
+ghost use Rattle.commands.specs.Inner.{accepted_outcome};
 
 use color::Color;
 use lamp::{Lamp, LoopSettings};

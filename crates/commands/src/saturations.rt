@@ -5,7 +5,7 @@ ghost use Rattle.matter.specs.Requests.{request, options};
 ghost use Rattle.commands.specs.Answers.{command_answer};
 ghost use Rattle.tasks.specs.declared.Task.{Task};
 ghost use Rattle.commands.specs.Commands.{giving, saturation_task, saturation_step};
-ghost use Rattle.commands.specs.Outcomes.{accepted_outcome};
+ghost use Rattle.commands.specs.Inner.{accepted_outcome};
 
 use crate::outcomes::{Outcome, given};
 use crate::with_options;

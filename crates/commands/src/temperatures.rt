@@ -7,7 +7,7 @@ ghost use Rattle.matter.specs.Rules.{signed};
 ghost use Rattle.progress.specs.Progress.{clamp};
 ghost use Rattle.tasks.specs.declared.Task.{Task};
 ghost use Rattle.commands.specs.Commands.{giving, asked, lo, hi, step_limits, temperature_task, mireds_step};
-ghost use Rattle.commands.specs.Outcomes.{accepted_outcome};
+ghost use Rattle.commands.specs.Inner.{accepted_outcome};
 
 use crate::hues::step_delta;
 use crate::outcomes::{Outcome, given};

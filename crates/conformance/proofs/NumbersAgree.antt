@@ -2,11 +2,9 @@
 use Prim.Native.Nat.{ℕ}
 use mathlib.Core.List.{List, map}
 use mathlib.Core.Path.{◌≡◌, refl}
-use lib.Dec.{eqb}
-use Rattle.matter.specs.Flags.{has_flag, execute_if_off, update_action, update_direction, update_time, update_start_hue, hue_and_saturation, enhanced_hue, color_loop, xy, color_temperature}
+use Rattle.matter.specs.Flags.{has_flag}
 use Rattle.matter.specs.Numbers.{direction_number, directions, move_mode_number, move_modes, step_mode_number, step_modes, loop_action_number, loop_actions, loop_direction_number, loop_directions, color_mode_number, color_modes, enhanced_color_mode_number, enhanced_color_modes}
-use Rattle.conformance.specs.Numbers.{Line, direction_table, move_mode_table, step_mode_table, action_table, loop_direction_table, color_mode_table, enhanced_color_mode_table}
-use Rattle.conformance.specs.Options.{bit}
+use Rattle.conformance.specs.Numbers.{Line, FlagsAreBits, direction_table, move_mode_table, step_mode_table, action_table, loop_direction_table, color_mode_table, enhanced_color_mode_table}
 
 -- the port's cases with their numbers, which are all that it looks a number up in (matter/specs/Numbers, `case_numbered`)
 abbrev pub listed : {A : Type 0} → (A → ℕ) → List A → List (Line A)
@@ -33,17 +31,18 @@ color-mode-table = refl
 pub enhanced-color-mode-table : listed enhanced_color_mode_number enhanced_color_modes ≡ enhanced_color_mode_table
 enhanced-color-mode-table = refl
 
-module _ (bits : ℕ) where
-  -- OptionsBitmap and UpdateFlagsBitmap
-  pub flag-0 : (has_flag bits execute_if_off ≡ eqb (bit 0 bits) 1) × (has_flag bits update_action ≡ eqb (bit 0 bits) 1)
-  unfolding has_flag
-  flag-0 = (refl, refl)
-
-  pub flags-1-to-3 : (has_flag bits update_direction ≡ eqb (bit 1 bits) 1) × (has_flag bits update_time ≡ eqb (bit 2 bits) 1) × (has_flag bits update_start_hue ≡ eqb (bit 3 bits) 1)
-  unfolding has_flag
-  flags-1-to-3 = (refl, refl, refl)
-
-  -- Feature
-  pub features : (has_flag bits hue_and_saturation ≡ eqb (bit 0 bits) 1) × (has_flag bits enhanced_hue ≡ eqb (bit 1 bits) 1) × (has_flag bits color_loop ≡ eqb (bit 2 bits) 1) × (has_flag bits xy ≡ eqb (bit 3 bits) 1) × (has_flag bits color_temperature ≡ eqb (bit 4 bits) 1)
-  unfolding has_flag
-  features = (refl, refl, refl, refl, refl)
+pub flags-are-bits : FlagsAreBits
+unfolding has_flag
+flags-are-bits =
+    record {
+      option_0 = λ bits. refl;
+      update_0 = λ bits. refl;
+      update_1 = λ bits. refl;
+      update_2 = λ bits. refl;
+      update_3 = λ bits. refl;
+      feature_0 = λ bits. refl;
+      feature_1 = λ bits. refl;
+      feature_2 = λ bits. refl;
+      feature_3 = λ bits. refl;
+      feature_4 = λ bits. refl;
+    }

@@ -28,7 +28,8 @@ use Rattle.matter.specs.Rules.{signed}
 use Rattle.lamp.specs.declared.passes.Found.{Found}
 use Rattle.lamp.specs.Passes.{Effect, found_in, unless, hue_saturation_passed, temperature_to_passed, hue_passed, saturation_passed, temperature_passed, loop_passed}
 use Rattle.lamp.specs.declared.Call.{Call}
-use Rattle.commands.specs.Answers.{cause, answer, granted}
+use Rattle.commands.specs.Answers.{cause, answer}
+use Rattle.commands.proofs.Granted.{granted}
 use Rattle.commands.proofs.Kept.{answer-both, granted-ready}
 use Rattle.conformance.specs.Started.{Ran, began, went, saved}
 use Rattle.commands.proofs.Table.{step-7, step-8}

@@ -65,7 +65,8 @@ acted_by ColorLoopActionEnum.ActivateFromColorLoopStartEnhancedHue a = activate_
 acted_by ColorLoopActionEnum.ActivateFromEnhancedCurrentHue a = activate_from a.enhanced_current_hue a
 
 -- the fields, then the action
-unfoldable pub color_loop_set : ℕ → ColorLoopActionEnum → ColorLoopDirectionEnum → ℕ → ℕ → LoopAttributes → LoopAttributes
+unfoldable pub color_loop_set : ℕ → ColorLoopActionEnum → ColorLoopDirectionEnum → ℕ → ℕ → LoopAttributes →
+    LoopAttributes
 color_loop_set flags action direction time start_hue a =
     heeded 0 flags (acted_by action (updated_by flags direction time start_hue a))
     (updated_by flags direction time start_hue a)

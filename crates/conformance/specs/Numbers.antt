@@ -1,6 +1,9 @@
--- The numbers of the enums: Matter Application Cluster Specification, Color Control, "Data types". Written from that
--- text as known, what stands in quotes too: no copy was at hand. A number that is not in a table is reserved.
-use Rattle.std.specs.Prelude.{ℕ, List, [], ◌∷◌}
+-- The numbers of the enums, and the bits of the bitmaps: Matter Application Cluster Specification, Color Control, "Data
+-- types" and "Features". Written from that text as known, what stands in quotes too: no copy was at hand. A number that
+-- is not in a table is reserved.
+use Rattle.std.specs.Prelude.{ℕ, List, [], ◌∷◌, ◌≡◌, eqb}
+use Rattle.matter.specs.Flags.{has_flag, execute_if_off, update_action, update_direction, update_time, update_start_hue}
+use Rattle.matter.specs.Flags.{hue_and_saturation, enhanced_hue, color_loop, xy, color_temperature}
 use Rattle.matter.specs.declared.enums.ColorLoopActionEnum.{ColorLoopActionEnum}
 use Rattle.matter.specs.declared.enums.ColorLoopDirectionEnum.{ColorLoopDirectionEnum}
 use Rattle.matter.specs.declared.enums.ColorModeEnum.{ColorModeEnum}
@@ -8,6 +11,7 @@ use Rattle.matter.specs.declared.enums.DirectionEnum.{DirectionEnum}
 use Rattle.matter.specs.declared.enums.EnhancedColorModeEnum.{EnhancedColorModeEnum}
 use Rattle.matter.specs.declared.enums.MoveModeEnum.{MoveModeEnum}
 use Rattle.matter.specs.declared.enums.StepModeEnum.{StepModeEnum}
+use Rattle.conformance.specs.Options.{bit}
 
 -- a line of a table: a number and what it means
 pub record Line (A : Type 0) : Type 0 where
@@ -50,3 +54,22 @@ enhanced_color_mode_table =
     ∷ line 2 EnhancedColorModeEnum.ColorTemperatureMireds
     ∷ line 3 EnhancedColorModeEnum.EnhancedCurrentHueAndCurrentSaturation
     ∷ []
+
+-- whether a bitmap has the port's flag is its bit
+abbrev pub IsBit : ℕ → ℕ → Type 0
+IsBit flag k = (bits : ℕ) → has_flag bits flag ≡ eqb (bit k bits) 1
+
+pub record FlagsAreBits : Type 0 where
+  -- OptionsBitmap
+  pub option_0 : IsBit execute_if_off 0
+  -- UpdateFlagsBitmap
+  pub update_0 : IsBit update_action 0
+  pub update_1 : IsBit update_direction 1
+  pub update_2 : IsBit update_time 2
+  pub update_3 : IsBit update_start_hue 3
+  -- Feature
+  pub feature_0 : IsBit hue_and_saturation 0
+  pub feature_1 : IsBit enhanced_hue 1
+  pub feature_2 : IsBit color_loop 2
+  pub feature_3 : IsBit xy 3
+  pub feature_4 : IsBit color_temperature 4

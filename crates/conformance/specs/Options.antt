@@ -41,4 +41,6 @@ on_off_false OnOff.NoHandler = false
 -- which is "The value of the ExecuteIfOff bit is 0"
 unfoldable pub continues : OnOff → ℕ → ℕ → ℕ → Bool
 continues on_off options mask over =
-    not (on_off_exists on_off && on_off_false on_off && eqb (execute_if_off_bit (temporary_options options mask over)) 0)
+    not
+    (on_off_exists on_off && on_off_false on_off
+    && eqb (execute_if_off_bit (temporary_options options mask over)) 0)

@@ -33,7 +33,8 @@ use Rattle.commands.specs.Commands.{command_effect}
 use Rattle.commands.specs.Answers.{answer, command_cause, command_answer}
 use Rattle.schedule.specs.Calls.{after, quiet}
 use Rattle.schedule.specs.Schedule.{target}
-use Rattle.schedule.specs.Fades.{Fade, found, begun, PremisedButHue, Premised, seen, observations, shown}
+use Rattle.schedule.specs.Fades.{Fade, found, begun, PremisedButHue, Premised}
+use Rattle.schedule.proofs.Observations.{seen, observations, shown}
 use Rattle.schedule.proofs.Examples.{lamp_at, plain, at5000, meets, in-range-lamp, in-range-plain}
 use Rattle.consequences.specs.Together.{step_clocks, Alike}
 use Rattle.consequences.specs.OffTarget.{moved_between}

@@ -2,11 +2,12 @@
 use Rattle.std.proofs.Common.{◌≡◌, ℕ, ◌<◌, arith, eqb}
 use Rattle.std.specs.Prelude.{cond, Result, Ok, Err, is_ok}
 use Rattle.std.specs.Result.{result_unwrap_or}
+use Rattle.std.specs.List.{list_all}
 use Rattle.std.proofs.lemmas.Bool.Decides.{nat_tests}
 use mathlib.Core.Bool.{Bool, true, false}
 use mathlib.Core.List.{List, [], ◌∷◌}
 use mathlib.Core.Path.{refl}
-use lib.Dec.{ltb}
+use lib.Dec.{ltb, leb}
 use borrow.Author.Tests.{ltb-true}
 use Rattle.matter.specs.declared.enums.DirectionEnum.{DirectionEnum}
 use Rattle.matter.specs.declared.enums.MoveModeEnum.{MoveModeEnum}
@@ -19,11 +20,17 @@ use Rattle.matter.specs.declared.enums.OnOff.{OnOff}
 use Rattle.matter.specs.declared.enums.Reserved.{Reserved}
 use Rattle.matter.proofs.Laws.{and_left, and_right}
 use Rattle.matter.specs.Numbers.{case_numbered, direction_number, directions, move_mode_number, move_modes, step_mode_number, step_modes, loop_action_number, loop_actions, loop_direction_number, loop_directions, color_mode_number, color_modes, enhanced_color_mode_number, enhanced_color_modes, on_off_number, on_offs}
-use Rattle.exports.specs.Words.{capped}
-use Rattle.exports.specs.Enums.{read_of, known_of, below, direction_read, direction_known, move_mode_read, move_mode_known, step_mode_read, step_mode_known, loop_action_read, loop_action_known, loop_direction_read, loop_direction_known, color_mode_read, color_mode_known, enhanced_mode_read, enhanced_mode_known, on_off_read, on_off_known}
+use Rattle.exports.specs.Enums.{read_of, known_of, direction_read, direction_known, move_mode_read, move_mode_known, step_mode_read, step_mode_known, loop_action_read, loop_action_known, loop_direction_read, loop_direction_known, color_mode_read, color_mode_known, enhanced_mode_read, enhanced_mode_known, on_off_read, on_off_known}
+
+-- an enum's number: past eight bits it is 255, which no enum has
+abbrev pub capped : ℕ → ℕ
+capped x = cond (leb x 255) x 255
+
+-- the numbers of these cases end before 255
+abbrev pub below : {E : Type 0} → (E → ℕ) → List E → Bool
+below number xs = list_all (λ x. ltb (number x) 255) xs
 
 pub capped_test : (n m : ℕ) → m < 255 → eqb (capped n) m ≡ eqb n m
-unfolding capped
 capped_test n m h = grind (arith, nat_tests)
 
 module _ {A B : Type 0} (number : A → ℕ) (known : A → B) (none : B) (n : ℕ) where

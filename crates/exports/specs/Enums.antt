@@ -1,6 +1,6 @@
 -- The cluster's enums by their numbers, which `matter` states: the case that a number has, and whether one has it. A
 -- number that no case has is read as the case that stands here.
-use Rattle.std.specs.Prelude.{ℕ, Bool, true, ◌&&◌, List, [], ◌∷◌, ltb, is_ok}
+use Rattle.std.specs.Prelude.{ℕ, Bool, List, is_ok}
 use Rattle.std.specs.Result.{result_unwrap_or}
 use Rattle.matter.specs.Numbers.{found_in, direction_number, directions, move_mode_number, move_modes, step_mode_number}
 use Rattle.matter.specs.Numbers.{step_modes, loop_action_number, loop_actions, loop_direction_number, loop_directions}
@@ -22,11 +22,6 @@ read_of number cases reserved n = result_unwrap_or (found_in number cases n) res
 -- whether one has it
 unfoldable pub known_of : {E : Type 0} → (E → ℕ) → List E → ℕ → Bool
 known_of number cases n = is_ok (found_in number cases n)
-
--- the numbers of these cases end before 255
-abbrev pub below : {E : Type 0} → (E → ℕ) → List E → Bool
-below number [] = true
-below number (x ∷ xs) = ltb (number x) 255 && below number xs
 
 -- DirectionEnum
 abbrev pub direction_read : ℕ → DirectionEnum

@@ -1,5 +1,5 @@
 -- Why words from C are not taken, or what they ask is refused, each with the number that C reads.
-use Rattle.std.specs.Prelude.{ℕ, Result, Ok, Err}
+use Rattle.std.specs.Prelude.{ℕ}
 use Rattle.matter.specs.Causes.{refusal_number}
 use Rattle.exports.specs.declared.failures.WordsError.{WordsError}
 
@@ -19,8 +19,3 @@ error_number WordsError.UnreadableCall = unreadable
 error_number WordsError.UnreadableLamp = unreadable_lamp
 error_number WordsError.NoRoom = no_room
 error_number (WordsError.Refused refusal) = refusal_number refusal
-
--- 0, or the failure's
-abbrev pub number_left : Result Unit WordsError → ℕ
-number_left (Ok u) = 0
-number_left (Err error) = error_number error

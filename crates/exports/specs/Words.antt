@@ -1,5 +1,5 @@
 -- Words and numbers. A lamp, a call and an answer are lists of 64-bit words.
-use Rattle.std.specs.Prelude.{ℕ, ◌%◌, ◌^◌, Bool, cond, List, get_or, eqb, leb, ℤ, pos, neg_ℤ, nat_abs}
+use Rattle.std.specs.Prelude.{ℕ, ◌%◌, ◌^◌, Bool, cond, List, get_or, eqb, ℤ, pos, neg_ℤ, nat_abs}
 use Rattle.std.specs.Int.Signed.{lt_z}
 
 -- the word at a place, 0 past the end
@@ -15,10 +15,6 @@ short x = x % 2 ^ 16
 
 abbrev pub long : ℕ → ℕ
 long x = x % 2 ^ 32
-
--- an enum's number: past eight bits it is 255, which no enum has
-unfoldable pub capped : ℕ → ℕ
-capped x = cond (leb x 255) x 255
 
 -- 1 is true, and true is 1
 unfoldable pub flag : ℕ → Bool

@@ -1,6 +1,7 @@
 // The cluster's enums by their numbers, which `matter` states. A number that no case has is read as the enum's case
 // `RESERVED`.
-ghost use Rattle.std.specs.Prelude.{◌≡◌, true, refl};
+ghost use Rattle.std.specs.Prelude.{◌≡◌, true, refl, ltb};
+ghost use Rattle.std.specs.List.{list_all};
 ghost use Rattle.matter.specs.declared.enums.DirectionEnum.{DirectionEnum};
 ghost use Rattle.matter.specs.declared.enums.MoveModeEnum.{MoveModeEnum};
 ghost use Rattle.matter.specs.declared.enums.StepModeEnum.{StepModeEnum};
@@ -9,7 +10,7 @@ ghost use Rattle.matter.specs.declared.enums.ColorLoopDirectionEnum.{ColorLoopDi
 ghost use Rattle.matter.specs.declared.enums.ColorModeEnum.{ColorModeEnum};
 ghost use Rattle.matter.specs.declared.enums.EnhancedColorModeEnum.{EnhancedColorModeEnum};
 ghost use Rattle.matter.specs.declared.enums.OnOff.{OnOff};
-ghost use Rattle.exports.specs.Enums.{read_of, known_of, below};
+ghost use Rattle.exports.specs.Enums.{read_of, known_of};
 
 use crate::words;
 use matter::{
@@ -25,7 +26,7 @@ pub(crate) trait Readable: Numbered {
 
     const RESERVED: Self;
 
-    ghost ends: { below Self.number Self.cases ≡ true };
+    ghost ends: { list_all (λ x. ltb (Self.number x) 255) Self.cases ≡ true };
 }
 
 impl Readable for DirectionEnum {

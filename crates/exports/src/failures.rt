@@ -1,7 +1,7 @@
 // Why words from C are not taken, or what they ask is refused, each with the number that C reads.
-ghost use Rattle.std.specs.Prelude.{◌≡◌};
+ghost use Rattle.std.specs.Prelude.{◌≡◌, MatchResult};
 ghost use Rattle.exports.specs.declared.failures.WordsError.TheVariants.{Refused};
-ghost use Rattle.exports.specs.Failures.{error_number, number_left};
+ghost use Rattle.exports.specs.Failures.{error_number};
 
 use matter::Refusal;
 
@@ -40,7 +40,7 @@ impl From<WordsError> for u64 {
 
 // The number that C reads: 0, or that of the failure. No `From`: neither `Result` nor `u64` is this crate's.
 pub(crate) fn number_of(left: Result<(), WordsError>) -> u64
-    ensures { result ≡ number_left left }
+    ensures { MatchResult left (λ _. result ≡ 0) (λ e. result ≡ error_number e) }
 {
     left.map_or_else(u64::from, |_| 0)
 }

@@ -11,9 +11,9 @@ mod lamps;
 mod moves;
 mod words;
 
-ghost use Rattle.std.specs.Prelude.{◌≡◌};
+ghost use Rattle.std.specs.Prelude.{◌≡◌, MatchResult};
 ghost use Rattle.exports.specs.Exported.{made, answered};
-ghost use Rattle.exports.specs.Failures.{number_left};
+ghost use Rattle.exports.specs.Failures.{error_number};
 
 pub use answers::{ANSWER_WORDS, answer_words, place};
 pub use calls::{CALL_WORDS, sent};
@@ -33,7 +33,7 @@ fn make(
     options: u8,
     clock: u64,
 ) -> Result<(), WordsError>
-    ensures value { number_left result ≡ (made words.old bounds features options clock).number }
+    ensures value { MatchResult result (λ _. (made words.old bounds features options clock).number ≡ 0) (λ e. (made words.old bounds features options clock).number ≡ error_number e) }
     ensures words_after { words.new ≡ (made words.old bounds features options clock).lamp }
 {
     if words.len() != LAMP_WORDS {
@@ -47,7 +47,7 @@ fn make(
 // A call on the lamp in `words`, with its answer.
 #[tactic(auto, unfolding(crate::specs::Exported::answered))]
 fn call_lamp(words: &mut [u64], call: &[u64], answer: &mut [u64]) -> Result<(), WordsError>
-    ensures value { number_left result ≡ (answered words.old call.now answer.old).number }
+    ensures value { MatchResult result (λ _. (answered words.old call.now answer.old).number ≡ 0) (λ e. (answered words.old call.now answer.old).number ≡ error_number e) }
     ensures words_after { words.new ≡ (answered words.old call.now answer.old).lamp }
     ensures answer_after { answer.new ≡ (answered words.old call.now answer.old).answer }
 {

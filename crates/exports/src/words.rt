@@ -1,6 +1,6 @@
 // Words and numbers. A lamp, a call and an answer are slices of 64-bit words; a number of a narrower field is read by the
 // field's width.
-ghost use Rattle.std.specs.Prelude.{◌≡◌};
+ghost use Rattle.std.specs.Prelude.{◌≡◌, cond, leb};
 ghost use Rattle.exports.specs.Words as W;
 
 // The word at a place, 0 past the end.
@@ -31,9 +31,8 @@ pub(crate) fn long(x: u64) -> u32
 }
 
 // An enum's number: past eight bits it is 255, which no enum has.
-#[tactic(auto, unfolding(crate::specs::Words::capped))]
 pub(crate) fn capped(x: u64) -> u8
-    ensures { result ≡ W.capped x }
+    ensures { result ≡ cond (leb x 255) x 255 }
 {
     u8::try_from(x).unwrap_or(255)
 }

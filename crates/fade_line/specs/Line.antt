@@ -1,6 +1,7 @@
 -- The line that `fade` reads: document 01, "The program `fade`". Bytes are numbers; 10 is the newline, 32 the blank,
 -- 48 to 57 the digits.
-use Rattle.std.specs.Prelude.{ℕ, Bool, true, cond, ◌&&◌, List, [], ◌∷◌, eqb, leb, length, get_or, Option, Some, None, option_map, Result, Ok, Err}
+use Rattle.std.specs.Prelude.{ℕ, Bool, true, cond, ◌&&◌, List, [], ◌∷◌, eqb, leb, length, get_or}
+use Rattle.std.specs.Prelude.{Option, Some, None, option_map, Result, Ok, Err}
 use Rattle.text.specs.Digits.{value, is_number}
 use Rattle.text.specs.Words.{up_to}
 use Rattle.matter.specs.Numbers.{direction_found}

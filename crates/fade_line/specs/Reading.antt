@@ -1,5 +1,6 @@
 -- The line of `fade` (document 01), read a byte at a time. That this is the line of `Line` is shown in proofs/LineLaws.
-use Rattle.std.specs.Prelude.{ℕ, ◌+◌, Bool, true, false, cond, List, eqb, ltb, Option, Some, None, unwrap_or, option_map, option_and_then}
+use Rattle.std.specs.Prelude.{ℕ, ◌+◌, Bool, true, false, cond, List, eqb, ltb}
+use Rattle.std.specs.Prelude.{Option, Some, None, unwrap_or, option_map, option_and_then}
 use Rattle.std.specs.List.{fold}
 use Rattle.fade_line.specs.declared.reader.Numbers.{Numbers}
 use Rattle.fade_line.specs.declared.reader.Reader.{Reader}

@@ -1,5 +1,6 @@
 -- `fade` on document 01's line, and on lines at the edges, by computation. Bytes are written as their numbers.
-use mathlib.Core.List.{[], ◌∷◌, ◌++◌}
+use Prim.Native.Nat.{ℕ}
+use mathlib.Core.List.{List, [], ◌∷◌, ◌++◌}
 use mathlib.Core.Path.{◌≡◌, refl}
 use Rattle.matter.specs.All.{all_true}
 use Rattle.matter.specs.Flags.{has_flag}
@@ -20,9 +21,13 @@ use Rattle.commands.specs.Commands.{command_effect}
 use Rattle.commands.specs.Answers.{command_cause, command_answer}
 use Rattle.text.specs.Digits.{is_number, decimal_in, decimal, spaced, spaced_all}
 use Rattle.text.specs.Words.{up_to}
-use Rattle.fade_line.specs.Line.{words, wanted, asked_by_words}
+use Rattle.fade_line.specs.Line.{words, wanted, asked_by_words, asked_by}
 use Rattle.fade_line.specs.Text.{state_text, line_text, refused_text}
-use Rattle.fade_run.specs.Run.{line_of, further, fade_of, fade_text}
+use Rattle.fade_run.specs.Run.{line_of, text, further, fade_of}
+
+-- what `fade` writes for an input
+abbrev pub fade_text : List ℕ → List ℕ
+fade_text input = text (fade_of (asked_by input))
 
 -- `128 0 2 5000`
 three-lines :

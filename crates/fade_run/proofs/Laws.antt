@@ -35,7 +35,8 @@ use Rattle.fade_line.specs.Text.{numbers, line_text, refused_text, room_for, fit
 use Rattle.text.specs.Written.{pasted, Wrote}
 use Rattle.text.proofs.WriteLaws.{wrote_none, length-pasted, take-pasted}
 use Rattle.fade_line.proofs.TextLaws.{numbers-noted, line-short, refused-short, fitting-all}
-use Rattle.fade_run.specs.Run.{line_of, is_over, moved, one_text, goes_on, step_after, further, text, next_text, step_of, rest}
+use Rattle.fade_run.specs.Run.{line_of, is_over, moved, one_text, goes_on, step_after, further, text}
+use Rattle.fade_run.specs.Inner.{rest, step_of, next_text}
 
 -- ---- the text is the next line and the text of the rest
 

@@ -2,7 +2,8 @@
 -- starts it, and steps at each wait until done."
 use Rattle.tasks.specs.declared.Task.{Task}
 use Rattle.std.specs.Prelude.{Option, Some, None}
-use Rattle.std.specs.Prelude.{ℕ, zero, suc, ◌+◌, ◌-◌, Bool, true, false, cond, ◌&&◌, ◌||◌, List, [], ◌++◌, ltb, Option, Some, None}
+use Rattle.std.specs.Prelude.{ℕ, zero, suc, ◌+◌, Bool, true, false, cond, ◌&&◌, ◌||◌, List, [], ◌++◌, ltb}
+use Rattle.std.specs.Prelude.{Option, Some, None}
 use Rattle.matter.specs.declared.commands.Command.{Command}
 use Rattle.matter.specs.Requests.{request, no_options}
 use Rattle.matter.specs.declared.enums.OnOff.{OnOff}
@@ -18,7 +19,6 @@ use Rattle.lamp.specs.Calls.{start_answer, step_answer}
 use Rattle.commands.specs.Answers.{command_answer}
 use Rattle.fade_line.specs.declared.reader.Wanted.{Wanted}
 use Rattle.fade_line.specs.declared.writer.Line.{Line}
-use Rattle.fade_line.specs.Line.{asked_by}
 use Rattle.fade_line.specs.Text.{line_text, refused_text, bad_line_text}
 use Rattle.fade_run.specs.declared.Fade.{Fade}
 
@@ -100,35 +100,9 @@ unfoldable pub fade_of : Option Wanted → Fade
 fade_of None = Fade.BadLine
 fade_of (Some w) = fade_within w.tenths w
 
--- ---- what `fade` writes for an input
+-- ---- one line at a time
 
-abbrev pub fade_text : List ℕ → List ℕ
-fade_text input = text (fade_of (asked_by input))
-
--- ---- one line at a time: the next line, and the run after it
-
-abbrev pub next_text : Fade → List ℕ
-next_text Fade.BadLine = bad_line_text
-next_text (Fade.Refused refusal) = refused_text (refusal_number refusal)
-next_text (Fade.Start s) = one_text (start_answer s.lamp s.task s.clock) s.clock
-next_text (Fade.Step s) = one_text (step_answer s.lamp s.clock) s.clock
-next_text Fade.Over = []
-
-unfoldable pub step_of : Answer → ℕ → ℕ → Fade
-step_of a clock left =
-    cond (goes_on a && ltb 0 left) (Fade.Step (record {
-      lamp = a.lamp;
-      clock = clock + a.wait;
-      left = left - 1;
-    })) Fade.Over
-
-abbrev pub rest : Fade → Fade
-rest Fade.BadLine = Fade.Over
-rest (Fade.Refused number) = Fade.Over
-rest (Fade.Start s) = step_of (start_answer s.lamp s.task s.clock) s.clock s.left
-rest (Fade.Step s) = step_of (step_answer s.lamp s.clock) s.clock s.left
-rest Fade.Over = Fade.Over
-
+-- whether nothing is left to write
 abbrev pub is_over : Fade → Bool
 is_over Fade.BadLine = false
 is_over (Fade.Refused number) = false

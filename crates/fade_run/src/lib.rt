@@ -4,7 +4,8 @@
 ghost use Rattle.std.specs.Prelude.{◌≡◌, ◌+◌, ◌<◌, ◌≤◌, ◌^◌, ◌++◌, length, take, true};
 ghost use Rattle.text.specs.Written.{Wrote};
 ghost use Rattle.fade_line.specs.Text.{fitting};
-ghost use Rattle.fade_run.specs.Run.{line_of, one_text, next_text, rest, start_of, after_command, commanded, after_making, fade_within, fade_of, step_of, is_over, text, moved};
+ghost use Rattle.fade_run.specs.Run.{line_of, one_text, start_of, after_command, commanded, after_making, fade_within, fade_of, is_over, text, moved};
+ghost use Rattle.fade_run.specs.Inner.{rest, step_of, next_text};
 
 use commands::invoke;
 use fade_line::reader::Wanted;
@@ -106,7 +107,7 @@ fn line_of(answer: Answer, clock: u64) -> Line
 }
 
 // The step that follows an answer to a call at this clock.
-#[tactic(auto, unfolding(crate::specs::Run::step_of))]
+#[tactic(auto, unfolding(crate::specs::Inner::step_of))]
 fn step_of(answer: Answer, clock: u64, left: u16) -> Fade
     requires { clock + answer.wait < 2 ^ 64 }
     ensures { result ≡ step_of answer clock left }

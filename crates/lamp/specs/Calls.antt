@@ -27,8 +27,8 @@ use Rattle.lamp.specs.declared.passes.Left.{Left}
 use Rattle.lamp.specs.Answers.{at_clock, bad_clock, first_cause, unchanged}
 use Rattle.lamp.specs.Valid.{lamp_valid}
 use Rattle.lamp.specs.Passes.{Effect, found_with, left_by, left_effect, idled, hue_saturation_passed}
-use Rattle.lamp.specs.Passes.{hue_saturation_pass, temperature_to_passed, temperature_to_pass, hue_pass, saturation_pass}
-use Rattle.lamp.specs.Passes.{temperature_pass, loop_pass}
+use Rattle.lamp.specs.Passes.{hue_saturation_pass, temperature_to_passed, temperature_to_pass, hue_pass}
+use Rattle.lamp.specs.Passes.{saturation_pass, temperature_pass, loop_pass}
 
 -- ---- starts: the lamp is at the call's clock already
 

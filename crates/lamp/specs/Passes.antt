@@ -193,10 +193,6 @@ passed f set device wait end =
       ends = end;
     }
 
--- where nothing runs, nothing changes, and no device is written
-abbrev pub nothing_passed : Found → Passed
-nothing_passed f = passed f (record { color = f.color; change = no_change }) None 0 true
-
 -- one pass of hue_move_transition: "A hue move never ends"
 unfoldable pub hue_passed : Found → HueRun → Passed
 hue_passed f run =

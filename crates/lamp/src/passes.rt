@@ -1,11 +1,11 @@
 // One pass of each transition: document 01, leaf 6. A pass is given what it needs of the lamp and says what it changes; its
 // notices are put together once, from the last to the first.
 // Carried over from project-chip/rs-matter, commit 43f61585a4 (Apache-2.0, see NOTICE), and changed.
-ghost use Rattle.std.specs.Prelude.{◌≡◌, true, cond, ◌-◌, pos, ◌-ℤ◌};
+ghost use Rattle.std.specs.Prelude.{◌≡◌, None, true, cond, ◌-◌, pos, ◌-ℤ◌};
 ghost use Rattle.notices.specs.Numerals.{empty, in_front};
 ghost use Rattle.notices.proofs.Numerals.{Bytes};
 ghost use Rattle.tasks.specs.Valid.{delta_valid, move_to_valid, hue_move_valid, saturation_move_valid, rate_valid};
-ghost use Rattle.lamp.specs.Passes.{hue_moved, at_end, saturation_now, saturation_moved, mireds_now, saturation_done, mireds_done, unless, waiting, hue_saturation_moved, temperature_to_moved, timed, hue_passed, saturation_passed, temperature_passed, loop_passed, passed, nothing_passed, left_by, device_reported, reported_behind, pass_reported};
+ghost use Rattle.lamp.specs.Passes.{hue_moved, at_end, saturation_now, saturation_moved, mireds_now, saturation_done, mireds_done, unless, waiting, hue_saturation_moved, temperature_to_moved, timed, hue_passed, saturation_passed, temperature_passed, loop_passed, passed, left_by, device_reported, reported_behind, pass_reported};
 
 use color::{Change, Color, ColorSet, cons_change};
 use hue::moved_hue;
@@ -356,7 +356,7 @@ impl Found {
 
     // Where nothing runs, nothing changes, and no device is written.
     pub(crate) fn no_transition(self) -> Passed
-        ensures { result ≡ nothing_passed self }
+        ensures { result ≡ passed self (record { color = self.color; change = None }) None 0 true }
     {
         self.passed(ColorSet::unchanged(self.color), None, 0, true)
     }

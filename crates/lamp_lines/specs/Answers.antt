@@ -1,7 +1,5 @@
 -- The texts of answers.
-use Rattle.std.specs.Prelude.{Option, Some, None}
-use Rattle.std.specs.Prelude.{ℕ, Bool, cond, List, [], ◌∷◌, ◌++◌, eqb, ℤ, take}
-use Rattle.std.specs.Prelude.{Ok, Err}
+use Rattle.std.specs.Prelude.{Option, Some, None, ℕ, Bool, cond, List, [], ◌∷◌, ◌++◌, eqb, ℤ, take, Ok, Err}
 use Rattle.matter.specs.Causes.{Verdict, refusal_number}
 use Rattle.matter.specs.Numbers.{move_mode_number, loop_direction_number, color_mode_number, enhanced_color_mode_number}
 use Rattle.notices.specs.declared.Notices.{Notices}

@@ -25,7 +25,8 @@ abbrev pub color_mode_of : EnhancedColorModeEnum → ColorModeEnum
 color_mode_of EnhancedColorModeEnum.CurrentHueAndCurrentSaturation = ColorModeEnum.CurrentHueAndCurrentSaturation
 color_mode_of EnhancedColorModeEnum.CurrentXAndCurrentY = ColorModeEnum.CurrentXAndCurrentY
 color_mode_of EnhancedColorModeEnum.ColorTemperatureMireds = ColorModeEnum.ColorTemperatureMireds
-color_mode_of EnhancedColorModeEnum.EnhancedCurrentHueAndCurrentSaturation = ColorModeEnum.CurrentHueAndCurrentSaturation
+color_mode_of EnhancedColorModeEnum.EnhancedCurrentHueAndCurrentSaturation =
+    ColorModeEnum.CurrentHueAndCurrentSaturation
 
 -- the mode at making: the first that the features have, XY, then hue and saturation, then mireds; else XY
 unfoldable pub default_color_mode : ℕ → EnhancedColorModeEnum

@@ -1,6 +1,5 @@
 -- How many of 32 lamps run and the lowest place, asked again and again.
-use Rattle.std.specs.Prelude.{Option, Some, None}
-use Rattle.std.specs.Prelude.{ℕ, ◌+◌, ◌*◌, ◌%◌, ltb, cond, List, [], ◌∷◌, set, replicate, fold}
+use Rattle.std.specs.Prelude.{Option, Some, None, ℕ, ◌+◌, ◌*◌, ◌%◌, ltb, cond, List, [], ◌∷◌, set, replicate, fold}
 use Rattle.lamp.specs.declared.Lamp.{Lamp}
 use Rattle.tasks.specs.declared.Running.{Running}
 use Rattle.rows.specs.Rows.{count_of, lowest_of, running_count, first_running}

@@ -1,3 +1,4 @@
 pub mod Lent
 pub mod Sums
 pub mod Turns
+pub mod Wholes

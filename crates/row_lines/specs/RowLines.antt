@@ -1,9 +1,10 @@
 -- The lines of a row: document 02, A.1 and A.3; docs/PROTOCOL.md.
-use Rattle.std.specs.Prelude.{ℕ, Bool, false, cond, List, [], ◌∷◌, Option, unwrap_or, option_map}
+use Rattle.std.specs.Prelude.{ℕ, Bool, false, cond, List, [], ◌∷◌, unwrap_or, option_map}
 use Rattle.std.specs.Str.{bytes_eq}
 use Prim.Native.String.{String}
 use Rattle.text.specs.Ascii.{ascii}
-use Rattle.text.specs.Readers.{Reader, Row, give, ◌then◌, number8, number16, number32, number64, word, by_next, line_of, ◌means◌, named}
+use Rattle.text.specs.Readers.{Reader, Row, give, ◌then◌, number8, number16, number32, number64, word, by_next, ◌means◌}
+use Rattle.text.specs.Readers.{named}
 use Rattle.call_lines.specs.Lines.{line_at}
 use Rattle.row_lines.specs.declared.lines.OnRow.{OnRow}
 use Rattle.row_lines.specs.declared.lines.RowLine.{RowLine}
@@ -62,7 +63,3 @@ row_lines =
 -- by the first word
 unfoldable pub row_line_at : List ℕ → Reader RowLine
 row_line_at name = named row_lines (lamp_line_at name) name
-
--- a line is what was read where its last word ends it
-abbrev pub row_line_read : List ℕ → Option RowLine
-row_line_read = line_of row_line_at

@@ -1,7 +1,8 @@
 -- The claim for rows: document 02, A.1, "The schedule rule then speaks of each lamp of a row, for every list of row
 -- calls and single calls". One statement ties the lamp at a place to the calls that it is given, and says the claim of
 -- demand 3 of it.
-use Rattle.std.specs.Prelude.{ℕ, zero, suc, ◌*◌, ◌≤◌, ◌<◌, true, cond, List, [], ◌∷◌, ◌++◌, ◌≡◌, length, replicate, take, drop}
+use Rattle.std.specs.Prelude.{ℕ, zero, suc, ◌*◌, ◌≤◌, ◌<◌, true, cond}
+use Rattle.std.specs.Prelude.{List, [], ◌∷◌, ◌++◌, ◌≡◌, length, replicate, take, drop}
 use Rattle.matter.specs.Causes.{accepted}
 use Rattle.tasks.specs.Runs.{runs}
 use Rattle.lamp.specs.declared.Lamp.{Lamp}
@@ -11,7 +12,8 @@ use Rattle.commands.specs.Answers.{answer}
 use Rattle.schedule.specs.Calls.{after}
 use Rattle.schedule.specs.Claim.{Everywhere}
 use Rattle.rows.specs.declared.Row.{Row}
-use Rattle.rows.specs.Rows.{lamp_at, placed, mask_true, all_valid, row_cause, row_stepped, row_bytes, answered_at, least_wait}
+use Rattle.rows.specs.Rows.{lamp_at, placed, mask_true, all_valid, row_cause, row_stepped, row_bytes, answered_at}
+use Rattle.rows.specs.Rows.{least_wait}
 use Rattle.rows.specs.RowTable.{AnswersAs}
 use Rattle.row_schedule.specs.RowCalls.{RowCall, each, at, after_row, given, InRangeRowCalls}
 

@@ -14,7 +14,8 @@ use Rattle.lamp.specs.declared.Lamp.{Lamp}
 use Rattle.lamp.specs.Valid.{lamp_valid}
 use Rattle.lamp.specs.Answers.{first_cause}
 use Rattle.rows.specs.declared.Row.{Row}
-use Rattle.rows.specs.Rows.{placed, mask_true, all_valid, any_later, row_cause, slice_cause, limit_cause, graver, visits_cause, place_cause}
+use Rattle.rows.specs.Rows.{placed, mask_true, all_valid, any_later, row_cause, place_cause}
+use Rattle.rows.specs.Inner.{visits_cause, graver, limit_cause, slice_cause}
 
 -- ---- the graver of two verdicts
 

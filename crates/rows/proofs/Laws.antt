@@ -23,7 +23,8 @@ use Rattle.commands.specs.Answers.{cause, answer}
 use Rattle.commands.proofs.Kept.{refused-same, number-is-cause}
 use Rattle.rows.specs.declared.Row.{Row}
 use Rattle.rows.specs.RowTable.{AnswersAs}
-use Rattle.rows.specs.Rows.{map_to, visited, no_lamp, lamp_at, placed, mask_true, row_cause, row_stepped, row_bytes, slice_cause, limit_cause, visits_cause, place_cause, answered_at, row_of, put_at, with_lamps, graver}
+use Rattle.rows.specs.Rows.{map_to, visited, no_lamp, lamp_at, placed, mask_true, row_cause, row_stepped, row_bytes, place_cause, answered_at, row_of, put_at, with_lamps}
+use Rattle.rows.specs.Inner.{visits_cause, graver, limit_cause, slice_cause}
 use Rattle.rows.proofs.Visiting.{step-map_to, length-map_to, step-number}
 use Rattle.matter.specs.Causes.{Verdict, accepted, clock_refused, invalid_lamp, step_while_idle}
 use Rattle.matter.proofs.Laws.{accepted-of, refused-of, not-ok}

@@ -16,7 +16,8 @@ use Rattle.tasks.specs.Runs.{runs}
 use mathlib.Core.Bool.{true}
 use Rattle.rows.specs.declared.Row.{Row}
 use Rattle.rows.specs.declared.RowStepped.{RowStepped}
-use Rattle.rows.specs.Rows.{visited, visits_cause, lesser, least_wait, bytes_of, map_to, graver}
+use Rattle.rows.specs.Rows.{visited, lesser, least_wait, bytes_of, map_to}
+use Rattle.rows.specs.Inner.{visits_cause, graver}
 use Rattle.rows.proofs.Causes.{graver-assoc}
 
 pub lesser-none : (a : ℕ) → lesser a 0 ≡ a

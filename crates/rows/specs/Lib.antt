@@ -1,3 +1,4 @@
 pub mod Rows
 pub mod Mask
 pub mod RowTable
+pub mod Inner

@@ -1,6 +1,5 @@
 -- What is promised of the running mask: document 02, A.3.
-use Rattle.std.specs.Prelude.{Some, None}
-use Rattle.std.specs.Prelude.{ℕ, ◌^◌, ◌<◌, ◌≤◌, ◌≡◌, true, false, cond, ◌&&◌, ltb, List, length}
+use Rattle.std.specs.Prelude.{Some, None, ℕ, ◌^◌, ◌<◌, ◌≤◌, ◌≡◌, true, false, cond, ◌&&◌, ltb, List, length}
 use Rattle.std.specs.Int.{bit_at}
 use Rattle.matter.specs.declared.commands.Request.{Request}
 use Rattle.matter.specs.declared.enums.OnOff.{OnOff}

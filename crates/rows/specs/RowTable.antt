@@ -13,7 +13,8 @@ use Rattle.rows.specs.Rows.{placed, mask_true, lamp_at, all_valid, any_later, ro
 pub record RowCauses (r : Row) (size clock : ℕ) : Type 0 where
   pub count-8 : 32 < r.count → number_of (row_stepped r size clock).verdict ≡ 8
   pub slice-9 : r.count ≤ 32 → size < 16 * r.count → number_of (row_stepped r size clock).verdict ≡ 9
-  pub mask-8 : r.count ≤ 32 → 16 * r.count ≤ size → mask_true r ≡ false → number_of (row_stepped r size clock).verdict ≡ 8
+  pub mask-8 : r.count ≤ 32 → 16 * r.count ≤ size → mask_true r ≡ false →
+      number_of (row_stepped r size clock).verdict ≡ 8
   pub lamp-8 : r.count ≤ 32 → 16 * r.count ≤ size → all_valid (placed r) ≡ false →
       number_of (row_stepped r size clock).verdict ≡ 8
   pub clock-4 : r.count ≤ 32 → 16 * r.count ≤ size → mask_true r ≡ true → all_valid (placed r) ≡ true →

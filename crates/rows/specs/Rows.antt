@@ -1,8 +1,10 @@
 -- Rows of lamps: document 02, A.1 and A.3. A row has up to 32 lamps; those at and past its count are no part of it.
-use Rattle.std.specs.Prelude.{Option, Some, None, ℕ, zero, suc, ◌*◌, ◌^◌, ◌<◌, ◌≤◌, min, Bool, true, false, not, cond, ◌&&◌, ◌||◌, ◌==◌, List, [], ◌∷◌, ◌++◌, ◌≡◌, leb, ltb, is_ok, map, length, set, take, drop, get_or, count_by, bit_and, bit_or, count_ones}
+use Rattle.std.specs.Prelude.{Option, Some, None, ℕ, zero, suc, ◌*◌, ◌^◌, ◌<◌, ◌≤◌, min}
+use Rattle.std.specs.Prelude.{Bool, true, false, not, cond, ◌&&◌, ◌||◌, ◌==◌, bit_and, bit_or, count_ones}
+use Rattle.std.specs.Prelude.{List, [], ◌∷◌, ◌++◌, ◌≡◌, leb, ltb, is_ok, map, length, set, take, drop, get_or, count_by}
 use Rattle.std.specs.Int.{w32, bit_not, bit_at, trailing_zeros}
 use Rattle.std.specs.Simd.Lanes.{mask_l}
-use Rattle.matter.specs.Causes.{Verdict, accepted, number_of, clock_refused, invalid_lamp, short_slice, no_place}
+use Rattle.matter.specs.Causes.{Verdict, accepted, clock_refused, invalid_lamp, short_slice, no_place}
 use Rattle.matter.specs.Limits.{clock_limit}
 use Rattle.notices.specs.Notices.{noted}
 use Rattle.matter.specs.declared.enums.ColorModeEnum.{ColorModeEnum}
@@ -13,7 +15,7 @@ use Rattle.tasks.specs.Runs.{runs}
 use Rattle.lamp.specs.declared.Lamp.{Lamp}
 use Rattle.lamp.specs.declared.Answer.{Answer}
 use Rattle.lamp.specs.declared.Call.{Call}
-use Rattle.lamp.specs.Answers.{first_cause, unchanged}
+use Rattle.lamp.specs.Answers.{unchanged}
 use Rattle.lamp.specs.Calls.{step_answer}
 use Rattle.lamp.specs.Valid.{lamp_valid}
 use Rattle.commands.specs.Answers.{answer}
@@ -64,23 +66,6 @@ row_cause r size clock =
     (cond (ltb size (16 * r.count)) short_slice
     (cond (not (mask_true r && all_valid (placed r))) invalid_lamp
     (cond (any_later (placed r) clock || ltb clock_limit clock) clock_refused accepted)))
-
--- the same as the code goes through it: before the lamps' own causes, and over them, where 8 is above 4 and 4 above none
-unfoldable pub slice_cause : Row → ℕ → Verdict
-slice_cause r size =
-    cond (ltb 32 r.count) invalid_lamp
-    (cond (ltb size (16 * r.count)) short_slice (cond (not (mask_true r)) invalid_lamp accepted))
-
-abbrev pub limit_cause : ℕ → Verdict
-limit_cause clock = cond (ltb clock_limit clock) clock_refused accepted
-
--- the one with the greater number
-unfoldable pub graver : Verdict → Verdict → Verdict
-graver a b = cond (ltb (number_of a) (number_of b)) b a
-
-abbrev pub visits_cause : ℕ → List Lamp → Verdict
-visits_cause clock [] = accepted
-visits_cause clock (l ∷ ls) = graver (first_cause l clock) (visits_cause clock ls)
 
 -- f at each of the first n
 abbrev pub map_to : {A : Type 0} → ℕ → (A → A) → List A → List A

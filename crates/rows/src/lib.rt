@@ -3,7 +3,8 @@
 #![tactic(auto)]
 
 ghost use Rattle.std.specs.Prelude.{◌≡◌, ◌++◌, ◌*◌, ◌+◌, ◌≤◌, ◌<◌, Err, min, ltb, length, take, drop, set, get_or};
-ghost use Rattle.rows.specs.Rows.{placed, visited, graver, visits_cause, limit_cause, slice_cause, lesser, map_to, least_wait, bytes_of, mask_of, mask_true, row_of, with_lamps, row_stepped, row_bytes, row_refusal, place_cause, answered_at, place_refusal, with_bit, stored, put_at, count_of, lowest_of};
+ghost use Rattle.rows.specs.Rows.{placed, visited, lesser, map_to, least_wait, bytes_of, mask_of, mask_true, row_of, with_lamps, row_stepped, row_bytes, row_refusal, place_cause, answered_at, place_refusal, with_bit, stored, put_at, count_of, lowest_of};
+ghost use Rattle.rows.specs.Inner.{visits_cause, graver, limit_cause, slice_cause};
 ghost use Rattle.lamp.specs.Answers.{first_cause};
 
 use commands::call;
@@ -120,7 +121,7 @@ fn least(a: u64, b: u64) -> u64
 
 // Of two causes the one that is checked first: 8 before 4, and either before none. By their numbers, since the order of the cases
 // says nothing of it.
-#[tactic(auto, unfolding(crate::specs::Rows::graver))]
+#[tactic(auto, unfolding(crate::specs::Inner::graver))]
 fn first_of(a: Result<(), Refusal>, b: Result<(), Refusal>) -> Result<(), Refusal>
     ensures { result ≡ graver a b }
 {
@@ -227,7 +228,7 @@ impl Row {
     }
 
     // What is checked before the lamps' own causes: the count, the slice, and the mask.
-    #[tactic(auto, unfolding(crate::specs::Rows::slice_cause))]
+    #[tactic(auto, unfolding(crate::specs::Inner::slice_cause))]
     fn slice_cause(self, size: usize) -> Result<(), Refusal>
         ensures { result ≡ slice_cause self size }
     {

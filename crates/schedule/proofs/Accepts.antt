@@ -16,7 +16,8 @@ use Rattle.lamp.specs.Answers.{bad_clock, first_cause}
 use Rattle.lamp.specs.Valid.{lamp_valid}
 use Rattle.lamp.specs.declared.Call.{Call}
 use Rattle.commands.specs.Commands.{checks}
-use Rattle.commands.specs.Answers.{in_order, command_cause, cause, answer, granted, clock_of}
+use Rattle.commands.specs.Answers.{in_order, command_cause, cause, answer, clock_of}
+use Rattle.commands.proofs.Granted.{granted}
 use Rattle.commands.proofs.Kept.{answer-both, number-is-cause, refused-same}
 use Rattle.schedule.specs.Calls.{next, accepts}
 use Rattle.std.proofs.lemmas.Bool.Decides.{nat_tests}

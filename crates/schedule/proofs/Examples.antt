@@ -38,7 +38,8 @@ use Rattle.commands.specs.Commands.{command_effect}
 use Rattle.commands.specs.Answers.{answer, allowed, command_cause, command_answer}
 use Rattle.schedule.specs.Calls.{after, accepts, InRangeCalls, quiet, steps, paced}
 use Rattle.schedule.specs.Schedule.{HueCommand, as_request}
-use Rattle.schedule.specs.Fades.{Fade, finds, command_call, ready, start_call, begun, list_of, PremisedButHue, Premised, waits_kept, seen, observations, shown, steps_taken}
+use Rattle.schedule.specs.Fades.{Fade, finds, command_call, ready, start_call, begun, list_of, PremisedButHue, Premised}
+use Rattle.schedule.proofs.Observations.{seen, observations, shown, steps_taken, waits_kept}
 
 -- ---- a lamp
 

@@ -7,4 +7,5 @@ pub mod Fading
 pub mod Lists
 pub mod Pace
 pub mod Keeps
+pub mod Observations
 pub mod Examples

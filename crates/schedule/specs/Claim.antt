@@ -2,8 +2,7 @@
 -- ones too, from any valid lamp: each move to a hue that is accepted and may execute gives its task and, once a start
 -- of that task is accepted, keeps its schedule. One statement over a lamp and a whole list. Premises: the lamp is
 -- valid; lamp and calls are in range; the demand's own.
-use Rattle.std.specs.Prelude.{Some}
-use Rattle.std.specs.Prelude.{ℕ, ◌+◌, ◌≤◌, true, cond, ◌||◌, List, [], ◌∷◌, ◌++◌, ◌≡◌, eqb, pos, nat_abs}
+use Rattle.std.specs.Prelude.{Some, ℕ, ◌+◌, ◌≤◌, true, cond, ◌||◌, List, [], ◌∷◌, ◌++◌, ◌≡◌, eqb, pos, nat_abs}
 use Rattle.std.specs.Int.Signed.{le_z}
 use Rattle.matter.specs.declared.enums.OnOff.{OnOff}
 use Rattle.matter.specs.declared.limits.Bounds.{Bounds}
@@ -17,8 +16,7 @@ use Rattle.lamp.specs.declared.Call.{Call}
 use Rattle.lamp.specs.InRange.{InRangeLamp}
 use Rattle.lamp.specs.Answers.{bad_clock}
 use Rattle.commands.specs.Answers.{cause, answer, allowed}
-use Rattle.schedule.specs.Calls.{next, after, accepts, idle, InRangeCalls, quiet, accepted_step, steps, reached}
-use Rattle.schedule.specs.Calls.{paced}
+use Rattle.schedule.specs.Calls.{next, after, accepts, idle, InRangeCalls, quiet, accepted_step, steps, reached, paced}
 use Rattle.schedule.specs.Schedule.{HueCommand, as_request, target, delta_from, time, task_of, Fed, Shown, takes}
 use Rattle.schedule.specs.Schedule.{scheduled}
 

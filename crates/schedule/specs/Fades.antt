@@ -1,6 +1,6 @@
 -- A fade, with a name for each of its parts: a lamp, a list of calls, in it a move to a hue, a start of the task that
--- it gives, and the calls that follow; the claim's premises of it; and what its lamp shows.
-use Rattle.std.specs.Prelude.{ℕ, ◌+◌, Bool, true, List, [], ◌∷◌, ◌++◌, ◌≡◌}
+-- it gives, and the calls that follow; and the claim's premises of it.
+use Rattle.std.specs.Prelude.{ℕ, true, List, ◌∷◌, ◌++◌, ◌≡◌}
 use Rattle.matter.specs.declared.enums.OnOff.{OnOff}
 use Rattle.lamp.specs.declared.Lamp.{Lamp}
 use Rattle.lamp.specs.declared.Answer.{Answer}
@@ -8,7 +8,7 @@ use Rattle.lamp.specs.Valid.{lamp_valid}
 use Rattle.lamp.specs.declared.Call.{Call}
 use Rattle.lamp.specs.InRange.{InRangeLamp}
 use Rattle.commands.specs.Answers.{answer, allowed}
-use Rattle.schedule.specs.Calls.{next, after, accepts, idle, InRangeCalls, quiet, steps, paced}
+use Rattle.schedule.specs.Calls.{next, after, accepts, InRangeCalls, quiet}
 use Rattle.schedule.specs.Schedule.{HueCommand, as_request}
 use Rattle.schedule.specs.Claim.{move_to, start_of}
 
@@ -71,33 +71,3 @@ pub record PremisedButHue (e : Fade) : Type 0 where
 pub record Premised (e : Fade) : Type 0 where
   pub others : PremisedButHue e
   pub hue : (ready e).color.hue ≡ found e
-
--- whether each accepted step comes at or after the wait that its start or last accepted step asked
-abbrev pub waits_kept : Fade → Bool
-waits_kept e = paced (e.start + (begun e).wait) (begun e).lamp e.calls
-
--- ---- what its lamp shows
-
-pub record Observation : Type 0 where
-  pub hue : ℕ
-  pub remaining : ℕ
-  pub idle : Bool
-
-abbrev pub observation : Lamp → Observation
-observation l = record { hue = l.color.hue; remaining = l.remaining.tenths; idle = idle l }
-
-abbrev pub seen : ℕ → ℕ → Bool → Observation
-seen hue remaining idle = record { hue = hue; remaining = remaining; idle = idle }
-
--- at first, and after each call
-unfoldable pub observations : Lamp → List Call → List Observation
-observations l [] = observation l ∷ []
-observations l (x ∷ xs) = observation l ∷ observations (next l x) xs
-
--- from the start on
-abbrev pub shown : Fade → List Observation
-shown e = observations (begun e).lamp e.calls
-
--- how many steps are accepted after the start
-abbrev pub steps_taken : Fade → ℕ
-steps_taken e = steps (begun e).lamp e.calls

@@ -2,7 +2,8 @@
 -- hue that the command found, and from the accepted start on the calls alone; the lamp's bounds have no say since A.12
 -- (docs/DECISIONS.md, point 12). It sees no lamp and no answer, and keeps its own clock and its own done.
 use Rattle.std.specs.Prelude.{Some, None, is_ok}
-use Rattle.std.specs.Prelude.{ℕ, ◌-◌, ◌*◌, min, Bool, true, false, not, cond, ◌&&◌, ◌||◌, List, [], ◌∷◌, leb, eqb, ℤ, nat_abs}
+use Rattle.std.specs.Prelude.{ℕ, ◌-◌, ◌*◌, min, Bool, true, false, not, cond, ◌&&◌, ◌||◌, List, [], ◌∷◌, leb, eqb}
+use Rattle.std.specs.Prelude.{ℤ, nat_abs}
 use Rattle.matter.specs.declared.commands.Command.{Command}
 use Rattle.matter.specs.declared.commands.CommandOptions.{CommandOptions}
 use Rattle.matter.specs.declared.commands.Request.{Request}

@@ -1,6 +1,5 @@
 -- The widths of the numbers of a task and of a running record: facts that every one a program holds has.
-use Rattle.std.specs.Prelude.{Option, Some, None, ℕ}
-use Rattle.std.specs.Prelude.{◌<◌, ◌^◌, ℤ}
+use Rattle.std.specs.Prelude.{Option, Some, None, ℕ, ◌<◌, ◌^◌, ℤ}
 use Rattle.std.specs.Int.Signed.{mag}
 use Rattle.matter.specs.InRange.{Byte, Short, Long, Clock}
 use Rattle.tasks.specs.declared.HueSaturationMoveTo.{HueSaturationMoveTo}

@@ -1,7 +1,7 @@
 -- When a task and a running record are valid: document 01, "Task out of form" and, in "Lamp out of form", the running
 -- record. A definition here says what is valid; the comment quotes the sentence that says what is out of form.
-use Rattle.std.specs.Prelude.{Option, Some, None}
-use Rattle.std.specs.Prelude.{ℕ, ◌%◌, Bool, true, false, not, ◌&&◌, ◌||◌, [], ◌∷◌, leb, ltb, eqb, ℤ, pos, neg_ℤ, nat_abs}
+use Rattle.std.specs.Prelude.{Option, Some, None, ℕ, ◌%◌, Bool, true, false, not, ◌&&◌, ◌||◌, [], ◌∷◌, leb, ltb, eqb}
+use Rattle.std.specs.Prelude.{ℤ, pos, neg_ℤ, nat_abs}
 use Rattle.std.specs.Int.Signed.{le_z}
 use Rattle.matter.specs.declared.enums.MoveModeEnum.{MoveModeEnum}
 use Rattle.matter.specs.All.{all_true}

@@ -1,5 +1,6 @@
 -- Bytes that are a word of a line: two hexadecimal digits each.
-use Rattle.std.specs.Prelude.{ℕ, ◌+◌, ◌*◌, Bool, true, false, cond, ◌&&◌, List, [], ◌∷◌, leb, length, Option, Some, None, unwrap_or, option_map}
+use Rattle.std.specs.Prelude.{ℕ, ◌+◌, ◌*◌, Bool, true, false, cond, ◌&&◌, List, [], ◌∷◌, leb, length}
+use Rattle.std.specs.Prelude.{Option, Some, None, unwrap_or, option_map}
 use Rattle.text.specs.Digits.{not_empty, is_hex_digit, hex_value}
 use Rattle.text.specs.Readers.{Reader, by_word}
 

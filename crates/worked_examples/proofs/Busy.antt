@@ -17,9 +17,9 @@ use Rattle.tasks.specs.Runs.{runs}
 use Rattle.lamp.specs.declared.Lamp.{Lamp}
 use Rattle.lamp.specs.declared.Answer.{Answer}
 use Rattle.lamp.specs.Calls.{step_answer, halt_answer, hue_saturation_start, temperature_to_start, temperature_start, started as started_of, stepped, start_answer}
-use Rattle.worked_examples.specs.Cases.{plain, started, next, listed, idled, bare, loop, up_between, busy, steps_at}
+use Rattle.worked_examples.specs.Cases.{plain, next, listed, idled, bare, loop, up_between, busy, steps_at}
 use Rattle.worked_examples.proofs.LampAnswers.{now, later}
-use Rattle.worked_examples.proofs.Runs.{Run, run, RunsReported, going, done, hue, enhanced, warmth}
+use Rattle.worked_examples.proofs.Runs.{started, Run, run, RunsReported, going, done, hue, enhanced, warmth}
 use Rattle.matter.specs.All.{all_true}
 use Rattle.matter.specs.Causes.{accepted}
 use Rattle.matter.specs.Flags.{has_flag}

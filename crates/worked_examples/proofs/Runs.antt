@@ -14,7 +14,7 @@ use Rattle.matter.specs.declared.enums.MoveModeEnum.{MoveModeEnum}
 use Rattle.matter.specs.declared.enums.StepModeEnum.{StepModeEnum}
 use Rattle.lamp.specs.declared.Lamp.{Lamp}
 use Rattle.lamp.specs.declared.Answer.{Answer}
-use Rattle.worked_examples.specs.Cases.{lamp, started, answers_on, listed, idle, loop, up_between, next, steps_at}
+use Rattle.worked_examples.specs.Cases.{lamp, started_on, answers_on, listed, idle, loop, up_between, next, steps_at}
 use Rattle.matter.specs.All.{all_true}
 use Rattle.matter.specs.Causes.{number_of}
 use Rattle.matter.specs.Flags.{has_flag}
@@ -121,6 +121,10 @@ run l c times passes = record { lamp = l; command = c; times = times; passes = p
 abbrev pub RunsReported : List Run → Type 0
 RunsReported runs =
     map (λ (r : Run). map seen (answers_on r.lamp r.command r.times)) runs ≡ map (λ (r : Run). r.passes) runs
+
+-- a command to the lamp of the cases, and its task started
+abbrev pub started : Command → Answer
+started c = started_on lamp c
 
 -- the lamp of the cases brought at once to saturation 100; to hue 1280, enhanced; to 300 mireds
 abbrev pub saturated : Lamp

@@ -1,7 +1,7 @@
 -- The cases marked K in document 01: what a case says, and the list of all of them. A case of a transition goes through
 -- the command, its start and its steps.
-use Rattle.std.specs.Prelude.{ℕ, ◌+◌, ◌<◌, Bool, true, false, not, cond, List, [], ◌∷◌, map, ◌≡◌, ℤ, pos, neg_ℤ, take, replicate}
-use Rattle.std.specs.Prelude.{Option, Some, None, is_ok}
+use Rattle.std.specs.Prelude.{ℕ, ◌+◌, ◌<◌, Bool, true, false, not, cond, List, [], ◌∷◌, map, ◌≡◌}
+use Rattle.std.specs.Prelude.{ℤ, pos, neg_ℤ, take, replicate, Option, Some, None, is_ok}
 use Rattle.matter.specs.declared.enums.ColorLoopActionEnum.{ColorLoopActionEnum}
 use Rattle.matter.specs.declared.enums.ColorLoopDirectionEnum.{ColorLoopDirectionEnum}
 use Rattle.matter.specs.declared.commands.Command.{Command}
@@ -51,9 +51,6 @@ start_of (Some task) l = start_answer l task l.clock
 -- a command to a lamp, and its task started
 abbrev pub started_on : Lamp → Command → Answer
 started_on l c = next (given l c) (start_of (given l c).task)
-
-abbrev pub started : Command → Answer
-started c = started_on lamp c
 
 -- behind a start, a step at each of these times after 5000, in turn
 unfoldable pub steps_at : Answer → List ℕ → List Answer

@@ -4,7 +4,8 @@ use Rattle.std.specs.Prelude.{is_ok}
 use Rattle.matter.specs.Causes.{Verdict, accepted}
 use Rattle.std.proofs.lemmas.List.{length-take-le}
 use Rattle.rows.specs.declared.Row.{Row}
-use Rattle.rows.specs.Rows.{placed, bytes_of, slice_cause, limit_cause, graver, visits_cause, row_cause, row_stepped, row_bytes}
+use Rattle.rows.specs.Rows.{placed, bytes_of, row_cause, row_stepped, row_bytes}
+use Rattle.rows.specs.Inner.{visits_cause, graver, limit_cause, slice_cause}
 use Rattle.rows.proofs.Visiting.{by_parts}
 use Rattle.rows.proofs.Causes.{slice_first, lamps-next, slice_fits, both-none}
 use Rattle.rows.proofs.Row.step.Goals as goal

@@ -1,6 +1,7 @@
 -- What is visited, with what is left to visit, is the whole.
 use Rattle.std.proofs.Common.{◌≡◌, ◌*◌, ◌++◌, take, drop}
-use Rattle.rows.specs.Rows.{placed, map_to, visited, graver, visits_cause, lesser, least_wait, bytes_of}
+use Rattle.rows.specs.Rows.{placed, map_to, visited, lesser, least_wait, bytes_of}
+use Rattle.rows.specs.Inner.{visits_cause, graver}
 use Rattle.rows.proofs.Row.visit_all.Given as goal
 
 abbrev pub invariant-loop-place : goal.invariant-loop-place

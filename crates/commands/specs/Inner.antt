@@ -1,4 +1,5 @@
--- What the code of a command hands on, before the answer is built from it (`built` in proofs/Built).
+-- What contracts of inner functions alone cite, and nobody has to believe: what the code of a command hands on, before
+-- the answer is built from it (`built` in proofs/Built).
 use Rattle.std.specs.Prelude.{ℕ, Result}
 use Rattle.matter.specs.declared.commands.Request.{Request}
 use Rattle.matter.specs.declared.enums.OnOff.{OnOff}
