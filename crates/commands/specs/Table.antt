@@ -1,8 +1,8 @@
 -- The table of causes (document 01, "Why a call is turned away"), as statements: each number in its cause and in no
 -- other, for every call. For each kind of call the lines go through all cases of its tests, in the table's order, so
 -- that no two of them meet and none is left out. 1 and 2 are as `checks` has them (`fields-agree` and
--- `invalid-agree` in `conformance`). And: no number is above 8 but 18, which is that of new bounds alone; no answer uses
--- more than 14 of its sixteen places, the rest being 0.
+-- `invalid-agree` in `conformance`). And: no number is above 8 but 18, which is that of new bounds alone; no answer
+-- uses more than 14 of its sixteen places, the rest being 0.
 use Rattle.matter.specs.Causes.{number_of}
 use Rattle.std.specs.Prelude.{ℕ, ◌≤◌, ◌<◌, ◌⊎◌, true, false, List, ◌≡◌, length}
 use Rattle.matter.specs.declared.commands.Command.{Command}
@@ -81,7 +81,8 @@ pub record TableOfCauses : Type 0 where
   pub bounds : (l : Lamp) (clock : ℕ) (bounds : Bounds) → BoundsCauses l clock bounds
   -- a command's own numbers give 1, 2 or no cause
   pub own : (c : Command) → number_of (checks c).cause ≤ 2
-  pub most : (l : Lamp) (x : Call) → (number_of (cause l x) ≤ 8) ⊎ ((sets_bounds x ≡ true) × (number_of (cause l x) ≡ 18))
+  pub most : (l : Lamp) (x : Call) →
+      (number_of (cause l x) ≤ 8) ⊎ ((sets_bounds x ≡ true) × (number_of (cause l x) ≡ 18))
   -- document 02, A.12: "Number 3 no longer occurs"
   pub no-3 : (l : Lamp) (x : Call) → number_of (answer l x).verdict ≡ 3 → ⊥
   pub making-no-3 : (bounds : Bounds) (clock : ℕ) → number_of (making_cause bounds clock) ≡ 3 → ⊥

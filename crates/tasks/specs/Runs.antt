@@ -1,4 +1,5 @@
--- Whether a record runs, which is every one but idle, and whether it moves the mireds; the colour loop's record as what runs.
+-- Whether a record runs, which is every one but idle, and whether it moves the mireds; and the colour loop's record as
+-- what runs.
 use Rattle.std.specs.Prelude.{ℕ, Bool, true, false}
 use Rattle.matter.specs.declared.enums.ColorLoopDirectionEnum.{ColorLoopDirectionEnum}
 use Rattle.tasks.specs.declared.ColorLoopRun.{ColorLoopRun}
