@@ -2,7 +2,7 @@
 use Prim.Native.Nat.{ℕ, ◌<◌}
 use mathlib.Core.Bool.{Bool, true, false, cond}
 use mathlib.Core.List.{List, [], ◌∷◌}
-use mathlib.Core.Path.{◌≡◌, refl}
+use mathlib.Core.Path.{◌≡◌, ◌∙◌, refl}
 use native.Mathlib.Nat.{le_trans}
 use native.Mathlib.Omega.{arith}
 use Rattle.matter.specs.declared.commands.Request.{Request}
@@ -17,17 +17,17 @@ use Rattle.notices.proofs.Numerals.{Below, Bytes, none, more, below-append, belo
 use Rattle.color.specs.declared.Color.{Color}
 use Rattle.color.specs.Setters.{same, change_of, hue_change, hue_reported}
 use Rattle.notices.specs.declared.Notice.{Notice}
-use Rattle.matter.specs.declared.refusals.Refusal.{Refusal}
-use Rattle.matter.specs.Causes.{Verdict, accepted}
-use Rattle.std.specs.Prelude.{Result, Ok, Err}
+use Rattle.matter.specs.Causes.{Verdict}
+use Rattle.std.specs.Prelude.{Ok, Err, is_ok}
 use Rattle.color.proofs.Laws.{AttributeBelow, change-below}
 use Rattle.lamp.specs.declared.Answer.{Answer}
 use Rattle.lamp.specs.declared.Lamp.{Lamp}
-use Rattle.lamp.specs.Answers.{at_clock, refusal}
+use Rattle.lamp.specs.Answers.{at_clock, bad_clock, first_cause}
+use Rattle.lamp.specs.Valid.{lamp_valid}
 use Rattle.commands.specs.declared.outcomes.Outcome.{Outcome}
 use Rattle.commands.specs.Answers.{command_cause, command_done, command_answer}
-use Rattle.commands.specs.Commands.{CommandEffect, with_loop, updated_reported, acted, deactivated, activated, loop_set}
-use Rattle.commands.specs.Inner.{outcome_of}
+use Rattle.commands.specs.Commands.{CommandEffect, skip, checks, with_loop, updated_reported, acted, deactivated, activated, loop_set}
+use Rattle.commands.specs.Inner.{verdict_of, accepted_outcome}
 use Rattle.commands.proofs.Kept.{done-by, done-any, commands-few}
 
 -- ---- a command reports bytes, and the colour loop's nothing from 18 on
@@ -83,17 +83,19 @@ commands-bytes l r on_off =
 
 -- ---- the answer
 
--- the answer from the lamp before, the clock and the outcome, where there is one
-abbrev pub answer_of : Lamp → ℕ → Result Outcome Refusal → Answer
-answer_of l clock (Err cause) = refusal l cause
-answer_of l clock (Ok o) =
+-- the answer from the lamp before, the clock, the verdict and what is done
+abbrev pub answer_of : Lamp → ℕ → Verdict → Outcome → Answer
+answer_of l clock v o =
     record {
-      verdict = accepted;
-      lamp = with_loop (at_clock l clock) o.color o.looping;
+      verdict = v;
+      lamp = with_loop (at_clock l (cond (is_ok v) clock l.clock)) o.color o.looping;
       notices = placed o.reported;
       task = o.task;
       wait = 0;
     }
+
+no-list : placed (in_front [] empty) ≡ noted []
+no-list = placed-noted [] none (omega arith)
 
 module _ (l : Lamp) (r : Request) (on_off : OnOff) (clock : ℕ) where
   abbrev at : Lamp
@@ -109,10 +111,18 @@ module _ (l : Lamp) (r : Request) (on_off : OnOff) (clock : ℕ) where
   lamp = done-any at (λ m. with_loop at m.color m.looping ≡ m) (λ c s. refl) r on_off
 
   built-by : (v : Verdict) → command_cause l r clock ≡ v →
-      answer_of l clock (outcome_of l r on_off clock) ≡ command_answer l r on_off clock
-  unfolding command_answer outcome_of
+      answer_of l clock v (accepted_outcome (cond (is_ok v) done (skip l))) ≡ command_answer l r on_off clock
+  unfolding command_answer
   built-by (Ok u) z = simp (z, list, lamp)
-  built-by (Err cause) z = simp z
+  built-by (Err cause) z = simp (z, no-list)
 
-  pub built : answer_of l clock (outcome_of l r on_off clock) ≡ command_answer l r on_off clock
-  built = built-by (command_cause l r clock) refl
+  cause-by : lamp_valid l ≡ true → (bad : Bool) → bad_clock l clock ≡ bad →
+      command_cause l r clock ≡ verdict_of l (checks r.command) clock
+  unfolding command_cause first_cause
+  cause-by f true b = simp (f, b)
+  cause-by f false b = simp (f, b)
+
+  -- of a valid lamp
+  pub built : lamp_valid l ≡ true → (v : Verdict) → verdict_of l (checks r.command) clock ≡ v →
+      answer_of l clock v (accepted_outcome (cond (is_ok v) done (skip l))) ≡ command_answer l r on_off clock
+  built f v z = built-by v (cause-by f (bad_clock l clock) refl ∙ z)

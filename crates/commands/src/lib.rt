@@ -15,20 +15,20 @@ ghost use Rattle.std.specs.Prelude.{◌≡◌};
 ghost use Rattle.matter.specs.Requests.{request, options};
 ghost use Rattle.lamp.specs.Answers.{at_clock};
 ghost use Rattle.commands.specs.Commands.{command_effect};
-ghost use Rattle.commands.specs.Answers.{command_answer, answer};
-ghost use Rattle.commands.specs.Inner.{outcome_of, accepted_outcome};
+ghost use Rattle.commands.specs.Answers.{allowed, ran_with, command_answer, answer};
+ghost use Rattle.commands.specs.Inner.{verdict_of, accepted_outcome};
 
-use checks::checks_of;
+use checks::{Checks, checks_of};
 pub use hues::{
     cmd_enhanced_move_hue, cmd_enhanced_move_to_hue, cmd_enhanced_step_hue, cmd_move_hue,
     cmd_move_to_hue, cmd_move_to_hue_and_saturation, cmd_step_hue,
 };
 use hues::{enhanced_rate, move_hue, step_hue, stored_hue, to_both, to_hue, to_plain_hue};
-use lamp::{Answer, Call, Lamp};
+use lamp::{Answer, Call, Lamp, ValidLamp};
 pub use loops::cmd_color_loop_set;
 use loops::set_loop;
 use matter::{Command, CommandOptions, OnOff, Refusal, Request, should_continue};
-use outcomes::{Outcome, given, skipped};
+use outcomes::{Outcome, given, nothing};
 pub use saturations::{cmd_move_saturation, cmd_move_to_saturation, cmd_step_saturation};
 use saturations::{move_saturation, step_saturation, to_saturation};
 use tasks::Task;
@@ -98,43 +98,66 @@ fn execute(lamp: Lamp, command: Command, clock: u64) -> Outcome
     }
 }
 
-// A command's checks in their order: 8 and 4, Stop mode, its own numbers, off.
-#[tactic(auto, unfolding(crate::specs::Inner::outcome_of, crate::specs::Answers::command_cause))]
-fn outcome(lamp: Lamp, request: Request, on_off: OnOff, clock: u64) -> Result<Outcome, Refusal>
-    ensures { result ≡ outcome_of lamp request on_off clock }
+// Whether a command of a valid lamp is accepted, by its checks in their order: 4, Stop mode, its own numbers.
+fn verdict(lamp: Lamp, checks: Checks, clock: u64) -> Result<(), Refusal>
+    ensures { result ≡ verdict_of lamp checks clock }
 {
-    lamp.first_cause(clock)?;
-    let command = request.command;
-    let checks = checks_of(command);
+    lamp.clock_cause(clock)?;
     if checks.stop {
-        return Ok(given(lamp, Task::Stop));
+        return Ok(());
     }
-    checks.cause?;
+    checks.cause
+}
+
+// What an accepted command comes to: the Stop task in Stop mode, and nothing where it may not execute.
+fn outcome(lamp: Lamp, request: Request, stop: bool, on_off: OnOff, clock: u64) -> Outcome
+    ensures { result ≡ accepted_outcome (ran_with (at_clock lamp clock) stop (allowed lamp request on_off) (command_effect (at_clock lamp clock) request.command)) }
+{
+    if stop {
+        return given(lamp, Task::Stop);
+    }
     let options = request.options;
     if !should_continue(on_off, lamp.options, options.mask, options.overrides) {
-        return Ok(skipped(lamp));
+        return nothing(lamp);
     }
-    Ok(execute(lamp, command, clock))
+    execute(lamp, request.command, clock)
+}
+
+// A command to a valid lamp. The answer is built in one place, accepted or refused: built in two, it is copied (docs/SPEED.md).
+fn invoke_valid(valid: ValidLamp, request: Request, on_off: OnOff, clock: u64) -> Answer
+    ensures { result ≡ command_answer valid.lamp request on_off clock }
+{
+    let lamp = valid.lamp;
+    let checks = checks_of(request.command);
+    let verdict = verdict(lamp, checks, clock);
+    let is_accepted = verdict.is_ok();
+    let done = if is_accepted {
+        outcome(lamp, request, checks.stop, on_off, clock)
+    } else {
+        nothing(lamp)
+    };
+    Answer {
+        verdict,
+        lamp: Lamp {
+            clock: if is_accepted { clock } else { lamp.clock },
+            color: done.color,
+            looping: done.looping,
+            ..lamp
+        },
+        notices: done.reported.notices(),
+        task: done.task,
+        wait: 0,
+    }
 }
 
 // Any command, with its options, the on/off input and the clock.
+#[tactic(auto, unfolding(crate::specs::Answers::command_answer, crate::specs::Answers::command_cause, lamp::specs::Answers::first_cause))]
 pub fn invoke(lamp: Lamp, request: Request, on_off: OnOff, clock: u64) -> Answer
     ensures { result ≡ command_answer lamp request on_off clock }
 {
-    match outcome(lamp, request, on_off, clock) {
-        Ok(done) => Answer {
-            verdict: Ok(()),
-            lamp: Lamp {
-                clock,
-                color: done.color,
-                looping: done.looping,
-                ..lamp
-            },
-            notices: done.reported.notices(),
-            task: done.task,
-            wait: 0,
-        },
-        Err(refusal) => lamp.refused(refusal),
+    match lamp.validated() {
+        Some(valid) => invoke_valid(valid, request, on_off, clock),
+        None => lamp.refused(Refusal::InvalidLamp),
     }
 }
 
@@ -167,20 +190,24 @@ pub fn cmd_stop_move_step(
     with_options(lamp, command, options_mask, options_override, on_off, clock)
 }
 
-// Any call of a lamp: the one door to commands, starts, steps, halts and new bounds.
+// Any call of a lamp: the one door to commands, starts, steps, halts and new bounds. That the lamp is valid is checked here, whatever
+// the call is.
 #[tactic(auto, unfolding(crate::specs::Answers::answer))]
 pub fn call(lamp: Lamp, call: Call) -> Answer
     ensures { result ≡ answer lamp call }
 {
+    let Some(valid) = lamp.validated() else {
+        return lamp.refused(Refusal::InvalidLamp);
+    };
     match call {
         Call::Command {
             request,
             on_off,
             clock,
-        } => invoke(lamp, request, on_off, clock),
-        Call::Start { task, clock } => lamp.start(task, clock),
-        Call::Step { clock } => lamp.step(clock),
-        Call::Halt { clock } => lamp.halt(clock),
-        Call::SetBounds { bounds, clock } => lamp.set_bounds(bounds, clock),
+        } => invoke_valid(valid, request, on_off, clock),
+        Call::Start { task, clock } => valid.start(task, clock),
+        Call::Step { clock } => valid.step(clock),
+        Call::Halt { clock } => valid.halt(clock),
+        Call::SetBounds { bounds, clock } => valid.set_bounds(bounds, clock),
     }
 }

@@ -8,7 +8,7 @@ ghost use Rattle.matter.specs.Requests.{request, options};
 ghost use Rattle.commands.specs.Answers.{command_answer};
 ghost use Rattle.commands.specs.Inner.{accepted_outcome};
 
-use crate::outcomes::{Outcome, skipped};
+use crate::outcomes::{Outcome, nothing};
 use crate::with_options;
 use color::cons_change;
 use lamp::{Answer, Lamp, LoopSettings};
@@ -65,7 +65,7 @@ fn deactivate(lamp: Lamp) -> Outcome
     ensures { result ≡ accepted_outcome (deactivated lamp []) }
 {
     if !lamp.looping.active {
-        return skipped(lamp);
+        return nothing(lamp);
     }
     let set = lamp
         .color
@@ -117,7 +117,7 @@ fn act(lamp: Lamp, acts: bool, action: ColorLoopActionEnum) -> Outcome
     ensures { result ≡ accepted_outcome (cond acts (acted lamp [] action) (skip lamp)) }
 {
     if !acts {
-        return skipped(lamp);
+        return nothing(lamp);
     }
     match action {
         ColorLoopActionEnum::Deactivate => deactivate(lamp),

@@ -41,9 +41,9 @@ pub(crate) fn given(lamp: Lamp, task: Task) -> Outcome
     given_with(lamp, task, false)
 }
 
-// A command that may not execute: document 01's pass-over.
+// Nothing done: a refusal, or a command that may not execute (document 01's pass-over).
 #[tactic(auto, unfolding(notices::specs::Numerals::in_front))]
-pub(crate) fn skipped(lamp: Lamp) -> Outcome
+pub(crate) fn nothing(lamp: Lamp) -> Outcome
     ensures { result ≡ accepted_outcome (skip lamp) }
 {
     Outcome {

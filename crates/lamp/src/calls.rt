@@ -11,7 +11,7 @@ ghost use Rattle.lamp.specs.Answers.{at_clock};
 ghost use Rattle.lamp.specs.Passes.{found_with, reported_behind, pass_reported, left_effect};
 
 use crate::passes::{Found, Left, Passed, left_by};
-use crate::{Answer, Lamp};
+use crate::{Answer, Lamp, ValidLamp};
 use color::cons_change;
 use matter::{Bounds, Refusal};
 use notices::{Notice, Notices, Numeral};
@@ -236,59 +236,61 @@ impl Lamp {
             wait: passed.wait,
         }
     }
+}
 
+impl ValidLamp {
     // Starts a task, in place of what runs.
-    #[tactic(auto, unfolding(crate::specs::Calls::start_answer))]
+    #[tactic(auto, unfolding(crate::specs::Calls::start_answer, crate::specs::Answers::first_cause))]
     pub fn start(self, task: Task, clock: u64) -> Answer
-        ensures { result ≡ start_answer self task clock }
+        ensures { result ≡ start_answer self.lamp task clock }
     {
-        if let Err(refusal) = self.first_cause(clock) {
-            return self.refused(refusal);
+        let lamp = self.lamp;
+        if let Err(refusal) = lamp.clock_cause(clock) {
+            return lamp.refused(refusal);
         }
         if !task.is_valid() {
-            return self.refused(Refusal::InvalidTask);
+            return lamp.refused(Refusal::InvalidTask);
         }
-        let left = self.begin(task, clock);
-        let active = self.looping.active;
+        let left = lamp.begin(task, clock);
+        let active = lamp.looping.active;
         let list = cons_change(left.passed.first, left.passed.behind(active), active);
-        self.accepted(left, list, clock)
+        lamp.accepted(left, list, clock)
     }
 
     // One step of what runs.
     #[tactic(auto, unfolding(crate::specs::Calls::step_answer, crate::specs::Valid::lamp_valid))]
     pub fn step(self, clock: u64) -> Answer
-        ensures { result ≡ step_answer self clock }
+        ensures { result ≡ step_answer self.lamp clock }
     {
-        if !self.is_valid() {
-            return self.refused(Refusal::InvalidLamp);
-        }
-        let running = self.running;
+        let lamp = self.lamp;
+        let running = lamp.running;
         if !running.is_running() {
-            return self.refused(Refusal::StepWhileIdle);
+            return lamp.refused(Refusal::StepWhileIdle);
         }
-        if let Err(cause) = self.clock_cause(clock) {
-            return self.refused(cause);
+        if let Err(cause) = lamp.clock_cause(clock) {
+            return lamp.refused(cause);
         }
-        let left = self.pass(running, clock);
-        let active = self.looping.active;
+        let left = lamp.pass(running, clock);
+        let active = lamp.looping.active;
         let list = cons_change(left.passed.first, left.passed.behind(active), active);
-        self.accepted(left, list, clock)
+        lamp.accepted(left, list, clock)
     }
 
     // Makes the lamp idle, and nothing else.
-    #[tactic(auto, unfolding(crate::specs::Calls::halt_answer))]
+    #[tactic(auto, unfolding(crate::specs::Calls::halt_answer, crate::specs::Answers::first_cause))]
     pub fn halt(self, clock: u64) -> Answer
-        ensures { result ≡ halt_answer self clock }
+        ensures { result ≡ halt_answer self.lamp clock }
     {
-        if let Err(cause) = self.first_cause(clock) {
-            return self.refused(cause);
+        let lamp = self.lamp;
+        if let Err(bad_clock) = lamp.clock_cause(clock) {
+            return lamp.refused(bad_clock);
         }
         Answer {
             verdict: Ok(()),
             lamp: Lamp {
                 clock,
                 running: Running::Idle,
-                ..self
+                ..lamp
             },
             notices: Notices::new(),
             task: None,
@@ -296,15 +298,16 @@ impl Lamp {
         }
     }
 
-    // Why new bounds are refused: 8, 4, crossed bounds, a mired task that runs.
+    // Why new bounds are refused: 4, crossed bounds, a mired task that runs.
+    #[tactic(auto, unfolding(crate::specs::Answers::first_cause))]
     fn bounds_cause(self, bounds: Bounds, clock: u64) -> Result<(), Refusal>
-        ensures { result ≡ bounds_cause self bounds clock }
+        ensures { result ≡ bounds_cause self.lamp bounds clock }
     {
-        self.first_cause(clock)?;
+        self.lamp.clock_cause(clock)?;
         if bounds.are_crossed() {
             return Err(Refusal::CrossedBounds);
         }
-        if self.running.moves_mireds() {
+        if self.lamp.running.moves_mireds() {
             return Err(Refusal::MiredTaskRuns);
         }
         Ok(())
@@ -313,26 +316,70 @@ impl Lamp {
     // New physical bounds. Mireds outside go to the nearer one and are reported; nothing is stored, and the device is not written.
     #[tactic(auto, unfolding(crate::specs::Calls::bounds_answer))]
     pub fn set_bounds(self, bounds: Bounds, clock: u64) -> Answer
-        ensures { result ≡ bounds_answer self bounds clock }
+        ensures { result ≡ bounds_answer self.lamp bounds clock }
     {
+        let lamp = self.lamp;
         if let Err(cause) = self.bounds_cause(bounds, clock) {
-            return self.refused(cause);
+            return lamp.refused(cause);
         }
-        let color = self.color.bounded(bounds, clock);
-        let is_moved = color.mireds != self.color.mireds;
+        let color = lamp.color.bounded(bounds, clock);
+        let is_moved = color.mireds != lamp.color.mireds;
         Answer {
             verdict: Ok(()),
             lamp: Lamp {
                 clock,
                 bounds,
                 color,
-                ..self
+                ..lamp
             },
             notices: Numeral::new()
                 .note_if(is_moved, Notice::ColorTemperatureMireds)
                 .notices(),
             task: None,
             wait: 0,
+        }
+    }
+}
+
+// The same of any lamp: an invalid one is refused with 8, before all else.
+impl Lamp {
+    #[tactic(auto, unfolding(crate::specs::Calls::start_answer, crate::specs::Answers::first_cause))]
+    pub fn start(self, task: Task, clock: u64) -> Answer
+        ensures { result ≡ start_answer self task clock }
+    {
+        match self.validated() {
+            Some(valid) => valid.start(task, clock),
+            None => self.refused(Refusal::InvalidLamp),
+        }
+    }
+
+    #[tactic(auto, unfolding(crate::specs::Calls::step_answer))]
+    pub fn step(self, clock: u64) -> Answer
+        ensures { result ≡ step_answer self clock }
+    {
+        match self.validated() {
+            Some(valid) => valid.step(clock),
+            None => self.refused(Refusal::InvalidLamp),
+        }
+    }
+
+    #[tactic(auto, unfolding(crate::specs::Calls::halt_answer, crate::specs::Answers::first_cause))]
+    pub fn halt(self, clock: u64) -> Answer
+        ensures { result ≡ halt_answer self clock }
+    {
+        match self.validated() {
+            Some(valid) => valid.halt(clock),
+            None => self.refused(Refusal::InvalidLamp),
+        }
+    }
+
+    #[tactic(auto, unfolding(crate::specs::Calls::bounds_answer, crate::specs::Answers::first_cause))]
+    pub fn set_bounds(self, bounds: Bounds, clock: u64) -> Answer
+        ensures { result ≡ bounds_answer self bounds clock }
+    {
+        match self.validated() {
+            Some(valid) => valid.set_bounds(bounds, clock),
+            None => self.refused(Refusal::InvalidLamp),
         }
     }
 }

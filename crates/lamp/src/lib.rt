@@ -5,6 +5,7 @@
 
 mod calls;
 mod passes;
+mod valid;
 
 ghost use Rattle.std.specs.Prelude.{◌≡◌, cond};
 ghost use Rattle.matter.specs.Causes.{accepted, clock_refused};
@@ -17,6 +18,7 @@ use matter::{Bounds, CLOCK_LIMIT, ColorLoopDirectionEnum, OnOff, Refusal, Reques
 use notices::Notices;
 use remaining_time::RemainingTime;
 use tasks::{Running, Task};
+pub use valid::ValidLamp;
 
 // ColorLoopActive, ColorLoopDirection, ColorLoopTime, ColorLoopStartEnhancedHue, ColorLoopStoredEnhancedHue.
 #[derive(Clone, Copy, Debug, PartialEq, Eq)]
@@ -140,7 +142,7 @@ impl Lamp {
     }
 
     // A clock earlier than the lamp's, or above the limit.
-    pub(crate) fn clock_cause(self, clock: u64) -> Result<(), Refusal>
+    pub fn clock_cause(self, clock: u64) -> Result<(), Refusal>
         ensures { result ≡ cond (bad_clock self clock) clock_refused accepted }
     {
         if (clock < self.clock) | (CLOCK_LIMIT < clock) {

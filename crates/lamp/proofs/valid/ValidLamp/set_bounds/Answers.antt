@@ -6,12 +6,12 @@ use Rattle.notices.proofs.Laws.{only_one}
 use Rattle.notices.proofs.Numerals.{below-only, placed-noted}
 use Rattle.color.specs.Bounded.{mireds_move, bounded}
 use Rattle.lamp.specs.Calls.{bounds_answer}
-use Rattle.lamp.proofs.Lamp.set_bounds.Goals as goal
+use Rattle.lamp.proofs.valid.ValidLamp.set_bounds.Goals as goal
 
 pub returns : goal.returns
 unfolding bounds_answer bounded
 returns c =
-    let moved : _ = mireds_move c.args.self.color c.args.bounds in
+    let moved : _ = mireds_move c.args.self.lamp.color c.args.bounds in
     rw (
       c.notices.ensures,
       c.note_if.ensures,

@@ -3,12 +3,11 @@ use Rattle.std.proofs.Common.{◌∙◌, sym, ltb-false}
 use Rattle.matter.proofs.Laws.{each, or_left}
 use Rattle.lamp.specs.Valid.{lamp_valid}
 use Rattle.lamp.proofs.Kept.{running-later, no-first}
-use Rattle.lamp.proofs.Lamp.step.Goals as goal
+use Rattle.lamp.proofs.valid.ValidLamp.step.Goals as goal
 
 pub pass-left-requires : goal.pass-left-requires
 unfolding lamp_valid
 pass-left-requires c =
-    let self = c.args.self in
-    let valid = rw c.is_valid.ensures at c.if-not-is_valid.false in
+    let self = c.args.self.lamp in
     let good = (no-first _ _ _ (sym c.clock_cause.ensures ∙ c.in_default.is)).0 in
-    running-later self.running self.bounds self.clock c.args.clock (each _ valid).1.1.0 (ltb-false _ _ (or_left _ _ good))
+    running-later self.running self.bounds self.clock c.args.clock (each _ c.args.self.is_valid).1.1.0 (ltb-false _ _ (or_left _ _ good))
