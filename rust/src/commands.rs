@@ -12,6 +12,7 @@ mod outcomes;
 mod saturations;
 mod temperatures;
 
+use checks::Checks;
 use checks::checks_of;
 pub use hues::cmd_enhanced_move_hue;
 pub use hues::cmd_enhanced_move_to_hue;
@@ -30,6 +31,7 @@ use hues::to_plain_hue;
 use crate::lamp::Answer;
 use crate::lamp::Call;
 use crate::lamp::Lamp;
+use crate::lamp::ValidLamp;
 pub use loops::cmd_color_loop_set;
 use loops::set_loop;
 use crate::matter::Command;
@@ -40,7 +42,7 @@ use crate::matter::Request;
 use crate::matter::should_continue;
 use outcomes::Outcome;
 use outcomes::given;
-use outcomes::skipped;
+use outcomes::nothing;
 pub use saturations::cmd_move_saturation;
 pub use saturations::cmd_move_to_saturation;
 pub use saturations::cmd_step_saturation;
@@ -113,38 +115,57 @@ fn execute(lamp: Lamp, command: Command, clock: u64) -> Outcome {
     }
 }
 
-/// A command's checks in their order: 8 and 4, Stop mode, its own numbers, off.
-fn outcome(lamp: Lamp, request: Request, on_off: OnOff, clock: u64) -> Result<Outcome, Refusal> {
-    lamp.first_cause(clock)?;
-    let command = request.command;
-    let checks = checks_of(command);
+/// Whether a command of a valid lamp is accepted, by its checks in their order: 4, Stop mode, its own numbers.
+fn verdict(lamp: Lamp, checks: Checks, clock: u64) -> Result<(), Refusal> {
+    lamp.clock_cause(clock)?;
     if checks.stop {
-        return Ok(given(lamp, Task::Stop));
+        return Ok(());
     }
-    checks.cause?;
+    checks.cause
+}
+
+/// What an accepted command comes to: the Stop task in Stop mode, and nothing where it may not execute.
+fn outcome(lamp: Lamp, request: Request, stop: bool, on_off: OnOff, clock: u64) -> Outcome {
+    if stop {
+        return given(lamp, Task::Stop);
+    }
     let options = request.options;
     if !should_continue(on_off, lamp.options, options.mask, options.overrides) {
-        return Ok(skipped(lamp));
+        return nothing(lamp);
     }
-    Ok(execute(lamp, command, clock))
+    execute(lamp, request.command, clock)
+}
+
+/// A command to a valid lamp. The answer is built in one place, accepted or refused: built in two, it is copied (docs/SPEED.md).
+fn invoke_valid(valid: ValidLamp, request: Request, on_off: OnOff, clock: u64) -> Answer {
+    let lamp = valid.lamp();
+    let checks = checks_of(request.command);
+    let verdict = verdict(lamp, checks, clock);
+    let is_accepted = verdict.is_ok();
+    let done = if is_accepted {
+        outcome(lamp, request, checks.stop, on_off, clock)
+    } else {
+        nothing(lamp)
+    };
+    Answer {
+        verdict,
+        lamp: Lamp {
+            clock: if is_accepted { clock } else { lamp.clock },
+            color: done.color,
+            looping: done.looping,
+            ..lamp
+        },
+        notices: done.reported.notices(),
+        task: done.task,
+        wait: 0,
+    }
 }
 
 /// Any command, with its options, the on/off input and the clock.
 pub fn invoke(lamp: Lamp, request: Request, on_off: OnOff, clock: u64) -> Answer {
-    match outcome(lamp, request, on_off, clock) {
-        Ok(done) => Answer {
-            verdict: Ok(()),
-            lamp: Lamp {
-                clock,
-                color: done.color,
-                looping: done.looping,
-                ..lamp
-            },
-            notices: done.reported.notices(),
-            task: done.task,
-            wait: 0,
-        },
-        Err(refusal) => lamp.refused(refusal),
+    match lamp.validated() {
+        Some(valid) => invoke_valid(valid, request, on_off, clock),
+        None => lamp.refused(Refusal::InvalidLamp),
     }
 }
 
@@ -173,17 +194,21 @@ pub fn cmd_stop_move_step(
     with_options(lamp, command, options_mask, options_override, on_off, clock)
 }
 
-/// Any call of a lamp: the one door to commands, starts, steps, halts and new bounds.
+/// Any call of a lamp: the one door to commands, starts, steps, halts and new bounds. That the lamp is valid is checked here, whatever
+/// the call is.
 pub fn call(lamp: Lamp, call: Call) -> Answer {
+    let Some(valid) = lamp.validated() else {
+        return lamp.refused(Refusal::InvalidLamp);
+    };
     match call {
         Call::Command {
             request,
             on_off,
             clock,
-        } => invoke(lamp, request, on_off, clock),
-        Call::Start { task, clock } => lamp.start(task, clock),
-        Call::Step { clock } => lamp.step(clock),
-        Call::Halt { clock } => lamp.halt(clock),
-        Call::SetBounds { bounds, clock } => lamp.set_bounds(bounds, clock),
+        } => invoke_valid(valid, request, on_off, clock),
+        Call::Start { task, clock } => valid.start(task, clock),
+        Call::Step { clock } => valid.step(clock),
+        Call::Halt { clock } => valid.halt(clock),
+        Call::SetBounds { bounds, clock } => valid.set_bounds(bounds, clock),
     }
 }

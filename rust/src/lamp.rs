@@ -6,6 +6,7 @@
 
 mod calls;
 mod passes;
+mod valid;
 
 use crate::color::Color;
 use crate::matter::Bounds;
@@ -18,6 +19,7 @@ use crate::notices::Notices;
 use crate::remaining_time::RemainingTime;
 use crate::tasks::Running;
 use crate::tasks::Task;
+pub use valid::ValidLamp;
 
 /// ColorLoopActive, ColorLoopDirection, ColorLoopTime, ColorLoopStartEnhancedHue, ColorLoopStoredEnhancedHue.
 #[derive(Clone, Copy, Debug, PartialEq, Eq)]
@@ -127,7 +129,7 @@ impl Lamp {
     }
 
     /// A clock earlier than the lamp's, or above the limit.
-    pub(in crate::lamp) fn clock_cause(self, clock: u64) -> Result<(), Refusal> {
+    pub fn clock_cause(self, clock: u64) -> Result<(), Refusal> {
         if (clock < self.clock) | (CLOCK_LIMIT < clock) {
             return Err(Refusal::Clock);
         }

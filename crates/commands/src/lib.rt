@@ -125,9 +125,9 @@ fn outcome(lamp: Lamp, request: Request, stop: bool, on_off: OnOff, clock: u64) 
 
 // A command to a valid lamp. The answer is built in one place, accepted or refused: built in two, it is copied (docs/SPEED.md).
 fn invoke_valid(valid: ValidLamp, request: Request, on_off: OnOff, clock: u64) -> Answer
-    ensures { result ≡ command_answer valid.lamp request on_off clock }
+    ensures { result ≡ command_answer valid request on_off clock }
 {
-    let lamp = valid.lamp;
+    let lamp = valid.lamp();
     let checks = checks_of(request.command);
     let verdict = verdict(lamp, checks, clock);
     let is_accepted = verdict.is_ok();

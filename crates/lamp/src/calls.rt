@@ -242,9 +242,9 @@ impl ValidLamp {
     // Starts a task, in place of what runs.
     #[tactic(auto, unfolding(crate::specs::Calls::start_answer, crate::specs::Answers::first_cause))]
     pub fn start(self, task: Task, clock: u64) -> Answer
-        ensures { result ≡ start_answer self.lamp task clock }
+        ensures { result ≡ start_answer self task clock }
     {
-        let lamp = self.lamp;
+        let lamp = self.lamp();
         if let Err(refusal) = lamp.clock_cause(clock) {
             return lamp.refused(refusal);
         }
@@ -260,9 +260,9 @@ impl ValidLamp {
     // One step of what runs.
     #[tactic(auto, unfolding(crate::specs::Calls::step_answer, crate::specs::Valid::lamp_valid))]
     pub fn step(self, clock: u64) -> Answer
-        ensures { result ≡ step_answer self.lamp clock }
+        ensures { result ≡ step_answer self clock }
     {
-        let lamp = self.lamp;
+        let lamp = self.lamp();
         let running = lamp.running;
         if !running.is_running() {
             return lamp.refused(Refusal::StepWhileIdle);
@@ -279,9 +279,9 @@ impl ValidLamp {
     // Makes the lamp idle, and nothing else.
     #[tactic(auto, unfolding(crate::specs::Calls::halt_answer, crate::specs::Answers::first_cause))]
     pub fn halt(self, clock: u64) -> Answer
-        ensures { result ≡ halt_answer self.lamp clock }
+        ensures { result ≡ halt_answer self clock }
     {
-        let lamp = self.lamp;
+        let lamp = self.lamp();
         if let Err(bad_clock) = lamp.clock_cause(clock) {
             return lamp.refused(bad_clock);
         }
@@ -301,13 +301,14 @@ impl ValidLamp {
     // Why new bounds are refused: 4, crossed bounds, a mired task that runs.
     #[tactic(auto, unfolding(crate::specs::Answers::first_cause))]
     fn bounds_cause(self, bounds: Bounds, clock: u64) -> Result<(), Refusal>
-        ensures { result ≡ bounds_cause self.lamp bounds clock }
+        ensures { result ≡ bounds_cause self bounds clock }
     {
-        self.lamp.clock_cause(clock)?;
+        let lamp = self.lamp();
+        lamp.clock_cause(clock)?;
         if bounds.are_crossed() {
             return Err(Refusal::CrossedBounds);
         }
-        if self.lamp.running.moves_mireds() {
+        if lamp.running.moves_mireds() {
             return Err(Refusal::MiredTaskRuns);
         }
         Ok(())
@@ -316,9 +317,9 @@ impl ValidLamp {
     // New physical bounds. Mireds outside go to the nearer one and are reported; nothing is stored, and the device is not written.
     #[tactic(auto, unfolding(crate::specs::Calls::bounds_answer))]
     pub fn set_bounds(self, bounds: Bounds, clock: u64) -> Answer
-        ensures { result ≡ bounds_answer self.lamp bounds clock }
+        ensures { result ≡ bounds_answer self bounds clock }
     {
-        let lamp = self.lamp;
+        let lamp = self.lamp();
         if let Err(cause) = self.bounds_cause(bounds, clock) {
             return lamp.refused(cause);
         }

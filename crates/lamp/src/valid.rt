@@ -1,21 +1,42 @@
 // A lamp that was found valid: what a call goes on with, once that is checked. It has no other source than the check, so that a
-// program whose calls all come by one door makes it in one place (docs/SPEED.md).
+// program whose calls all come by one door has the check in its code once (docs/SPEED.md). In a clause it is the lamp.
 ghost use Rattle.std.specs.Prelude.{◌≡◌, true, is_some, IfSome};
+ghost use Rattle.lamp.specs.declared.Lamp.{Lamp};
 ghost use Rattle.lamp.specs.Valid.{lamp_valid};
 
 use crate::Lamp;
+use std::marker::Model;
 
 #[derive(Clone, Copy, Debug, PartialEq, Eq)]
 pub struct ValidLamp {
-    pub lamp: Lamp,
-    pub ghost is_valid: { lamp_valid lamp ≡ true },
+    lamp: Lamp,
+}
+
+impl Model for ValidLamp {
+    ghost Value = { Lamp };
+
+    ghost view = { λ v. v.lamp };
+
+    ghost inverse = { λ l. record { lamp = l } };
+
+    ghost invariant = { λ v. lamp_valid v.lamp ≡ true };
+}
+
+impl ValidLamp {
+    // The lamp that it is.
+    pub fn lamp(self) -> Lamp
+        ensures value { result ≡ self }
+        ensures valid { lamp_valid result ≡ true }
+    {
+        self.lamp
+    }
 }
 
 impl Lamp {
     // The lamp as a valid one, where it is that.
     pub fn validated(self) -> Option<ValidLamp>
         ensures found { is_some result ≡ lamp_valid self }
-        ensures same { IfSome result (λ valid. valid.lamp ≡ self) }
+        ensures same { IfSome result (λ valid. valid ≡ self) }
     {
         if self.is_valid() {
             Some(ValidLamp { lamp: self })

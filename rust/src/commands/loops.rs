@@ -4,7 +4,7 @@
 //! Carried over from project-chip/rs-matter, commit 43f61585a4 (Apache-2.0, see NOTICE), and changed.
 
 use crate::commands::outcomes::Outcome;
-use crate::commands::outcomes::skipped;
+use crate::commands::outcomes::nothing;
 use crate::commands::with_options;
 use crate::color::cons_change;
 use crate::lamp::Answer;
@@ -61,7 +61,7 @@ fn cons_updated(list: Numeral, flags: u8) -> Numeral {
 /// Off: where the loop is active, the stored hue comes back and the Stop task is given.
 fn deactivate(lamp: Lamp) -> Outcome {
     if !lamp.looping.active {
-        return skipped(lamp);
+        return nothing(lamp);
     }
     let set = lamp
         .color
@@ -108,7 +108,7 @@ fn activate(lamp: Lamp, seed: u16) -> Outcome {
 /// The action, where the update has one.
 fn act(lamp: Lamp, acts: bool, action: ColorLoopActionEnum) -> Outcome {
     if !acts {
-        return skipped(lamp);
+        return nothing(lamp);
     }
     match action {
         ColorLoopActionEnum::Deactivate => deactivate(lamp),

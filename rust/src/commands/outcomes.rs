@@ -34,8 +34,8 @@ pub(in crate::commands) fn given(lamp: Lamp, task: Task) -> Outcome {
     given_with(lamp, task, false)
 }
 
-/// A command that may not execute: document 01's pass-over.
-pub(in crate::commands) fn skipped(lamp: Lamp) -> Outcome {
+/// Nothing done: a refusal, or a command that may not execute (document 01's pass-over).
+pub(in crate::commands) fn nothing(lamp: Lamp) -> Outcome {
     Outcome {
         color: lamp.color,
         looping: lamp.looping,

@@ -7,6 +7,7 @@ use crate::lamp::passes::Left;
 use crate::lamp::passes::left_by;
 use crate::lamp::Answer;
 use crate::lamp::Lamp;
+use crate::lamp::ValidLamp;
 use crate::color::cons_change;
 use crate::matter::Bounds;
 use crate::matter::Refusal;
@@ -212,50 +213,52 @@ impl Lamp {
             wait: passed.wait,
         }
     }
+}
 
+impl ValidLamp {
     /// Starts a task, in place of what runs.
     pub fn start(self, task: Task, clock: u64) -> Answer {
-        if let Err(refusal) = self.first_cause(clock) {
-            return self.refused(refusal);
+        let lamp = self.lamp();
+        if let Err(refusal) = lamp.clock_cause(clock) {
+            return lamp.refused(refusal);
         }
         if !task.is_valid() {
-            return self.refused(Refusal::InvalidTask);
+            return lamp.refused(Refusal::InvalidTask);
         }
-        let left = self.begin(task, clock);
-        let active = self.looping.active;
+        let left = lamp.begin(task, clock);
+        let active = lamp.looping.active;
         let list = cons_change(left.passed.first, left.passed.behind(active), active);
-        self.accepted(left, list, clock)
+        lamp.accepted(left, list, clock)
     }
 
     /// One step of what runs.
     pub fn step(self, clock: u64) -> Answer {
-        if !self.is_valid() {
-            return self.refused(Refusal::InvalidLamp);
-        }
-        let running = self.running;
+        let lamp = self.lamp();
+        let running = lamp.running;
         if !running.is_running() {
-            return self.refused(Refusal::StepWhileIdle);
+            return lamp.refused(Refusal::StepWhileIdle);
         }
-        if let Err(cause) = self.clock_cause(clock) {
-            return self.refused(cause);
+        if let Err(cause) = lamp.clock_cause(clock) {
+            return lamp.refused(cause);
         }
-        let left = self.pass(running, clock);
-        let active = self.looping.active;
+        let left = lamp.pass(running, clock);
+        let active = lamp.looping.active;
         let list = cons_change(left.passed.first, left.passed.behind(active), active);
-        self.accepted(left, list, clock)
+        lamp.accepted(left, list, clock)
     }
 
     /// Makes the lamp idle, and nothing else.
     pub fn halt(self, clock: u64) -> Answer {
-        if let Err(cause) = self.first_cause(clock) {
-            return self.refused(cause);
+        let lamp = self.lamp();
+        if let Err(bad_clock) = lamp.clock_cause(clock) {
+            return lamp.refused(bad_clock);
         }
         Answer {
             verdict: Ok(()),
             lamp: Lamp {
                 clock,
                 running: Running::Idle,
-                ..self
+                ..lamp
             },
             notices: Notices::new(),
             task: None,
@@ -263,13 +266,14 @@ impl Lamp {
         }
     }
 
-    /// Why new bounds are refused: 8, 4, crossed bounds, a mired task that runs.
+    /// Why new bounds are refused: 4, crossed bounds, a mired task that runs.
     fn bounds_cause(self, bounds: Bounds, clock: u64) -> Result<(), Refusal> {
-        self.first_cause(clock)?;
+        let lamp = self.lamp();
+        lamp.clock_cause(clock)?;
         if bounds.are_crossed() {
             return Err(Refusal::CrossedBounds);
         }
-        if self.running.moves_mireds() {
+        if lamp.running.moves_mireds() {
             return Err(Refusal::MiredTaskRuns);
         }
         Ok(())
@@ -277,24 +281,56 @@ impl Lamp {
 
     /// New physical bounds. Mireds outside go to the nearer one and are reported; nothing is stored, and the device is not written.
     pub fn set_bounds(self, bounds: Bounds, clock: u64) -> Answer {
+        let lamp = self.lamp();
         if let Err(cause) = self.bounds_cause(bounds, clock) {
-            return self.refused(cause);
+            return lamp.refused(cause);
         }
-        let color = self.color.bounded(bounds, clock);
-        let is_moved = color.mireds != self.color.mireds;
+        let color = lamp.color.bounded(bounds, clock);
+        let is_moved = color.mireds != lamp.color.mireds;
         Answer {
             verdict: Ok(()),
             lamp: Lamp {
                 clock,
                 bounds,
                 color,
-                ..self
+                ..lamp
             },
             notices: Numeral::new()
                 .note_if(is_moved, Notice::ColorTemperatureMireds)
                 .notices(),
             task: None,
             wait: 0,
+        }
+    }
+}
+
+/// The same of any lamp: an invalid one is refused with 8, before all else.
+impl Lamp {
+    pub fn start(self, task: Task, clock: u64) -> Answer {
+        match self.validated() {
+            Some(valid) => valid.start(task, clock),
+            None => self.refused(Refusal::InvalidLamp),
+        }
+    }
+
+    pub fn step(self, clock: u64) -> Answer {
+        match self.validated() {
+            Some(valid) => valid.step(clock),
+            None => self.refused(Refusal::InvalidLamp),
+        }
+    }
+
+    pub fn halt(self, clock: u64) -> Answer {
+        match self.validated() {
+            Some(valid) => valid.halt(clock),
+            None => self.refused(Refusal::InvalidLamp),
+        }
+    }
+
+    pub fn set_bounds(self, bounds: Bounds, clock: u64) -> Answer {
+        match self.validated() {
+            Some(valid) => valid.set_bounds(bounds, clock),
+            None => self.refused(Refusal::InvalidLamp),
         }
     }
 }

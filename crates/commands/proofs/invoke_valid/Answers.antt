@@ -12,20 +12,22 @@ use Rattle.commands.proofs.invoke_valid.Goals.{then-is_accepted, else-is_accepte
 pub returns : goal.returns
 returns c =
     let a = c.args in
-    let told : c.verdict-verdict.result ≡ verdict_of a.valid.lamp (checks a.request.command) a.clock =
+    let l = c.lamp-lamp.result in
+    let told : c.verdict-verdict.result ≡ verdict_of l (checks a.request.command) a.clock =
     rw c.checks_of-checks.ensures at c.verdict-verdict.ensures
     in
-    let done : c.if-is_accepted.done ≡ accepted_outcome (cond c.is_ok-is_accepted.result (command_done (at_clock a.valid.lamp a.clock) a.request a.on_off) (skip a.valid.lamp)) =
+    let done : c.if-is_accepted.done ≡ accepted_outcome (cond c.is_ok-is_accepted.result (command_done (at_clock l a.clock) a.request a.on_off) (skip l)) =
     elim c.if-is_accepted.branch [
       | then-is_accepted w ↦ simp (w.done-is, w.outcome-done.ensures, w.if-is_accepted.true, c.checks_of-checks.ensures)
       | else-is_accepted w ↦ simp (w.done-is, w.nothing-done.ensures, w.if-is_accepted.false)
     ]
     in
-    let now : c.if-is_accepted-2.result ≡ cond c.is_ok-is_accepted.result a.clock a.valid.lamp.clock =
+    let now : c.if-is_accepted-2.result ≡ cond c.is_ok-is_accepted.result a.clock l.clock =
     elim c.if-is_accepted-2.branch [
       | then-is_accepted-2 w ↦ simp (w.result-is, w.if-is_accepted-2.true)
       | else-is_accepted-2 w ↦ simp (w.result-is, w.if-is_accepted-2.false)
     ]
     in
-    simp (c.notices.ensures, done, now, c.is_ok-is_accepted.ensures.value)
-    (built a.valid.lamp a.request a.on_off a.clock a.valid.is_valid _ (sym told))
+    rw (sym c.lamp-lamp.ensures.value)
+    (simp (c.notices.ensures, done, now, c.is_ok-is_accepted.ensures.value)
+    (built l a.request a.on_off a.clock c.lamp-lamp.ensures.valid _ (sym told)))

@@ -11,12 +11,13 @@ use Rattle.lamp.proofs.valid.ValidLamp.set_bounds.Goals as goal
 pub returns : goal.returns
 unfolding bounds_answer bounded
 returns c =
-    let moved : _ = mireds_move c.args.self.lamp.color c.args.bounds in
+    let moved : _ = mireds_move c.args.self.color c.args.bounds in
     rw (
       c.notices.ensures,
       c.note_if.ensures,
       c.new.ensures,
       c.bounded-color.ensures,
+      c.lamp-lamp.ensures.value,
       sym c.bounds_cause.ensures ∙ c.in_default.is,
       placed-noted (only moved ColorTemperatureMireds) (below-only moved ColorTemperatureMireds (omega arith)) (omega (arith, only_one moved ColorTemperatureMireds)),
     )

@@ -8,6 +8,6 @@ use Rattle.lamp.proofs.valid.ValidLamp.step.Goals as goal
 pub pass-left-requires : goal.pass-left-requires
 unfolding lamp_valid
 pass-left-requires c =
-    let self = c.args.self.lamp in
+    let lamp = c.lamp-lamp.result in
     let good = (no-first _ _ _ (sym c.clock_cause.ensures ∙ c.in_default.is)).0 in
-    running-later self.running self.bounds self.clock c.args.clock (each _ c.args.self.is_valid).1.1.0 (ltb-false _ _ (or_left _ _ good))
+    running-later lamp.running lamp.bounds lamp.clock c.args.clock (each _ c.lamp-lamp.ensures.valid).1.1.0 (ltb-false _ _ (or_left _ _ good))
