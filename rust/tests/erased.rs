@@ -12,6 +12,7 @@ fn without_clauses(source: &str) -> Vec<&str> {
         "requires ",
         "ensures ",
         "ghost ",
+        "impl Model for ",
         "#[tactic(",
         "#![tactic(",
         "#[cycle(",
