@@ -40,7 +40,6 @@ use Rattle.lamp.proofs.InRangeKept.{started-any, stepped-any, in-range-of, clock
 use Rattle.commands.specs.Answers.{after_clock, allowed, command_cause, command_done, command_answer, cause, answer, clock_of, is_loop_set}
 use Rattle.commands.proofs.Granted.{granted}
 use Rattle.commands.specs.Ties.{aim_of, aim_ties}
-use Rattle.commands.specs.Unchanged.{sets_bounds}
 use Rattle.matter.specs.declared.limits.Bounds.{Bounds}
 use Rattle.commands.specs.Commands.{CommandEffect, skip, giving_with, checks, with_loop, updated, updated_reported, acted, deactivated, activated, loop_set, command_effect}
 
@@ -184,12 +183,12 @@ granted-any l (Call.Step clock) P any = stepped-any (at_clock l clock) P (λ c r
 granted-any l (Call.Halt clock) P any = any (changed l l.color Running.Idle l.remaining)
 granted-any l (Call.SetBounds bounds clock) P any = any (with_bounds (at_clock l clock) bounds).lamp
 
-others-leave : (l : Lamp) (x : Call) → sets_bounds x ≡ false → bounds_after l x ≡ l.bounds
+others-leave : (l : Lamp) (x : Call) → ((new : Bounds) (clock : ℕ) → x ≡ Call.SetBounds new clock → ⊥) → bounds_after l x ≡ l.bounds
 others-leave l (Call.Command r on_off clock) h = refl
 others-leave l (Call.Start task clock) h = refl
 others-leave l (Call.Step clock) h = refl
 others-leave l (Call.Halt clock) h = refl
-others-leave l (Call.SetBounds bounds clock) h = absurd (true≢false h)
+others-leave l (Call.SetBounds bounds clock) h = absurd (h bounds clock refl)
 
 module _ (l : Lamp) (x : Call) where
   -- an accepted call sets the clock
@@ -198,7 +197,7 @@ module _ (l : Lamp) (x : Call) where
       answer-both l (λ a. a.lamp.clock ≡ clock_of x) x (λ e. granted-any l x (λ m. m.clock ≡ clock_of x) (λ m. refl)) (λ n. absurd (n z))
 
   -- no call but an accepted one of new bounds changes the bounds
-  pub bounds-kept : sets_bounds x ≡ false → (answer l x).lamp.bounds ≡ l.bounds
+  pub bounds-kept : ((new : Bounds) (clock : ℕ) → x ≡ Call.SetBounds new clock → ⊥) → (answer l x).lamp.bounds ≡ l.bounds
   bounds-kept h =
       answer-both l (λ a. a.lamp.bounds ≡ l.bounds) x (λ e. granted-any l x (λ m. m.bounds ≡ l.bounds) (λ m. others-leave l x h)) (λ n. refl)
 

@@ -2,8 +2,8 @@
 use Rattle.std.specs.Prelude.{is_ok}
 use Rattle.matter.specs.Causes.{Verdict, number_of, constraint_error, clock_refused, accepted, crossed_bounds, invalid_task, invalid_command, step_while_idle, invalid_lamp, mired_task_runs}
 use Prim.Native.Nat.{ℕ, ◌≤◌, ◌<◌}
-use mathlib.Core.Bool.{Bool, true, false, not, ◌&&◌, ◌||◌}
-use mathlib.Core.Logic.{inl, inr, ◌⊎◌}
+use mathlib.Core.Bool.{Bool, true, false, not, ◌&&◌, ◌||◌, true≢false}
+use mathlib.Core.Logic.{inl, inr, ◌⊎◌, ⊎_elim}
 use mathlib.Core.List.{[]}
 use mathlib.Core.Path.{◌≡◌, refl, sym, ap, ◌∙◌}
 use native.Mathlib.Omega.{arith}
@@ -34,8 +34,8 @@ use Rattle.lamp.proofs.Kept.{started-few, stepped-few}
 use Rattle.lamp.specs.declared.Call.{Call}
 use Rattle.commands.specs.Commands.{cause_if, checks}
 use Rattle.commands.specs.Table.{Few, TableOfCauses}
-use Rattle.commands.specs.Unchanged.{sets_bounds}
 use Rattle.commands.specs.Answers.{after_clock, command_cause, command_done, command_answer, cause, answer}
+use Rattle.commands.proofs.Granted.{sets_bounds}
 use Rattle.commands.proofs.Kept.{commands-few, number-is-cause}
 
 in-order : {bounds : Bounds} → bounds.min ≤ bounds.max → crossed bounds ≡ false
@@ -189,6 +189,17 @@ cause-small l x =
     (inl (omega arith)) (λ c. inl (omega (arith, own-small c))) (inl (omega arith)) (inl (omega arith)) (inl (omega arith)) (inl (omega arith)) (inl (omega arith))
     l x (λ e. inr (e, refl))
 
+-- no call but one of new bounds is refused with a number above 8
+other-small : (l : Lamp) (x : Call) → ((new : Bounds) (clock : ℕ) → x ≡ Call.SetBounds new clock → ⊥) → number_of (cause l x) ≤ 8
+other-small l x h = ⊎_elim (λ e. e) (λ e. absurd (sets x e.0 h)) (cause-small l x)
+  where
+    sets : (x : Call) → sets_bounds x ≡ true → ((new : Bounds) (clock : ℕ) → x ≡ Call.SetBounds new clock → ⊥) → ⊥
+    sets (Call.Command r on_off clock) e h = true≢false (sym e)
+    sets (Call.Start task clock) e h = true≢false (sym e)
+    sets (Call.Step clock) e h = true≢false (sym e)
+    sets (Call.Halt clock) e h = true≢false (sym e)
+    sets (Call.SetBounds bounds clock) e h = h bounds clock refl
+
 pub cause-not-3 : (l : Lamp) (x : Call) → number_of (cause l x) ≡ 3 → ⊥
 cause-not-3 l x =
     cause-in (λ v. number_of v ≡ 3 → ⊥) (λ e. omega (arith, e)) (λ c e. omega (arith, own-small c, e)) (λ e. omega (arith, e)) (λ e. omega (arith, e)) (λ e. omega (arith, e)) (λ e. omega (arith, e)) (λ e. omega (arith, e))
@@ -251,7 +262,7 @@ table =
             bounds-0 = bounds-0 l clock bounds;
           };
       own = own-small;
-      most = cause-small;
+      most = other-small;
       no-3 = λ l x e. cause-not-3 l x (sym (ap number_of (number-is-cause l x)) ∙ e);
       making-no-3 = making-not-3;
       few = answer-few;

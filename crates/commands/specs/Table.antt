@@ -4,7 +4,7 @@
 -- `invalid-agree` in `conformance`). And: no number is above 8 but 18, which is that of new bounds alone; no answer
 -- uses more than 14 of its sixteen places, the rest being 0.
 use Rattle.matter.specs.Causes.{number_of}
-use Rattle.std.specs.Prelude.{ℕ, ◌≤◌, ◌<◌, ◌⊎◌, true, false, List, ◌≡◌, length}
+use Rattle.std.specs.Prelude.{ℕ, ◌≤◌, ◌<◌, true, false, List, ◌≡◌, length}
 use Rattle.matter.specs.declared.commands.Command.{Command}
 use Rattle.matter.specs.declared.commands.Request.{Request}
 use Rattle.matter.specs.declared.enums.OnOff.{OnOff}
@@ -21,7 +21,6 @@ use Rattle.lamp.specs.Valid.{lamp_valid}
 use Rattle.lamp.specs.declared.Call.{Call}
 use Rattle.commands.specs.Commands.{checks}
 use Rattle.commands.specs.Answers.{cause, answer}
-use Rattle.commands.specs.Unchanged.{sets_bounds}
 
 -- steps 8, 7, 4; a step of a valid running lamp with a good clock is never refused
 pub record StepCauses (l : Lamp) (clock : ℕ) : Type 0 where
@@ -81,8 +80,9 @@ pub record TableOfCauses : Type 0 where
   pub bounds : (l : Lamp) (clock : ℕ) (bounds : Bounds) → BoundsCauses l clock bounds
   -- a command's own numbers give 1, 2 or no cause
   pub own : (c : Command) → number_of (checks c).cause ≤ 2
-  pub most : (l : Lamp) (x : Call) →
-      (number_of (cause l x) ≤ 8) ⊎ ((sets_bounds x ≡ true) × (number_of (cause l x) ≡ 18))
+  -- with `bounds`: 18 is of new bounds alone
+  pub most : (l : Lamp) (x : Call) → ((new : Bounds) (clock : ℕ) → x ≡ Call.SetBounds new clock → ⊥) →
+      number_of (cause l x) ≤ 8
   -- document 02, A.12: "Number 3 no longer occurs"
   pub no-3 : (l : Lamp) (x : Call) → number_of (answer l x).verdict ≡ 3 → ⊥
   pub making-no-3 : (bounds : Bounds) (clock : ℕ) → number_of (making_cause bounds clock) ≡ 3 → ⊥

@@ -3,6 +3,7 @@ use Rattle.matter.specs.Causes.{accepted, Verdict}
 use Rattle.std.specs.Prelude.{None, ℕ, Bool, true, false, [], ◌∷◌, ◌≡◌}
 use Rattle.matter.specs.declared.commands.Request.{Request}
 use Rattle.matter.specs.declared.enums.OnOff.{OnOff}
+use Rattle.matter.specs.declared.limits.Bounds.{Bounds}
 use Rattle.tasks.specs.declared.Running.{Running}
 use Rattle.tasks.specs.declared.Task.{Task}
 use Rattle.lamp.specs.declared.Answer.{Answer}
@@ -40,13 +41,6 @@ moves_to (Running.ColorTemperatureMoveTo run) = true
 moves_to (Running.ColorTemperatureMove run) = false
 moves_to (Running.ColorLoop direction hue seconds start) = false
 
-abbrev pub sets_bounds : Call → Bool
-sets_bounds (Call.Command r on_off clock) = false
-sets_bounds (Call.Start task clock) = false
-sets_bounds (Call.Step clock) = false
-sets_bounds (Call.Halt clock) = false
-sets_bounds (Call.SetBounds bounds clock) = true
-
 pub record Unchanged (l : Lamp) : Type 0 where
   -- "the lamp is then what it was and the notice list is empty"; "A refusal has no task and wait 0"
   pub refusal : (x : Call) → (cause l x ≡ accepted → ⊥) → answer l x ≡ bare (cause l x) l
@@ -67,7 +61,8 @@ pub record Unchanged (l : Lamp) : Type 0 where
   pub start-task : (task : Task) (clock : ℕ) → (answer l (Call.Start task clock)).task ≡ None
   pub step-task : (clock : ℕ) → (answer l (Call.Step clock)).task ≡ None
   -- no other call than one of new bounds changes the bounds (`NewBounds` has those), and none the options
-  pub bounds : (x : Call) → sets_bounds x ≡ false → (answer l x).lamp.bounds ≡ l.bounds
+  pub bounds : (x : Call) → ((new : Bounds) (clock : ℕ) → x ≡ Call.SetBounds new clock → ⊥) →
+      (answer l x).lamp.bounds ≡ l.bounds
   pub options : (x : Call) → (answer l x).lamp.options ≡ l.options
   -- no command, the colour loop's among them, changes what runs, nor the remaining time, nor has a wait
   pub command-running : (r : Request) (on_off : OnOff) (clock : ℕ) →

@@ -101,7 +101,7 @@ start_words kind a b c d e f = 256 ∷ 5000 ∷ 0 ∷ kind ∷ a ∷ b ∷ c ∷
 
 -- and of a call that sets bounds
 abbrev pub bounds_words : ℕ → ℕ → List ℕ
-bounds_words min max = 259 ∷ 5000 ∷ 0 ∷ min ∷ max ∷ 0 ∷ 0 ∷ 0 ∷ 0 ∷ 0 ∷ []
+bounds_words min max = 259 ∷ 5000 ∷ 9 ∷ min ∷ max ∷ 70000 ∷ 70001 ∷ 70002 ∷ 70003 ∷ 70004 ∷ []
 
 pub record CommandWords : Type 0 where
   pub move-to-hue :
@@ -175,9 +175,9 @@ pub record StartWords : Type 0 where
       Reads (start_words 6 1 33 0 0 0 0)
       (Call.Start (Task.ColorLoop (record { direction = ColorLoopDirectionEnum.Increment; seconds = 33 })) 5000)
   pub stop : Reads (start_words 7 0 0 0 0 0 0) (Call.Start Task.Stop 5000)
-  -- and a step, a halt and new bounds
-  pub stepping : Reads (257 ∷ 5000 ∷ 0 ∷ 0 ∷ 0 ∷ 0 ∷ 0 ∷ 0 ∷ 0 ∷ 0 ∷ []) (Call.Step 5000)
-  pub halting : Reads (258 ∷ 5000 ∷ 0 ∷ 0 ∷ 0 ∷ 0 ∷ 0 ∷ 0 ∷ 0 ∷ 0 ∷ []) (Call.Halt 5000)
+  -- and a step, a halt and new bounds, whatever the words that are not read
+  pub stepping : Reads (257 ∷ 5000 ∷ 9 ∷ 9 ∷ 9 ∷ 70000 ∷ 70001 ∷ 70002 ∷ 70003 ∷ 70004 ∷ []) (Call.Step 5000)
+  pub halting : Reads (258 ∷ 5000 ∷ 9 ∷ 9 ∷ 9 ∷ 70000 ∷ 70001 ∷ 70002 ∷ 70003 ∷ 70004 ∷ []) (Call.Halt 5000)
   pub setting-bounds : Reads (bounds_words 160 400) (Call.SetBounds (record { min = 160; max = 400 }) 5000)
 
 -- ---- lamps

@@ -1,4 +1,5 @@
--- Form is kept: by the clock that goes on, by every pass, start and step, and by the answers of starts, steps and halts.
+-- Form is kept: by the clock that goes on, by every pass, start and step, by new bounds, and by the answers of starts, steps, halts
+-- and new bounds.
 -- A start or step reports few notices, none of them a command's.
 use Rattle.color.specs.Setters.{change_of}
 use Rattle.notices.specs.declared.Notice.{Notice}

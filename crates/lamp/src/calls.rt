@@ -1,4 +1,5 @@
-// Starts, steps and halts: document 01, leaf 6, and halt. Each takes the lamp and hands it back inside its answer.
+// Starts, steps and halts: document 01, leaf 6, and halt; new bounds: document 02, A.9. Each takes the lamp and hands it back inside
+// its answer.
 // Carried over from project-chip/rs-matter, commit 43f61585a4 (Apache-2.0, see NOTICE), and changed.
 ghost use Rattle.std.specs.Prelude.{◌≡◌, true};
 ghost use Rattle.notices.specs.Numerals.{empty, in_front};

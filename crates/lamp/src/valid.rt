@@ -1,6 +1,6 @@
 // A lamp that was found valid: what a call goes on with, once that is checked. It has no other source than the check, so that a
-// program whose calls all come by one door has the check in its code once (docs/SPEED.md). In a clause it is the lamp.
-ghost use Rattle.std.specs.Prelude.{◌≡◌, true, is_some, IfSome};
+// program whose calls all come by one door has the check in its code once (docs/SPEED.md).
+ghost use Rattle.std.specs.Prelude.{◌≡◌, true, cond, Some, None};
 ghost use Rattle.lamp.specs.declared.Lamp.{Lamp};
 ghost use Rattle.lamp.specs.Valid.{lamp_valid};
 
@@ -23,7 +23,6 @@ impl Model for ValidLamp {
 }
 
 impl ValidLamp {
-    // The lamp that it is.
     pub fn lamp(self) -> Lamp
         ensures value { result ≡ self }
         ensures valid { lamp_valid result ≡ true }
@@ -35,8 +34,7 @@ impl ValidLamp {
 impl Lamp {
     // The lamp as a valid one, where it is that.
     pub fn validated(self) -> Option<ValidLamp>
-        ensures found { is_some result ≡ lamp_valid self }
-        ensures same { IfSome result (λ valid. valid ≡ self) }
+        ensures { result ≡ cond (lamp_valid self) (Some self) None }
     {
         if self.is_valid() {
             Some(ValidLamp { lamp: self })

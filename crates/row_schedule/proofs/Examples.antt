@@ -53,14 +53,16 @@ abbrev pub hues : Row → List ℕ
 hues r = map (λ (l : Lamp). l.color.hue) (placed r)
 
 -- one row call turns all ten; two fades begun 50 ms apart, where a row call by the first one's wait is early for the second and one
--- before the second's start is refused, new bounds of the first lamp between leave both as they were; a neighbour started and halted in between leaves the others as they were
+-- before the second's start is refused; new bounds of the first lamp between, which move its mireds, leave both hues as they were and the
+-- second lamp whole; a neighbour started and halted in between leaves the others as they were
 pub turns :
     (hues (after_row ten (starts 10 0 ++ (each 160 5100 ∷ []))) ≡ replicate 10 49152)
     × (hues (after_row two (fifty_apart (each 32 5100 ∷ []))) ≡ 49152 ∷ 57344 ∷ [])
     × (hues (after_row two (fifty_apart (at 0 (Call.SetBounds (record { min = 300; max = 600 }) 5060) ∷ each 32 5100 ∷ []))) ≡ 49152 ∷ 57344 ∷ [])
+    × (map {B = ℕ × ℕ} (λ l. (l.bounds.min, l.color.mireds)) (placed (after_row two (fifty_apart (at 0 (Call.SetBounds (record { min = 300; max = 600 }) 5060) ∷ [])))) ≡ (300, 300) ∷ (153, 250) ∷ [])
     × (hues (after_row ten (starts 9 0 ++ (at 9 (Call.Start down 5000) ∷ at 9 (Call.Halt 5000) ∷ each 160 5200 ∷ []))) ≡ replicate 9 32768 ++ (0 ∷ []))
 unfolding after_row row_stepped row_cause answered_at place_cause visited answer start_answer step_answer halt_answer bounds_answer first_cause started stepped hue_saturation_start hue_saturation_moved timed task_valid move_to_valid lamp_valid color_valid running_valid hue_set bounded clamp permille_of moved_hue all_true
-turns = (refl, refl, refl, refl)
+turns = (refl, refl, refl, refl, refl)
 
 -- the waits that the calls ask for
 abbrev waits : Row → List RowCall → List ℕ

@@ -20,7 +20,7 @@ use Rattle.lamp.specs.Valid.{lamp_valid}
 use Rattle.lamp.specs.InRange.{InRangeLamp}
 use Rattle.commands.specs.Commands.{checks}
 use Rattle.commands.specs.Answers.{cause}
-use Rattle.commands.proofs.Table.{table}
+use Rattle.commands.proofs.Table.{table, cause-small}
 use Rattle.commands.proofs.Kept.{number-is-cause}
 use Rattle.schedule.proofs.Lists.{in-range-after}
 use Rattle.rows.specs.declared.Row.{Row}
@@ -93,7 +93,7 @@ never-10 r ys k x v h e =
     let l = lamp_at (after_row r ys) k in
     let own = ((table-of-rows.places (after_row r ys) k x).own w.count (omega (arith, count-after r ys, h)) w.mask).verdict in
     let same : causes.number_of (cause l x) ≡ 10 = ap causes.number_of (sym (number-is-cause l x) ∙ sym own) ∙ e in
-    elim (table.most l x) [ inl h ↦ omega (arith, same) | inr h ↦ omega (arith, same, h.1) ]
+    elim (cause-small l x) [ inl h ↦ omega (arith, same) | inr h ↦ omega (arith, same, h.1) ]
 
 -- the widths of every lamp of the row
 abbrev pub InRangeRow : Row → Type 0

@@ -1,7 +1,6 @@
 -- What the examples of fades are looked at by: what the lamp shows, how many steps it takes, and whether it waits as asked.
 use Rattle.std.specs.Prelude.{ℕ, ◌+◌, Bool, List, [], ◌∷◌}
 use Rattle.lamp.specs.declared.Lamp.{Lamp}
-use Rattle.lamp.specs.declared.Answer.{Answer}
 use Rattle.lamp.specs.declared.Call.{Call}
 use Rattle.schedule.specs.Calls.{next, idle, steps, paced}
 use Rattle.schedule.specs.Fades.{Fade, begun}

@@ -1,7 +1,7 @@
 -- Demand 3 (docs/DEMANDS.md, whose words are quoted here). For every list of commands, starts, steps and halts, refused
--- ones too, from any valid lamp: each move to a hue that is accepted and may execute gives its task and, once a start
--- of that task is accepted, keeps its schedule. One statement over a lamp and a whole list. Premises: the lamp is
--- valid; lamp and calls are in range; the demand's own.
+-- ones too, from any valid lamp, and of new bounds (document 02, A.9): each move to a hue that is accepted and may
+-- execute gives its task and, once a start of that task is accepted, keeps its schedule. One statement over a lamp and
+-- a whole list. Premises: the lamp is valid; lamp and calls are in range; the demand's own.
 use Rattle.std.specs.Prelude.{Some, ℕ, ◌+◌, ◌≤◌, true, cond, ◌||◌, List, [], ◌∷◌, ◌++◌, ◌≡◌, eqb, pos, nat_abs}
 use Rattle.std.specs.Int.Signed.{le_z}
 use Rattle.matter.specs.declared.enums.OnOff.{OnOff}

@@ -116,8 +116,16 @@ pub record NewBoundsReported : Type 0 where
   pub target :
       seen_along made (sent to_600 5000 ∷ set_to 153 400 5000 ∷ Call.Start to_500 5000 ∷ Call.Step 6000 ∷ [])
       ≡ (0, 17 ∷ [], 250, 0) ∷ (0, [], 250, 0) ∷ (0, 16 ∷ [], 250, 0) ∷ (0, 13 ∷ 5 ∷ 6 ∷ 7 ∷ 14 ∷ 16 ∷ 1 ∷ [], 400, 6000) ∷ []
+  -- and where it is then the lamp's own number, there is no way: the end at once
+  pub no_way :
+      seen_along made (set_to 153 250 5000 ∷ Call.Start to_500 5000 ∷ [])
+      ≡ (0, [], 250, 0) ∷ (0, 13 ∷ 5 ∷ 6 ∷ 7 ∷ 14 ∷ 16 ∷ 1 ∷ [], 250, 5000) ∷ []
+  -- narrower bounds end a move given before
+  pub narrower :
+      seen_along made (set_to 153 400 5000 ∷ Call.Start up_task 5000 ∷ Call.Step 6450 ∷ Call.Step 6500 ∷ [])
+      ≡ (0, [], 250, 0) ∷ (0, 16 ∷ [], 250, 0) ∷ (0, 13 ∷ 5 ∷ 6 ∷ 7 ∷ 14 ∷ 16 ∷ [], 395, 6450) ∷ (0, 13 ∷ 5 ∷ 6 ∷ 7 ∷ 14 ∷ 16 ∷ [], 400, 6500) ∷ []
 
 pub new-bounds-reported : NewBoundsReported
 unfolding answer command_answer command_cause command_effect start_answer step_answer bounds_answer started stepped first_cause hue_saturation_start temperature_to_start temperature_start lamp_valid color_valid running_valid task_valid move_to_valid all_true has_flag default_color_mode hue_saturation_moved temperature_to_moved temperature_passed timed hue_set mireds_set bounded clamp permille_of moved_hue reported filled hue_move_valid hue_passed saturation_move_valid saturation_passed loop_passed saturation_set loop_turn snapped next loop_set activated path_delta distance is_tie
 new-bounds-reported =
-    record { order = refl; moves = refl; others = refl; whole = refl; fades = refl; rate_task = refl; rate = refl; target_task = refl; target = refl }
+    record { order = refl; moves = refl; others = refl; whole = refl; fades = refl; rate_task = refl; rate = refl; target_task = refl; target = refl; no_way = refl; narrower = refl }

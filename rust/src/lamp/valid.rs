@@ -1,6 +1,6 @@
 // Made by rust/make from crates/lamp/src/valid.rt: not to be edited.
 //! A lamp that was found valid: what a call goes on with, once that is checked. It has no other source than the check, so that a
-//! program whose calls all come by one door has the check in its code once (docs/SPEED.md). In a clause it is the lamp.
+//! program whose calls all come by one door has the check in its code once (docs/SPEED.md).
 
 use crate::lamp::Lamp;
 
@@ -10,7 +10,6 @@ pub struct ValidLamp {
 }
 
 impl ValidLamp {
-    /// The lamp that it is.
     pub fn lamp(self) -> Lamp {
         self.lamp
     }

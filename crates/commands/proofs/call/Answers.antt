@@ -1,6 +1,7 @@
 -- An invalid lamp is refused, whatever the call.
-use mathlib.Core.Bool.{false}
-use mathlib.Core.Path.{◌≡◌, sym, ◌∙◌}
+use Rattle.std.specs.Prelude.{Some, None, is_some}
+use mathlib.Core.Bool.{Bool, true, false, cond}
+use mathlib.Core.Path.{◌≡◌, refl, sym, ap, ◌∙◌}
 use Rattle.matter.specs.declared.refusals.Refusal.{Refusal}
 use Rattle.lamp.specs.declared.Call.{Call}
 use Rattle.lamp.specs.declared.Lamp.{Lamp}
@@ -18,5 +19,10 @@ refused l (Call.Step clock) f = simp f
 refused l (Call.Halt clock) f = simp f
 refused l (Call.SetBounds bounds clock) f = simp f
 
+-- whether there is one is what it was asked by
+there : {A : Type 0} (b : Bool) (a : A) → is_some (cond b (Some a) None) ≡ b
+there true a = refl
+there false a = refl
+
 pub returns-in_default : goal.returns-in_default
-returns-in_default c = c.refused.ensures ∙ refused c.args.lamp c.args.call (sym c.in_default.ensures.found)
+returns-in_default c = c.refused.ensures ∙ refused c.args.lamp c.args.call (sym (ap is_some c.in_default.ensures ∙ there _ _))
