@@ -51,7 +51,6 @@ valid-no-8 l (Call.Step clock) v e =
 valid-no-8 l (Call.Halt clock) v e =
     let t = table.halts l clock in
     either (bad_clock l clock) (λ b. omega (arith, t.halt-4 v b, e)) (λ b. omega (arith, t.halt-0 v b, e))
-
 valid-no-8 l (Call.SetBounds bounds clock) v e =
     let t = table.bounds l clock bounds in
     either (bad_clock l clock) (λ b. omega (arith, t.bounds-4 v b, e))
