@@ -33,7 +33,6 @@ impl ValidLamp {
 
 impl Lamp {
     // The lamp as a valid one, where it is that.
-    #[inline(always)]
     pub fn validated(self) -> Option<ValidLamp>
         ensures { result ≡ cond (lamp_valid self) (Some self) None }
     {

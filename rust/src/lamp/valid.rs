@@ -17,7 +17,6 @@ impl ValidLamp {
 
 impl Lamp {
     /// The lamp as a valid one, where it is that.
-    #[inline(always)]
     pub fn validated(self) -> Option<ValidLamp> {
         if self.is_valid() {
             Some(ValidLamp { lamp: self })
