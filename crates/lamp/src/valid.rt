@@ -32,7 +32,8 @@ impl ValidLamp {
 }
 
 impl Lamp {
-    // The lamp as a valid one, where it is that.
+    // The lamp as a valid one, where it is that. Inlined, so that a lamp is not copied for its check (docs/SPEED.md).
+    #[inline(always)]
     pub fn validated(self) -> Option<ValidLamp>
         ensures { result ≡ cond (lamp_valid self) (Some self) None }
     {

@@ -9,11 +9,12 @@ use mathlib.Core.List.{List, [], ◌∷◌, ◌++◌, append_assoc, append-nil}
 use borrow.Author.Tests.{lt-ltb, le-ltb, lt-leb, leb-true, leb-false}
 use lib.Dec.{ltb, leb}
 use lib.IntN.{ℤ, pos, negsuc, nat_abs}
-use lib.ListN.{length, take, get_or, length-append}
+use lib.ListN.{length, take, drop, set, get_or, length-append, length-drop, length-set, drop_of_length-le}
 use lib.Signed.{lt_z}
 use Rattle.std.proofs.Common.{Some, None}
 use Rattle.text.specs.Digits.{is_digit, digits_alone, value_from, value, grown, decimal_in, decimal, signed_decimal, spaced, spaced_all, hex_digit, hex_text}
-use Rattle.std.proofs.lemmas.List.{take_more}
+use Rattle.std.proofs.lemmas.List.{take_more, take_all, drop-set}
+use Rattle.std.proofs.lemmas.Grind.{drop-set_at}
 use Rattle.text.proofs.WriteLaws.{side}
 
 -- ---- values
@@ -96,6 +97,51 @@ decimal_in-enough (suc k) n h =
 pub decimal-more : (n : ℕ) → 10 ≤ n → n < 10 ^ 20 → decimal n ≡ decimal (n / 10) ++ ((48 + n % 10) ∷ [])
 unfolding decimal decimal_in
 decimal-more n from fits = simp (le-ltb n 10 from) (ap (λ (ds : List ℕ). ds ++ ((48 + n % 10) ∷ [])) (decimal_in-enough 18 (n / 10) (omega arith)))
+
+-- ---- digits are put from the last: those behind a place are there, and a number is left
+
+pub record Left (n left i : ℕ) (ds : List ℕ) : Type 0 where
+  pub text : decimal left ++ drop (i + 1) ds ≡ decimal n
+  pub below : left < 10 ^ (i + 1)
+
+-- a number of two digits has room for both
+pub digit-room : (n left i : ℕ) (ds : List ℕ) → Left n left i ds → 10 ≤ left → 0 < i
+digit-room n left zero ds l from = absurd (omega (arith, l.below))
+digit-room n left (suc i) ds l from = omega arith
+
+pub digit-more : (n left i j : ℕ) (ds : List ℕ) → Left n left i ds → 10 ≤ left → left < 10 ^ 20 → i ≡ j + 1 → i < length ds →
+    Left n (left / 10) j (set ds i (48 + left % 10))
+digit-more n left i j ds l from fits e inside =
+    let put : drop (j + 1) (set ds i (48 + left % 10)) ≡ (48 + left % 10) ∷ drop (i + 1) ds = drop-set_at ds i (j + 1) (48 + left % 10) (sym e) inside in
+    let p : i + 1 ≡ suc (j + 1) = omega (arith, e) in
+    let room : left < 10 ^ suc (j + 1) = rw p at l.below in
+    record {
+      text =
+          ap (λ (s : List ℕ). decimal (left / 10) ++ s) put
+          ∙ sym (append_assoc (decimal (left / 10)) ((48 + left % 10) ∷ []) (drop (i + 1) ds))
+          ∙ ap (λ (s : List ℕ). s ++ drop (i + 1) ds) (sym (decimal-more left from fits))
+          ∙ l.text;
+      below = tenth-below (j + 1) left room;
+    }
+
+digit-put : (n left i : ℕ) (ds : List ℕ) → Left n left i ds → left < 10 → i < length ds → drop i (set ds i (48 + left)) ≡ decimal n
+digit-put n left i ds l h inside =
+    let one : 48 + left % 10 ≡ 48 + left = omega (arith, h) in
+    drop-set ds i (48 + left) inside
+    ∙ ap (λ (d : ℕ). d ∷ drop (i + 1) ds) (sym one)
+    ∙ ap (λ (s : List ℕ). s ++ drop (i + 1) ds) (sym (decimal-one left h))
+    ∙ l.text
+
+pub digit-last : (n left i : ℕ) (ds : List ℕ) → Left n left i ds → left < 10 → i < length ds → length ds ≡ 20 →
+    take (20 - i) (drop i (set ds i (48 + left))) ≡ decimal n
+digit-last n left i ds l h inside e =
+    let many : length (drop i (set ds i (48 + left))) ≡ 20 - i = rw (length-drop, length-set) (ap (λ (k : ℕ). k - i) e) in
+    take_all (20 - i) (drop i (set ds i (48 + left))) (omega (arith, many)) ∙ digit-put n left i ds l h inside
+
+pub digits-none : (n : ℕ) (ds : List ℕ) → n < 10 ^ 20 → length ds ≡ 20 → Left n n 19 ds
+digits-none n ds h e =
+    let over : drop (19 + 1) ds ≡ [] = drop_of_length-le ds {i = 19 + 1} (omega (arith, e)) in
+    record { text = ap (λ (s : List ℕ). decimal n ++ s) over ∙ append-nil (decimal n); below = h }
 
 value-decimal_in : (k n : ℕ) → n < 10 ^ k → value (decimal_in k n) ≡ n
 unfolding decimal_in

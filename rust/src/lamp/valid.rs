@@ -16,7 +16,8 @@ impl ValidLamp {
 }
 
 impl Lamp {
-    /// The lamp as a valid one, where it is that.
+    /// The lamp as a valid one, where it is that. Inlined, so that a lamp is not copied for its check (docs/SPEED.md).
+    #[inline(always)]
     pub fn validated(self) -> Option<ValidLamp> {
         if self.is_valid() {
             Some(ValidLamp { lamp: self })
