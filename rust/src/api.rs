@@ -8,7 +8,7 @@ use core::hash::{Hash, Hasher};
 
 use crate::commands;
 use crate::hue;
-use crate::lamp::{Answer, Call, Lamp};
+use crate::lamp::{Answer, Call, Lamp, NumberedAnswer};
 use crate::matter::{
     self, Bounds, ColorLoopActionEnum, ColorLoopDirectionEnum, Command, CommandOptions,
     DirectionEnum, MoveModeEnum, OnOff, Refusal, Request, StepModeEnum,
@@ -186,7 +186,7 @@ macro_rules! given_tasks {
 }
 
 results! { Answer RowStepped RowAnswer }
-given_tasks! { Answer RowAnswer }
+given_tasks! { Answer NumberedAnswer RowAnswer }
 
 /// The notices of a place in the bytes that an accepted row call wrote, in their order. A refused one writes none: the bytes
 /// are then what they were before.
@@ -197,6 +197,13 @@ pub fn notices_at(bytes: &[u8], place: u8) -> impl Iterator<Item = Notice> + '_ 
 
 impl Answer {
     /// Whether there is something to step, after [`Answer::wait`] milliseconds.
+    pub fn is_running(&self) -> bool {
+        self.lamp.running.is_running()
+    }
+}
+
+impl NumberedAnswer {
+    /// Whether there is something to step, after [`NumberedAnswer::wait`] milliseconds.
     pub fn is_running(&self) -> bool {
         self.lamp.running.is_running()
     }

@@ -90,17 +90,33 @@ fn modes_agree(mode: ColorModeEnum, emode: EnhancedColorModeEnum) -> bool {
     mode == color_mode_of(emode)
 }
 
+/// The notices of a change in front of a list: persistence first, unless the loop is active; where it is due the attribute,
+/// with an enhanced hue that too, and both modes; scenes last. The attribute is any byte, as in `Numeral::cons`.
+pub fn cons_attribute(
+    list: Numeral,
+    attribute: u8,
+    due: bool,
+    enhanced: bool,
+    loop_active: bool,
+) -> Numeral {
+    list.note(Notice::ScenesNotified)
+        .note_if(due, Notice::EnhancedColorMode)
+        .note_if(due, Notice::ColorMode)
+        .note_if(due & enhanced, Notice::EnhancedCurrentHue)
+        .cons_if(due, attribute)
+        .note_if(!loop_active, Notice::MarkedDirty)
+}
+
 impl Change {
-    /// The change's notices in front of a list: persistence first, unless the loop is active; where it is due the attribute,
-    /// with an enhanced hue that too, and both modes; scenes last.
+    /// The change's notices in front of a list.
     pub fn cons(self, list: Numeral, loop_active: bool) -> Numeral {
-        let due = self.due;
-        list.note(Notice::ScenesNotified)
-            .note_if(due, Notice::EnhancedColorMode)
-            .note_if(due, Notice::ColorMode)
-            .note_if(due & self.enhanced, Notice::EnhancedCurrentHue)
-            .note_if(due, self.attribute)
-            .note_if(!loop_active, Notice::MarkedDirty)
+        cons_attribute(
+            list,
+            u8::from(self.attribute),
+            self.due,
+            self.enhanced,
+            loop_active,
+        )
     }
 }
 

@@ -15,6 +15,7 @@ use crate::matter::ColorLoopDirectionEnum;
 use crate::matter::OnOff;
 use crate::matter::Refusal;
 use crate::matter::Request;
+use crate::matter::number_of;
 use crate::notices::Notices;
 use crate::remaining_time::RemainingTime;
 use crate::tasks::Running;
@@ -48,6 +49,17 @@ pub struct Lamp {
 #[derive(Clone, Copy, Debug, PartialEq, Eq)]
 pub struct Answer {
     pub verdict: Result<(), Refusal>,
+    pub lamp: Lamp,
+    pub notices: Notices,
+    pub task: Option<Task>,
+    pub wait: u64,
+}
+
+/// An answer with its number in the place of its verdict: 0, a refusal's, or any other byte, as an interface that knows
+/// numbers alone has some of its own.
+#[derive(Clone, Copy, Debug, PartialEq, Eq)]
+pub struct NumberedAnswer {
+    pub number: u8,
     pub lamp: Lamp,
     pub notices: Notices,
     pub task: Option<Task>,
@@ -150,5 +162,26 @@ impl Lamp {
     /// A refusal.
     pub fn refused(self, cause: Refusal) -> Answer {
         self.unchanged(Err(cause))
+    }
+
+    /// The lamp as it was, with this number, whichever byte it is: an empty list, no task, wait 0.
+    pub fn numbered(self, number: u8) -> NumberedAnswer {
+        NumberedAnswer {
+            number,
+            ..self.unchanged(Ok(())).numbered()
+        }
+    }
+}
+
+impl Answer {
+    /// The same answer by its number.
+    pub fn numbered(self) -> NumberedAnswer {
+        NumberedAnswer {
+            number: number_of(self.verdict),
+            lamp: self.lamp,
+            notices: self.notices,
+            task: self.task,
+            wait: self.wait,
+        }
     }
 }

@@ -194,7 +194,7 @@ mod api;
 
 pub use api::{ALL_FEATURES, NewLamp, NoticeIter, notices_at};
 pub use arc::{Band, passes_through, plain_passes_through};
-pub use lamp::{Answer, Call, Lamp};
+pub use lamp::{Answer, Call, Lamp, NumberedAnswer};
 pub use matter::{
     Bounds, ColorLoopActionEnum, ColorLoopDirectionEnum, ColorModeEnum, Command, CommandOptions,
     DirectionEnum, EnhancedColorModeEnum, MoveModeEnum, OnOff, Refusal, Request, Reserved,

@@ -1,7 +1,9 @@
 //! The layer by hand.
 
+use yemkruos::color::cons_attribute;
 use yemkruos::hue;
 use yemkruos::matter::{self, CLOCK_LIMIT};
+use yemkruos::notices::{Notices, Numeral};
 use yemkruos::tasks::{ColorTemperatureMoveTo, HueSaturationMoveTo};
 use yemkruos::{
     ALL_FEATURES, Band, Bounds, Call, Command, DirectionEnum, Lamp, NewLamp, Notice, OnOff,
@@ -434,4 +436,27 @@ fn a_lamp_that_is_put_brings_its_bit() {
     };
     assert_eq!(wrong.with_lamp(2, turns).running_mask, 0b110);
     assert_eq!(wrong.with_lamp(1, idle).running_mask, 0b100);
+}
+
+/// Numbers that no cause and no notice has go where they went: into an answer by its number, and in front of a list.
+#[test]
+fn any_number() {
+    let lamp = NEW.make().unwrap();
+    for number in 0..=255 {
+        let answer = lamp.numbered(number);
+        assert_eq!(
+            (answer.number, answer.lamp, answer.task, answer.wait),
+            (number, lamp, None, 0)
+        );
+        assert_eq!(answer.notices, Notices::new());
+        let list = cons_attribute(Numeral::new(), number, true, false, true).notices();
+        assert_eq!(list.places[..4], [number, 6, 7, 14]);
+    }
+    for cause in Refusal::ALL {
+        assert_eq!(
+            lamp.refused(*cause).numbered(),
+            lamp.numbered(cause.number())
+        );
+    }
+    assert_eq!(lamp.unchanged(Ok(())).numbered(), lamp.numbered(0));
 }

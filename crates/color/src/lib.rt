@@ -3,9 +3,11 @@
 // Carried over from project-chip/rs-matter, commit 43f61585a4 (Apache-2.0, see NOTICE), and changed.
 #![tactic(auto)]
 
-ghost use Rattle.std.specs.Prelude.{◌≡◌, cond, None};
+ghost use Rattle.std.specs.Prelude.{◌≡◌, ◌∷◌, cond, None};
+ghost use Rattle.notices.specs.Notices.{only};
+ghost use Rattle.notices.specs.Names.{EnhancedCurrentHue};
 ghost use Rattle.notices.specs.Numerals.{in_front};
-ghost use Rattle.color.specs.Setters.{due, change_reported, hue_mode, kept_hue_mode, set_hue, set_saturation, set_mireds};
+ghost use Rattle.color.specs.Setters.{due, change_notices, change_reported, hue_mode, kept_hue_mode, set_hue, set_saturation, set_mireds};
 ghost use Rattle.color.specs.Valid.{modes_agree, color_valid};
 ghost use Rattle.color.specs.Making.{new_color};
 ghost use Rattle.color.specs.Bounded.{bounded};
@@ -103,20 +105,38 @@ fn modes_agree(mode: ColorModeEnum, emode: EnhancedColorModeEnum) -> bool
     mode == color_mode_of(emode)
 }
 
+// The notices of a change in front of a list: persistence first, unless the loop is active; where it is due the attribute,
+// with an enhanced hue that too, and both modes; scenes last. The attribute is any byte, as in `Numeral::cons`.
+#[tactic(auto, unfolding(notices::specs::Numerals::in_front))]
+pub fn cons_attribute(
+    list: Numeral,
+    attribute: u8,
+    due: bool,
+    enhanced: bool,
+    loop_active: bool,
+) -> Numeral
+    ensures { result ≡ in_front (change_notices loop_active due (attribute ∷ only enhanced EnhancedCurrentHue)) list }
+{
+    list.note(Notice::ScenesNotified)
+        .note_if(due, Notice::EnhancedColorMode)
+        .note_if(due, Notice::ColorMode)
+        .note_if(due & enhanced, Notice::EnhancedCurrentHue)
+        .cons_if(due, attribute)
+        .note_if(!loop_active, Notice::MarkedDirty)
+}
+
 impl Change {
-    // The change's notices in front of a list: persistence first, unless the loop is active; where it is due the attribute,
-    // with an enhanced hue that too, and both modes; scenes last.
-    #[tactic(auto, unfolding(notices::specs::Numerals::in_front))]
+    // The change's notices in front of a list.
     pub fn cons(self, list: Numeral, loop_active: bool) -> Numeral
         ensures { result ≡ in_front (change_reported (Some self) loop_active) list }
     {
-        let due = self.due;
-        list.note(Notice::ScenesNotified)
-            .note_if(due, Notice::EnhancedColorMode)
-            .note_if(due, Notice::ColorMode)
-            .note_if(due & self.enhanced, Notice::EnhancedCurrentHue)
-            .note_if(due, self.attribute)
-            .note_if(!loop_active, Notice::MarkedDirty)
+        cons_attribute(
+            list,
+            u8::from(self.attribute),
+            self.due,
+            self.enhanced,
+            loop_active,
+        )
     }
 }
 

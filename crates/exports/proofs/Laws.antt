@@ -8,7 +8,8 @@ use mathlib.Core.Bool.{Bool, true, false, not}
 use mathlib.Core.Path.{◌≡◌, refl, ap}
 use native.Mathlib.Nat.{mod-eq_of_lt}
 use native.Mathlib.Omega.{arith}
-use lib.Dec.{eqb, leb, leb-suc-zero}
+use lib.Dec.{eqb, leb, ltb, leb-suc-zero}
+use lib.ListN.{replicate}
 use lib.IntN.{ℤ, pos, negsuc, neg_ℤ, nat_abs}
 use lib.Signed.{le_z}
 use borrow.Author.Tests.{leb-true, le-leb}
@@ -32,9 +33,13 @@ use Rattle.lamp.specs.declared.Lamp.{Lamp}
 use Rattle.lamp.specs.Valid.{lamp_valid}
 use Rattle.lamp.proofs.Kept.{valid-running}
 use Rattle.lamp.specs.InRange.{InRangeLamp}
-use Rattle.exports.specs.Words.{flag, flag_number, signed, sign_of, size_of}
+use Rattle.exports.specs.Words.{at, flag, flag_number, signed, sign_of, size_of}
 use Rattle.exports.specs.Enums.{read_of, known_of, direction_read, direction_known, move_mode_read, move_mode_known, step_mode_read, step_mode_known, loop_action_read, loop_action_known, loop_direction_read, loop_direction_known, color_mode_read, color_mode_known, enhanced_mode_read, enhanced_mode_known, on_off_read, on_off_known}
 use Rattle.exports.specs.Moves.{delta_of, target_of, move_to_of, hue_move_of, saturation_move_of, mireds_to_of, mireds_move_of, color_loop_of, task_of, running_of, task_fits, task_known, record_known, none, delta_sign, delta_size, target_given, target_number, task_numbers, record_numbers}
+use Rattle.lamp.specs.Answers.{numbered_answer}
+use Rattle.commands.specs.Answers.{answer}
+use Rattle.notices.specs.Notices.{filled}
+use Rattle.exports.specs.Calls.{call_of, sent}
 use Rattle.exports.specs.Bounds.{bounds_fit}
 use Rattle.exports.specs.RoundTrips.{Back}
 use Rattle.exports.specs.Lamps.{record_of, lamp_of, lamp_fits, lamp_known, lamp_words}
@@ -238,3 +243,14 @@ lamp-back l validity h =
       same = simp (low.same, high.same, options.same, tenths.same, hue.same, saturation.same, mireds.same, mode.same, emode.same, active.same, direction.same, time.same, first.same, stored.same, run.same);
       taken = simp (low.taken, high.taken, options.taken, tenths.taken, hue.taken, saturation.taken, mireds.taken, mode.taken, emode.taken, active.taken, direction.taken, time.taken, first.taken, stored.taken, run.taken);
     }
+
+-- ---- a call in words, by its number
+
+pub sent-unread : (l : Lamp) (w : List ℕ) → ltb 259 (at w 0) ≡ true →
+    sent l w ≡ record { number = 100; lamp = l; notices = record { places = replicate 16 0; len = 0 }; task = None; wait = 0 }
+unfolding sent filled
+sent-unread l w e = simp e
+
+pub sent-read : (l : Lamp) (w : List ℕ) → ltb 259 (at w 0) ≡ false → sent l w ≡ numbered_answer (answer l (call_of w))
+unfolding sent
+sent-read l w e = simp e

@@ -6,12 +6,15 @@ use Rattle.matter.specs.declared.commands.Request.{Request}
 use Rattle.matter.specs.Requests.{request, options}
 use Rattle.lamp.specs.declared.Lamp.{Lamp}
 use Rattle.lamp.specs.declared.Answer.{Answer}
+use Rattle.lamp.specs.declared.NumberedAnswer.{NumberedAnswer}
+use Rattle.lamp.specs.Answers.{numbered, numbered_answer}
 use Rattle.lamp.specs.declared.Call.{Call}
 use Rattle.commands.specs.Answers.{answer}
 use Rattle.exports.specs.declared.moves.TaskNumbers.{TaskNumbers}
 use Rattle.exports.specs.declared.calls.CommandNumbers.{CommandNumbers}
 use Rattle.exports.specs.Kinds as K
 use Rattle.exports.specs.Bounds.{bounds_of, bounds_fit}
+use Rattle.exports.specs.Failures.{unreadable}
 use Rattle.exports.specs.Words.{at, byte, short, flag}
 use Rattle.exports.specs.Enums.{direction_read, move_mode_read, step_mode_read, loop_action_read, loop_direction_read}
 use Rattle.exports.specs.Enums.{on_off_read, direction_known, move_mode_known, step_mode_known, loop_action_known}
@@ -129,5 +132,9 @@ call_known w =
     || (command_known (command_numbers w) && on_off_known (at w 2)))
 
 -- the answer to a call in words; a kind past the last one is no call
-unfoldable pub sent : Lamp → List ℕ → Option Answer
-sent l w = cond (ltb K.set_bounds (at w 0)) None (Some (answer l (call_of w)))
+unfoldable pub called : Lamp → List ℕ → Option Answer
+called l w = cond (ltb K.set_bounds (at w 0)) None (Some (answer l (call_of w)))
+
+-- the same by its number, which is 100 where the words are no call: then the lamp is as it was
+unfoldable pub sent : Lamp → List ℕ → NumberedAnswer
+sent l w = cond (ltb K.set_bounds (at w 0)) (numbered l unreadable) (numbered_answer (answer l (call_of w)))

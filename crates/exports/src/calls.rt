@@ -7,7 +7,7 @@ ghost use Rattle.exports.specs.Calls.{hue_command, saturation_command, enhanced_
 use crate::moves::TaskNumbers;
 use crate::words::at;
 use crate::{bounds, enums, words};
-use lamp::{Answer, Call, Lamp};
+use lamp::{Answer, Call, Lamp, NumberedAnswer};
 use matter::{
     ColorLoopActionEnum, ColorLoopDirectionEnum, Command, CommandOptions, DirectionEnum,
     MoveModeEnum, OnOff, Request, StepModeEnum,
@@ -313,13 +313,27 @@ pub fn call_of(w: &[u64]) -> Call
 }
 
 // The answer to a call. A kind past the last one is no call.
-#[tactic(auto, unfolding(crate::specs::Calls::sent))]
-pub fn sent(lamp: Lamp, w: &[u64]) -> Option<Answer>
-    ensures { result ≡ C.sent lamp w.now }
+#[tactic(auto, unfolding(crate::specs::Calls::called))]
+pub fn called(lamp: Lamp, w: &[u64]) -> Option<Answer>
+    ensures { result ≡ C.called lamp w.now }
 {
     if SET_BOUNDS < at(w, 0) {
         None
     } else {
         Some(commands::call(lamp, call_of(w)))
+    }
+}
+
+// The number of words that are no call.
+pub const UNREADABLE: u8 = 100;
+
+// The answer to a call by its number: to words that are no call, theirs, with the lamp as it was.
+#[tactic(auto, unfolding(crate::specs::Calls::sent, crate::specs::Calls::called))]
+pub fn sent(lamp: Lamp, w: &[u64]) -> NumberedAnswer
+    ensures { result ≡ C.sent lamp w.now }
+{
+    match called(lamp, w) {
+        Some(answer) => answer.numbered(),
+        None => lamp.numbered(UNREADABLE),
     }
 }

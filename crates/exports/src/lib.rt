@@ -16,7 +16,7 @@ ghost use Rattle.exports.specs.Exported.{made, answered};
 ghost use Rattle.exports.specs.Failures.{error_number};
 
 pub use answers::{ANSWER_WORDS, answer_words, place};
-pub use calls::{CALL_WORDS, sent};
+pub use calls::{CALL_WORDS, called, sent};
 pub use failures::WordsError;
 use failures::number_of;
 use lamp::Lamp;

@@ -59,7 +59,7 @@ further-is (suc left) a clock = simp (lt-ltb 0 (suc left) (omega arith)) (some (
 
 pub text-next : (f : Fade) → text f ≡ next_text f ++ text (rest f)
 text-next Fade.BadLine = refl
-text-next (Fade.Refused refusal) = sym (append-nil _)
+text-next (Fade.Refused number) = sym (append-nil _)
 text-next (Fade.Start s) = ap (λ (t : List ℕ). next_text (Fade.Start s) ++ t) (further-is s.left _ s.clock)
 text-next (Fade.Step s) = ap (λ (t : List ℕ). next_text (Fade.Step s) ++ t) (further-is s.left _ s.clock)
 text-next Fade.Over = refl
@@ -149,7 +149,7 @@ one-some a clock =
 
 pub next-some : (f : Fade) → is_over f ≡ false → 0 < length (next_text f)
 next-some Fade.BadLine e = omega arith
-next-some (Fade.Refused refusal) e = refused-some (refusal_number refusal)
+next-some (Fade.Refused number) e = refused-some number
 next-some (Fade.Start s) e = one-some (start_answer s.lamp s.task s.clock) s.clock
 next-some (Fade.Step s) e = one-some (step_answer s.lamp s.clock) s.clock
 next-some Fade.Over e = absurd (true≢false e)
@@ -169,7 +169,7 @@ refusal-few l cause = omega arith
 pub next-short : (f : Fade) → length (next_text f) ≤ 512
 unfolding start_answer step_answer
 next-short Fade.BadLine = omega arith
-next-short (Fade.Refused refusal) = refused-short (refusal_number refusal)
+next-short (Fade.Refused number) = refused-short number
 next-short (Fade.Start s) =
     one-short (start_answer s.lamp s.task s.clock) s.clock
     (choose-both (λ (a : Answer). length (numbers a.notices) ≤ 16) (start_cause s.lamp s.task s.clock) s.lamp _

@@ -1,7 +1,6 @@
 -- What contracts of inner functions alone cite, and nobody has to believe: one line at a time, and the run after it
 -- (`text-next` in proofs/Laws says that these are the text).
 use Rattle.std.specs.Prelude.{ℕ, ◌+◌, ◌-◌, cond, ◌&&◌, List, [], ltb}
-use Rattle.matter.specs.Causes.{refusal_number}
 use Rattle.lamp.specs.declared.Answer.{Answer}
 use Rattle.lamp.specs.Calls.{start_answer, step_answer}
 use Rattle.fade_line.specs.Text.{refused_text, bad_line_text}
@@ -10,7 +9,7 @@ use Rattle.fade_run.specs.Run.{one_text, goes_on}
 
 abbrev pub next_text : Fade → List ℕ
 next_text Fade.BadLine = bad_line_text
-next_text (Fade.Refused refusal) = refused_text (refusal_number refusal)
+next_text (Fade.Refused number) = refused_text number
 next_text (Fade.Start s) = one_text (start_answer s.lamp s.task s.clock) s.clock
 next_text (Fade.Step s) = one_text (step_answer s.lamp s.clock) s.clock
 next_text Fade.Over = []

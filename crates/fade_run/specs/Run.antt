@@ -59,7 +59,7 @@ further (suc left) a clock =
 
 abbrev pub text : Fade → List ℕ
 text Fade.BadLine = bad_line_text
-text (Fade.Refused refusal) = refused_text (refusal_number refusal)
+text (Fade.Refused number) = refused_text number
 text (Fade.Start s) =
     one_text (start_answer s.lamp s.task s.clock) s.clock
     ++ further s.left (start_answer s.lamp s.task s.clock) s.clock
@@ -76,7 +76,7 @@ start_of left clock l (Some task) = Fade.Start (record { lamp = l; task = task; 
 
 abbrev pub unless_ended : Verdict → Fade → Fade
 unless_ended (Ok u) fade = fade
-unless_ended (Err refusal) fade = Fade.Refused refusal
+unless_ended (Err refusal) fade = Fade.Refused (refusal_number refusal)
 
 abbrev pub after_command : ℕ → ℕ → Answer → Fade
 after_command left clock a = unless_ended a.verdict (start_of left clock a.lamp a.task)
@@ -88,7 +88,7 @@ commanded left w l =
     (command_answer l (request (Command.MoveToHue w.hue w.direction w.tenths) no_options) OnOff.On w.clock)
 
 abbrev pub after_making : ℕ → Wanted → Result Lamp Refusal → Fade
-after_making left w (Err refusal) = Fade.Refused refusal
+after_making left w (Err refusal) = Fade.Refused (refusal_number refusal)
 after_making left w (Ok l) = commanded left w l
 
 -- "It makes this lamp": "bounds 153 and 500, [..] hue 0, mireds 250, on, XY mode"

@@ -12,7 +12,7 @@ use fade_line::reader::Wanted;
 use fade_line::writer;
 use fade_line::writer::{LONGEST, Line};
 use lamp::{Answer, Lamp};
-use matter::{Bounds, Command, CommandOptions, OnOff, Refusal, Request};
+use matter::{Bounds, Command, CommandOptions, OnOff, Request};
 use tasks::Task;
 
 // A start, and a step, that is to come, with how many more steps there may be. The clock and that number are two fields, and
@@ -32,11 +32,12 @@ pub struct Stepping {
     pub left: u16,
 }
 
-// Where a run stands: what is to be written next.
+// Where a run stands: what is to be written next. A refusal is its number, and any byte is taken: a `Refusal` would ask more
+// of callers.
 #[derive(Clone, Copy)]
 pub enum Fade {
     BadLine,
-    Refused(Refusal),
+    Refused(u8),
     Start(Starting),
     Step(Stepping),
     Over,
@@ -61,7 +62,7 @@ fn after_command(answer: Answer, clock: u64, left: u16) -> Fade
 {
     match answer.verdict {
         Ok(()) => start_of(answer.lamp, answer.task, clock, left),
-        Err(refusal) => Fade::Refused(refusal),
+        Err(refusal) => Fade::Refused(u8::from(refusal)),
     }
 }
 
@@ -88,7 +89,7 @@ fn begin(wanted: Wanted) -> Fade
     ensures { result ≡ fade_within wanted.tenths wanted }
 {
     match Lamp::new(Bounds { min: 153, max: 500 }, 31, 0, wanted.clock) {
-        Err(refusal) => Fade::Refused(refusal),
+        Err(refusal) => Fade::Refused(u8::from(refusal)),
         Ok(lamp) => command(lamp, wanted),
     }
 }
@@ -169,9 +170,9 @@ impl Fade {
                 *self = Fade::Over;
                 writer::write_bad_line(out, at)
             }
-            Fade::Refused(refusal) => {
+            Fade::Refused(number) => {
                 *self = Fade::Over;
-                writer::write_refused(out, at, u8::from(refusal))
+                writer::write_refused(out, at, number)
             }
             Fade::Start(s) => {
                 self.report(s.lamp.start(s.task, s.clock), s.clock, s.left, out, at)

@@ -11,10 +11,10 @@ ghost use Rattle.std.specs.Prelude.{◌≡◌, cond};
 ghost use Rattle.matter.specs.Causes.{accepted, clock_refused};
 ghost use Rattle.lamp.specs.Valid.{lamp_valid};
 ghost use Rattle.lamp.specs.Making.{fresh_lamp, making, made_values, making_values};
-ghost use Rattle.lamp.specs.Answers.{at_clock, bad_clock, first_cause, unchanged, refusal};
+ghost use Rattle.lamp.specs.Answers.{at_clock, bad_clock, first_cause, unchanged, refusal, numbered, numbered_answer};
 
 use color::Color;
-use matter::{Bounds, CLOCK_LIMIT, ColorLoopDirectionEnum, OnOff, Refusal, Request};
+use matter::{Bounds, CLOCK_LIMIT, ColorLoopDirectionEnum, OnOff, Refusal, Request, number_of};
 use notices::Notices;
 use remaining_time::RemainingTime;
 use tasks::{Running, Task};
@@ -47,6 +47,17 @@ pub struct Lamp {
 #[derive(Clone, Copy, Debug, PartialEq, Eq)]
 pub struct Answer {
     pub verdict: Result<(), Refusal>,
+    pub lamp: Lamp,
+    pub notices: Notices,
+    pub task: Option<Task>,
+    pub wait: u64,
+}
+
+// An answer with its number in the place of its verdict: 0, a refusal's, or any other byte, as an interface that knows
+// numbers alone has some of its own.
+#[derive(Clone, Copy, Debug, PartialEq, Eq)]
+pub struct NumberedAnswer {
+    pub number: u8,
     pub lamp: Lamp,
     pub notices: Notices,
     pub task: Option<Task>,
@@ -169,5 +180,30 @@ impl Lamp {
         ensures { result ≡ refusal self cause }
     {
         self.unchanged(Err(cause))
+    }
+
+    // The lamp as it was, with this number, whichever byte it is: an empty list, no task, wait 0.
+    pub fn numbered(self, number: u8) -> NumberedAnswer
+        ensures { result ≡ numbered self number }
+    {
+        NumberedAnswer {
+            number,
+            ..self.unchanged(Ok(())).numbered()
+        }
+    }
+}
+
+impl Answer {
+    // The same answer by its number.
+    pub fn numbered(self) -> NumberedAnswer
+        ensures { result ≡ numbered_answer self }
+    {
+        NumberedAnswer {
+            number: number_of(self.verdict),
+            lamp: self.lamp,
+            notices: self.notices,
+            task: self.task,
+            wait: self.wait,
+        }
     }
 }

@@ -1,1 +1,2 @@
 mod EnumLaws
+pub mod Numbered

@@ -8,6 +8,7 @@ use Rattle.tasks.specs.declared.Task.{Task}
 use Rattle.tasks.specs.Runs.{runs}
 use Rattle.lamp.specs.declared.Answer.{Answer}
 use Rattle.lamp.specs.declared.Lamp.{Lamp}
+use Rattle.lamp.specs.declared.NumberedAnswer.{NumberedAnswer}
 use Rattle.text.specs.Ascii.{ascii}
 use Rattle.text.specs.Digits.{signed_decimal, spaced, spaced_or_dash, spaced_all}
 
@@ -61,6 +62,10 @@ abbrev pub status_text : Verdict → List ℕ
 status_text (Ok u) = ascii "ok"
 status_text (Err refusal) = ascii "refused" ++ spaced_all (refusal_number refusal ∷ [])
 
+-- the same of a number, whichever it is
+abbrev pub numbered_status_text : ℕ → List ℕ
+numbered_status_text number = cond (eqb number 0) (ascii "ok") (ascii "refused" ++ spaced_all (number ∷ []))
+
 abbrev pub running_text : Running → List ℕ
 running_text r = cond (runs r) (ascii " running") (ascii " idle")
 
@@ -73,4 +78,10 @@ reported_text notices task wait =
 unfoldable pub answer_text : Answer → List ℕ
 answer_text a =
     status_text a.verdict ++ ascii " |" ++ spaced_all (lamp_numbers a.lamp)
+    ++ reported_text a.notices a.task a.wait ++ ascii " |" ++ running_text a.lamp.running
+
+-- the same of an answer by its number
+unfoldable pub numbered_answer_text : NumberedAnswer → List ℕ
+numbered_answer_text a =
+    numbered_status_text a.number ++ ascii " |" ++ spaced_all (lamp_numbers a.lamp)
     ++ reported_text a.notices a.task a.wait ++ ascii " |" ++ running_text a.lamp.running

@@ -1,12 +1,12 @@
 // Writing answers, into any sink. Not by `Display`: the same bytes go to a buffer and into the sum of a row, and writing
 // cannot fail.
-ghost use Rattle.std.specs.Prelude.{◌≡◌, ◌++◌};
+ghost use Rattle.std.specs.Prelude.{◌≡◌, ◌++◌, ◌∷◌, []};
 ghost use Rattle.std.specs.List.{fold};
 ghost use Rattle.text.specs.Ascii.{ascii};
 ghost use Rattle.text.specs.Digits.{spaced_all};
-ghost use Rattle.lamp_lines.specs.Answers.{signed_text, lamp_numbers, notices_text, delta_text, task_text, given_text, status_text, running_text, reported_text, answer_text};
+ghost use Rattle.lamp_lines.specs.Answers.{signed_text, lamp_numbers, notices_text, delta_text, task_text, given_text, status_text, numbered_status_text, running_text, reported_text, answer_text, numbered_answer_text};
 
-use lamp::{Answer, Lamp};
+use lamp::{Answer, Lamp, NumberedAnswer};
 use matter::Refusal;
 use notices::Notices;
 use tasks::{Running, Task};
@@ -142,12 +142,29 @@ fn given<S: Sink>(out: &mut S, given: Option<Task>)
     }
 }
 
+fn refused<S: Sink>(out: &mut S, number: u8)
+    ensures { out.new ≡ fold S.push out.old (ascii "refused" ++ spaced_all (number ∷ [])) }
+{
+    named(out, b"refused", &[u64::from(number)]);
+}
+
 pub fn status<S: Sink>(out: &mut S, verdict: Result<(), Refusal>)
     ensures { out.new ≡ fold S.push out.old (status_text verdict) }
 {
     match verdict {
         Ok(()) => text(out, b"ok"),
-        Err(refusal) => named(out, b"refused", &[u64::from(u8::from(refusal))]),
+        Err(refusal) => refused(out, u8::from(refusal)),
+    }
+}
+
+// The status of a number, whichever byte it is.
+pub fn numbered_status<S: Sink>(out: &mut S, number: u8)
+    ensures { out.new ≡ fold S.push out.old (numbered_status_text number) }
+{
+    if number == 0 {
+        text(out, b"ok");
+    } else {
+        refused(out, number);
     }
 }
 
@@ -183,4 +200,17 @@ pub fn answer<S: Sink>(out: &mut S, answer: Answer)
     reported(out, answer.notices, answer.task, answer.wait);
     bar(out);
     ending(out, answer.lamp.running);
+}
+
+// An answer by its number, as `answer` writes one by its verdict.
+#[tactic(auto, unfolding(crate::specs::Answers::numbered_answer_text))]
+pub fn numbered_answer<S: Sink>(out: &mut S, a: NumberedAnswer)
+    ensures { out.new ≡ fold S.push out.old (numbered_answer_text a) }
+{
+    numbered_status(out, a.number);
+    bar(out);
+    spaced_all(out, &lamp_numbers(a.lamp));
+    reported(out, a.notices, a.task, a.wait);
+    bar(out);
+    ending(out, a.lamp.running);
 }

@@ -4,7 +4,7 @@ use Rattle.lamp.specs.declared.Lamp.{Lamp}
 use Rattle.lamp.specs.declared.Answer.{Answer}
 use Rattle.measure.specs.declared.Ran.{Ran}
 use Rattle.exports.specs.Lamps.{lamp_of}
-use Rattle.exports.specs.Calls.{sent}
+use Rattle.exports.specs.Calls.{called}
 use Rattle.measure.specs.Sums.{answer_added, unread_added}
 
 -- the words of the call k
@@ -19,7 +19,7 @@ after r None = record { lamp = r.lamp; sums = unread_added r.sums r.lamp }
 -- the lamp and the sums after the first k calls
 unfoldable pub ran : Lamp → List ℕ → ℕ → Ran
 ran l calls zero = record { lamp = l; sums = record { a = 0; b = 0 } }
-ran l calls (suc k) = after (ran l calls k) (sent (ran l calls k).lamp (call_at calls k))
+ran l calls (suc k) = after (ran l calls k) (called (ran l calls k).lamp (call_at calls k))
 
 -- after all of them; words at the end that make no whole call are skipped
 abbrev pub ran_all : Lamp → List ℕ → Ran

@@ -9,7 +9,7 @@ ghost use Rattle.measure.specs.Readings.{masks_checksum, records_checksum};
 ghost use Rattle.exports.specs.Calls as C;
 ghost use Rattle.measure.specs.Runs.{after, ran_all, checksum};
 
-use exports::{CALL_WORDS, lamp_of, sent};
+use exports::{CALL_WORDS, called, lamp_of};
 use lamp::Lamp;
 use sums::Sums;
 
@@ -23,9 +23,9 @@ pub struct Ran {
 impl Ran {
     // One call more.
     fn after(self, call: &[u64]) -> Ran
-        ensures { result ≡ after self (C.sent self.lamp call.now) }
+        ensures { result ≡ after self (C.called self.lamp call.now) }
     {
-        match sent(self.lamp, call) {
+        match called(self.lamp, call) {
             Some(answer) => Ran {
                 lamp: answer.lamp,
                 sums: self.sums.add_answer(answer),

@@ -1,8 +1,0 @@
--- The notices of a change, one after the other, are its list.
-use Rattle.color.proofs.Laws.{change-in-front}
-use Rattle.color.proofs.Change.cons.Goals as goal
-
-pub returns : goal.returns
-returns c =
-    rw
-    (c.note_if-5.ensures, c.note_if-4.ensures, c.note_if-3.ensures, c.note_if-2.ensures, c.note_if.ensures, c.note.ensures, change-in-front)
