@@ -26,7 +26,7 @@ use Rattle.rows.specs.RowTable.{AnswersAs}
 use Rattle.rows.specs.Rows.{map_to, visited, no_lamp, lamp_at, placed, mask_true, row_cause, row_stepped, row_bytes, place_cause, answered_at, row_of, put_at, with_lamps}
 use Rattle.rows.specs.Inner.{visits_cause, graver, limit_cause, slice_cause}
 use Rattle.rows.proofs.Visiting.{step-map_to, length-map_to, step-number}
-use Rattle.matter.specs.Causes.{Verdict, accepted, clock_refused, invalid_lamp, step_while_idle}
+use Rattle.matter.specs.Causes.{Verdict, number_of, accepted, clock_refused, invalid_lamp, step_while_idle}
 use Rattle.matter.proofs.Laws.{accepted-of, refused-of, not-ok}
 use Rattle.rows.proofs.Causes.{both-none, none_graver, lamps-next, row-cause, slice_fits, place-there}
 
@@ -202,6 +202,10 @@ no-cause r k h = rw (le-ltb 32 r.count h.in_row.room.few, lt-leb r.count k h.in_
 pub wrong-mask : (r : Row) (k : ℕ) → InRow k r → mask_true r ≡ false → place_cause r k ≡ invalid_lamp
 unfolding place_cause
 wrong-mask r k h m = rw (le-ltb 32 r.count h.room.few, lt-leb r.count k h.there, m)
+
+-- its number is 8
+pub wrong-mask-8 : (r : Row) (k : ℕ) → InRow k r → mask_true r ≡ false → number_of (place_cause r k) ≡ 8
+wrong-mask-8 r k h m = ap number_of (wrong-mask r k h m)
 
 abbrev pub step_each : ℕ → ℕ → Row → ℕ → Row
 step_each zero k r clock = r

@@ -60,6 +60,7 @@ later l =
 pub record Row : Type 0 where
   pub command : Command
   pub on_off : OnOff
+  pub number : ℕ
   pub answer : Lamp → Answer
 
 abbrev pub gave_with : Notices → Task → Lamp → Answer
@@ -72,31 +73,33 @@ gave task l = gave_with (record { places = 17 ∷ replicate 15 0; len = 1 }) tas
 -- `gives`: a task and 17; `ties`: and 18 behind it; `gives_off`: as `gives`, off; `passes`: off and skipped, no task, the
 -- clock set; `refuses`, `refuses_off`: the lamp as it was
 abbrev pub gives : Command → Task → Row
-gives c task = record { command = c; on_off = OnOff.On; answer = gave task }
+gives c task = record { command = c; on_off = OnOff.On; number = 0; answer = gave task }
 
 abbrev pub ties : Command → Task → Row
 ties c task =
     record {
       command = c;
       on_off = OnOff.On;
+      number = 0;
       answer = gave_with (record { places = 17 ∷ 18 ∷ replicate 14 0; len = 2 }) task;
     }
 
 abbrev pub gives_off : Command → Task → Row
-gives_off c task = record { command = c; on_off = OnOff.Off; answer = gave task }
+gives_off c task = record { command = c; on_off = OnOff.Off; number = 0; answer = gave task }
 
 abbrev pub passes : Command → Row
-passes c = record { command = c; on_off = OnOff.Off; answer = λ (l : Lamp). bare accepted (later l) }
+passes c = record { command = c; on_off = OnOff.Off; number = 0; answer = λ (l : Lamp). bare accepted (later l) }
 
-abbrev pub refuses : Command → Verdict → Row
-refuses c cause = record { command = c; on_off = OnOff.On; answer = bare cause }
+abbrev pub refuses : Command → Verdict → ℕ → Row
+refuses c cause number = record { command = c; on_off = OnOff.On; number = number; answer = bare cause }
 
-abbrev pub refuses_off : Command → Verdict → Row
-refuses_off c cause = record { command = c; on_off = OnOff.Off; answer = bare cause }
+abbrev pub refuses_off : Command → Verdict → ℕ → Row
+refuses_off c cause number = record { command = c; on_off = OnOff.Off; number = number; answer = bare cause }
 
 abbrev pub Says : Lamp → List Row → Type 0
 Says l rows =
-    map (λ (r : Row). plain l r.command r.on_off now) rows ≡ map (λ (r : Row). r.answer l) rows
+    (map (λ (r : Row). plain l r.command r.on_off now) rows ≡ map (λ (r : Row). r.answer l) rows)
+    × (map (λ (r : Row). number_of (plain l r.command r.on_off now).verdict) rows ≡ map (λ (r : Row). r.number) rows)
 
 -- ---- the tasks, in 7 tenths
 
@@ -178,8 +181,8 @@ commands =
     ∷ gives (Command.StepColorTemperature StepModeEnum.Down 90 7 200 100) (to_mireds 160)
     ∷ gives (ten_up 301 300) (to_mireds 260)
     ∷ passes (ten_up 400 300)
-    ∷ refuses (Command.StepColorTemperature StepModeEnum.Up 0 7 400 300) invalid_command
-    ∷ refuses_off (Command.StepColorTemperature StepModeEnum.Up 0 7 400 300) invalid_command
+    ∷ refuses (Command.StepColorTemperature StepModeEnum.Up 0 7 400 300) invalid_command 2
+    ∷ refuses_off (Command.StepColorTemperature StepModeEnum.Up 0 7 400 300) invalid_command 2
     -- Stop mode, before rate and off
     ∷ gives (Command.MoveHue MoveModeEnum.Stop 0 false) Task.Stop
     ∷ gives (Command.EnhancedMoveHue MoveModeEnum.Stop 0) Task.Stop
@@ -187,8 +190,8 @@ commands =
     ∷ gives (Command.MoveColorTemperature MoveModeEnum.Stop 0 400 300) Task.Stop
     ∷ gives_off (Command.MoveHue MoveModeEnum.Stop 0 false) Task.Stop
     -- the numbers before off; off that may not execute
-    ∷ refuses_off (Command.MoveToHue 255 DirectionEnum.Shortest 7) constraint_error
-    ∷ refuses_off (Command.MoveSaturation MoveModeEnum.Up 0) invalid_command
+    ∷ refuses_off (Command.MoveToHue 255 DirectionEnum.Shortest 7) constraint_error 1
+    ∷ refuses_off (Command.MoveSaturation MoveModeEnum.Up 0) invalid_command 2
     ∷ passes (Command.MoveToHue 128 DirectionEnum.Shortest 7)
     ∷ passes Command.StopMoveStep
     ∷ passes (Command.ColorLoopSet 15 ColorLoopActionEnum.ActivateFromEnhancedCurrentHue
@@ -270,7 +273,7 @@ FlagReported =
 
 commands-reported : CommandsReported
 unfolding has_flag default_color_mode all_true color_valid move_to_valid task_valid running_valid lamp_valid first_cause clamp distance path_delta is_tie moved_hue permille_of reported filled hue_set saturation_set hue_saturation_moved timed hue_saturation_start started stepped start_answer step_answer activated loop_set command_effect command_cause command_answer next
-commands-reported = (refl, refl)
+commands-reported = ((refl, refl), (refl, refl))
 
 flag-reported : FlagReported
 unfolding has_flag default_color_mode all_true color_valid running_valid lamp_valid first_cause clamp filled hue_set activated loop_set command_effect command_cause command_answer
