@@ -9,7 +9,7 @@ use native.Mathlib.Omega.{arith}
 use lib.Dec.{ltb, leb}
 use lib.ListN.{length, take, length-append, length-take}
 use borrow.Author.Tests.{lt-ltb, le-ltb, ltb-true}
-use Rattle.matter.specs.Causes.{refusal_number, Verdict, number_of}
+use Rattle.matter.specs.Causes.{Verdict, number_of}
 use Rattle.matter.proofs.Laws.{cond_both}
 use Rattle.matter.specs.Limits.{saturation_limit}
 use Rattle.progress.specs.Progress.{clamped_sum, delta_at_rate}

@@ -32,8 +32,7 @@ impl ValidLamp {
 }
 
 impl Lamp {
-    // The lamp as a valid one, where it is that. Inlined, so that a lamp is not copied for its check (docs/SPEED.md).
-    #[inline(always)]
+    // The lamp as a valid one, where it is that.
     pub fn validated(self) -> Option<ValidLamp>
         ensures { result ≡ cond (lamp_valid self) (Some self) None }
     {

@@ -1,5 +1,5 @@
 -- An answer by its number is written as by its verdict, and any number is.
-use Rattle.std.proofs.Common.{◌≡◌, ◌++◌, ◌∷◌, [], List, ℕ, Bool, false, refl, ap}
+use Rattle.std.proofs.Common.{◌≡◌, ◌++◌, ◌∷◌, [], List, ℕ, false, refl, ap}
 use Rattle.std.specs.Prelude.{eqb}
 use Rattle.std.specs.Prelude.{Ok, Err}
 use Rattle.matter.specs.Causes.{Verdict, number_of, refusal_number}

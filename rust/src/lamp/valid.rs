@@ -16,8 +16,7 @@ impl ValidLamp {
 }
 
 impl Lamp {
-    /// The lamp as a valid one, where it is that. Inlined, so that a lamp is not copied for its check (docs/SPEED.md).
-    #[inline(always)]
+    /// The lamp as a valid one, where it is that.
     pub fn validated(self) -> Option<ValidLamp> {
         if self.is_valid() {
             Some(ValidLamp { lamp: self })
