@@ -55,8 +55,8 @@ pub struct Answer {
     pub wait: u64,
 }
 
-/// An answer with its number in the place of its verdict: 0, a refusal's, or any other byte, as an interface that knows
-/// numbers alone has some of its own.
+/// An answer with a number in place of its verdict: 0 where it is accepted, a refusal's number, or a number of the caller's own,
+/// as C has 100 for words that are no call.
 #[derive(Clone, Copy, Debug, PartialEq, Eq)]
 pub struct NumberedAnswer {
     pub number: u8,

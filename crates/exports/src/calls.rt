@@ -4,6 +4,7 @@ ghost use Rattle.std.specs.Prelude.{◌≡◌};
 ghost use Rattle.exports.specs.Calls as C;
 ghost use Rattle.exports.specs.Calls.{hue_command, saturation_command, enhanced_command, mireds_command, loop_command, command_of, request_of, command_fits, command_known, command_numbers, call_of, call_known};
 
+use crate::failures::UNREADABLE;
 use crate::moves::TaskNumbers;
 use crate::words::at;
 use crate::{bounds, enums, words};
@@ -324,10 +325,7 @@ pub fn called(lamp: Lamp, w: &[u64]) -> Option<Answer>
     }
 }
 
-// The number of words that are no call.
-pub const UNREADABLE: u8 = 100;
-
-// The answer to a call by its number: to words that are no call, theirs, with the lamp as it was.
+// The answer to a call by its number. Words that are no call have UNREADABLE, and leave the lamp as it was.
 #[tactic(auto, unfolding(crate::specs::Calls::sent, crate::specs::Calls::called))]
 pub fn sent(lamp: Lamp, w: &[u64]) -> NumberedAnswer
     ensures { result ≡ C.sent lamp w.now }

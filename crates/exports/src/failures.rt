@@ -5,6 +5,9 @@ ghost use Rattle.exports.specs.Failures.{error_number};
 
 use matter::Refusal;
 
+// The number of words that are no call.
+pub(crate) const UNREADABLE: u8 = 100;
+
 #[derive(Clone, Copy, Debug, PartialEq, Eq)]
 pub enum WordsError {
     // Words that are no call.
@@ -30,7 +33,7 @@ impl From<WordsError> for u64 {
 
     fn from(error: WordsError) -> u64 {
         match error {
-            WordsError::UnreadableCall => 100,
+            WordsError::UnreadableCall => u64::from(UNREADABLE),
             WordsError::UnreadableLamp => 101,
             WordsError::NoRoom => 102,
             WordsError::Refused(refusal) => u8::from(refusal) as u64,

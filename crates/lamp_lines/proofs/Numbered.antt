@@ -8,7 +8,7 @@ use Rattle.lamp.specs.Answers.{numbered_answer}
 use Rattle.lamp.specs.declared.Answer.{Answer}
 use Rattle.text.specs.Ascii.{ascii}
 use Rattle.text.specs.Digits.{decimal, spaced, spaced_all}
-use Rattle.lamp_lines.specs.Answers.{lamp_numbers, status_text, numbered_status_text, running_text, reported_text, answer_text, numbered_answer_text}
+use Rattle.lamp_lines.specs.Answers.{status_text, numbered_status_text, behind_status, answer_text, numbered_answer_text}
 
 refused-numbered : (cause : Refusal) → numbered_status_text (refusal_number cause) ≡ status_text (Err cause)
 refused-numbered Refusal.ConstraintError = refl
@@ -28,11 +28,7 @@ status-numbered (Err cause) = refused-numbered cause
 
 pub answer-numbered : (a : Answer) → numbered_answer_text (numbered_answer a) ≡ answer_text a
 unfolding numbered_answer_text answer_text
-answer-numbered a =
-    ap
-    (λ (status : List ℕ).
-    status ++ ascii " |" ++ spaced_all (lamp_numbers a.lamp) ++ reported_text a.notices a.task a.wait ++ ascii " |" ++ running_text a.lamp.running)
-    (status-numbered a.verdict)
+answer-numbered a = ap (λ (status : List ℕ). status ++ behind_status a.lamp a.notices a.task a.wait) (status-numbered a.verdict)
 
 -- a number that no cause has, as any but 0
 pub numbered-refused : (number : ℕ) → eqb number 0 ≡ false → numbered_status_text number ≡ ascii "refused" ++ spaced_all (number ∷ [])

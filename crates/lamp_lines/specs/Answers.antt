@@ -74,14 +74,14 @@ abbrev pub reported_text : Notices → Option Task → ℕ → List ℕ
 reported_text notices task wait =
     ascii " |" ++ notices_text notices ++ ascii " |" ++ given_text task ++ ascii " |" ++ spaced wait
 
--- <status> | <fields> | <notices or -> | <task given or -> | <wait> | running or idle
+-- behind the status: | <fields> | <notices or -> | <task given or -> | <wait> | running or idle
+unfoldable pub behind_status : Lamp → Notices → Option Task → ℕ → List ℕ
+behind_status l notices task wait =
+    ascii " |" ++ spaced_all (lamp_numbers l) ++ reported_text notices task wait ++ ascii " |" ++ running_text l.running
+
 unfoldable pub answer_text : Answer → List ℕ
-answer_text a =
-    status_text a.verdict ++ ascii " |" ++ spaced_all (lamp_numbers a.lamp)
-    ++ reported_text a.notices a.task a.wait ++ ascii " |" ++ running_text a.lamp.running
+answer_text a = status_text a.verdict ++ behind_status a.lamp a.notices a.task a.wait
 
 -- the same of an answer by its number
 unfoldable pub numbered_answer_text : NumberedAnswer → List ℕ
-numbered_answer_text a =
-    numbered_status_text a.number ++ ascii " |" ++ spaced_all (lamp_numbers a.lamp)
-    ++ reported_text a.notices a.task a.wait ++ ascii " |" ++ running_text a.lamp.running
+numbered_answer_text a = numbered_status_text a.number ++ behind_status a.lamp a.notices a.task a.wait

@@ -4,7 +4,7 @@ ghost use Rattle.std.specs.Prelude.{◌≡◌, ◌++◌, ◌∷◌, []};
 ghost use Rattle.std.specs.List.{fold};
 ghost use Rattle.text.specs.Ascii.{ascii};
 ghost use Rattle.text.specs.Digits.{spaced_all};
-ghost use Rattle.lamp_lines.specs.Answers.{signed_text, lamp_numbers, notices_text, delta_text, task_text, given_text, status_text, numbered_status_text, running_text, reported_text, answer_text, numbered_answer_text};
+ghost use Rattle.lamp_lines.specs.Answers.{signed_text, lamp_numbers, notices_text, delta_text, task_text, given_text, status_text, numbered_status_text, running_text, reported_text, behind_status, answer_text, numbered_answer_text};
 
 use lamp::{Answer, Lamp, NumberedAnswer};
 use matter::Refusal;
@@ -142,6 +142,7 @@ fn given<S: Sink>(out: &mut S, given: Option<Task>)
     }
 }
 
+// `refused` and the number, whichever byte it is.
 fn refused<S: Sink>(out: &mut S, number: u8)
     ensures { out.new ≡ fold S.push out.old (ascii "refused" ++ spaced_all (number ∷ [])) }
 {
@@ -190,16 +191,24 @@ fn reported<S: Sink>(out: &mut S, list: Notices, task: Option<Task>, wait: u64)
     spaced(out, wait);
 }
 
+// The lamp, what is reported, and whether it runs.
+#[tactic(auto, unfolding(crate::specs::Answers::behind_status))]
+fn behind_status<S: Sink>(out: &mut S, lamp: Lamp, list: Notices, task: Option<Task>, wait: u64)
+    ensures { out.new ≡ fold S.push out.old (behind_status lamp list task wait) }
+{
+    bar(out);
+    spaced_all(out, &lamp_numbers(lamp));
+    reported(out, list, task, wait);
+    bar(out);
+    ending(out, lamp.running);
+}
+
 #[tactic(auto, unfolding(crate::specs::Answers::answer_text))]
 pub fn answer<S: Sink>(out: &mut S, answer: Answer)
     ensures { out.new ≡ fold S.push out.old (answer_text answer) }
 {
     status(out, answer.verdict);
-    bar(out);
-    spaced_all(out, &lamp_numbers(answer.lamp));
-    reported(out, answer.notices, answer.task, answer.wait);
-    bar(out);
-    ending(out, answer.lamp.running);
+    behind_status(out, answer.lamp, answer.notices, answer.task, answer.wait);
 }
 
 // An answer by its number, as `answer` writes one by its verdict.
@@ -208,9 +217,5 @@ pub fn numbered_answer<S: Sink>(out: &mut S, a: NumberedAnswer)
     ensures { out.new ≡ fold S.push out.old (numbered_answer_text a) }
 {
     numbered_status(out, a.number);
-    bar(out);
-    spaced_all(out, &lamp_numbers(a.lamp));
-    reported(out, a.notices, a.task, a.wait);
-    bar(out);
-    ending(out, a.lamp.running);
+    behind_status(out, a.lamp, a.notices, a.task, a.wait);
 }
